@@ -212,12 +212,12 @@ def of_some_version(rng: random.Random, layer: Layer) -> Layer:
     return layer if any(it[NSEC] for it in layer) or rng.choice((1, 2)) == 2 else First(layer)
 
 
-def stack_of(rng: random.Random) -> Stack:
+def stack_of(rng: random.Random, counts: tuple[int, ...] = (2, 3, 3, 4, 5)) -> Stack:
     tree: Tree = {}
     layers: list[Layer] = []
     # The lowest layers may be of a time in which manifests had whole seconds alone.
     times = rng.choice(((0,), NANOSECONDS))
-    for _ in range(rng.choice((2, 3, 3, 4, 5))):
+    for _ in range(rng.choice(counts)):
         lower, tree = tree, work(rng, tree, times)
         layers.insert(0, entries(rng, tree, lower))
         times = rng.choice((times, NANOSECONDS))
@@ -283,9 +283,10 @@ def deep_below(path: str, count: int) -> Layer:
 
 def moved_many(count: int) -> list[Layer]:
     """Directories with a file each, of which each was moved, by its path or by its name."""
-    lower = [it for n in range(count) for it in (entry(f"/o{n}"), full_file(f"/o{n}/{odd_name(n)}", contents_of(n), mtime=-n))]
-    upper = [entry(f"/{odd_name(n)}", attrs={REDIRECT: f"/o{n}" if n % 2 else f"o{n}"}) for n in range(count)]
-    return [upper + [whiteout_at(f"/o{n}") for n in range(count)], lower]
+    old = [f"o{n}" + "o" * (n % 200) for n in range(count)]
+    lower = [it for n in range(count) for it in (entry(f"/{old[n]}"), full_file(f"/{old[n]}/{odd_name(n)}", contents_of(n), mtime=-n))]
+    upper = [entry(f"/{odd_name(n)}", attrs={REDIRECT: f"/{old[n]}" if n % 2 else old[n]}) for n in range(count)]
+    return [upper + [whiteout_at(f"/{it}") for it in old], lower]
 
 
 def whiteout_at(path: str) -> Entry:
@@ -323,7 +324,7 @@ def large() -> Iterator[tuple[str, Sources, list[bytes], tuple[str, ...]]]:
     first, _, rest = one.rpartition(',{"gid"')
     piece = ',{"gid"' + rest.removesuffix('],"overlay-layer":2}')
     many = first + "".join(piece % n for n in range(600_000)) + '],"overlay-layer":2}\n'
-    yield "1,200,000 directories", [many, many], [], few
+    yield "1,200,000 directories", [many, many.replace('"/d', '"/e')], [], few
 
 
 def file_at(path: str) -> Entry:
@@ -419,7 +420,9 @@ def large_case(program: str, what: str, layers: Sources, contents: list[bytes], 
         try:
             files = write(folder, layers)
             shown = ran(program, "show", *files)
-            same("the status of fsck", ran(program, "fsck", "--blobs", blobs, *files)[0], 0)
+            found = ran(program, "fsck", "--blobs", blobs, *files)
+            same("the status of fsck", found[0], 0)
+            same("fsck --any-size", ran(program, "fsck", "--any-size", "--blobs", blobs, *files), found)
             for command in commands[1:]:
                 new, _ = rewritten(program, blobs, files, command, folder)
                 same(f"show after {command}", new and ran(program, "show", *new), shown)

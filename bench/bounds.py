@@ -1,11 +1,11 @@
 #!/usr/bin/env python3
-"""Counts what five small stacks cost, and refuses more.
+"""Counts what small stacks cost, and refuses more.
 
 Python 3.11, standard library, and valgrind; without valgrind it says so and ends with 0. No contract says what anything
 costs: a body that asks every code of every entry, makes a view anew for each name, digests a blob again for each name that
 it has, or halves a list so that one half is all of it, gives the same bytes. So the instructions of one run of each stack
-are counted, and may be no more than its bound, a fifth over what it took as it was bounded. The same program takes the same
-number of instructions, but for some hundreds that come of the environment.
+are counted, and may be no more than its bound, at most a few tenths over what it took as it was bounded. The same program
+takes the same number of instructions, but for some hundreds that come of the environment.
 
     python3 bench/bounds.py --program crates/ovl_layers/out/ovl_layers
 """
@@ -17,7 +17,7 @@ import sys
 import tempfile
 from dataclasses import dataclass
 
-from growth import NSEC, REDIRECT, Layer, entry, write
+from growth import METACOPY, NSEC, REDIRECT, Entry, Layer, entry, write
 from instructions import instructions
 
 CONTENTS = b"x" * 65_536
@@ -42,6 +42,24 @@ def moved(count: int) -> Layer:
         entry(f"/d{n:05d}", "char", major=0, minor=0) for n in range(count)]
 
 
+def way(depth: int) -> list[Entry]:
+    """Directories in each other."""
+    return [entry("/d" * n) for n in range(1, depth + 1)]
+
+
+def copied(depth: int, count: int) -> tuple[Layer, ...]:
+    """Metacopy files deep in layers, over their contents in the lowest one."""
+    names = [f"{'/d' * depth}/f{n:04d}" for n in range(count)]
+    upper = way(depth) + [entry(it, "file", {METACOPY: ""}, size=len(CONTENTS)) for it in names]
+    lower = way(depth) + [entry(it, "file", size=len(CONTENTS), blob=NAME) for it in names]
+    return (upper, *[way(depth)] * 10, lower)
+
+
+def apart(layers: int, count: int) -> tuple[Layer, ...]:
+    """Layers of other names in one directory."""
+    return tuple([entry(f"/f{n:04d}-{layer:02d}", "file", size=0) for n in range(count)] for layer in range(layers))
+
+
 @dataclass(frozen=True)
 class Bound:
     """A command on layers, the topmost first, whether it reads the blob, and the most millions of instructions."""
@@ -53,11 +71,13 @@ class Bound:
 
 
 BOUNDS = {
-    "a layer in which nothing is at fault": Bound("fsck", (plain(4_000),), 8.8),
+    "a layer in which nothing is at fault": Bound("fsck", (plain(4_000),), 8.1),
     "files over the same files": Bound("vacuum", (plain(4_000, 1), plain(4_000)), 36.0),
     "one content of many names": Bound("fsck", (named_alike(200),), 4.8, True),
     "a directory of directories": Bound("show", (directories(2_000), directories(2_000)), 23.6),
     "moved directories": Bound("deref", (moved(500), directories(500)), 25.8),
+    "metacopy files in a deep directory": Bound("deref", copied(20, 400), 22.3, True),
+    "many layers of other names": Bound("show", apart(128, 20), 26.0),
 }
 
 
@@ -76,7 +96,7 @@ def counted(program: str, bound: Bound, folder: str) -> float:
 
 
 def main() -> None:
-    words = argparse.ArgumentParser(description="Counts what five small stacks cost, and refuses more.")
+    words = argparse.ArgumentParser(description="Counts what small stacks cost, and refuses more.")
     words.add_argument("--program", required=True, help="path of the program")
     given = words.parse_args()
     if not shutil.which("valgrind"):

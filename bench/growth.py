@@ -221,6 +221,24 @@ def whiteouts_in_redirected(size: int) -> Sources:
     return [[entry("/m", attrs={REDIRECT: "/a" * (20 * size)})] + inside + [whiteout(it["path"] + "/w") for it in inside], []]
 
 
+def copies_of_one(size: int, attrs: dict[str, str]) -> Sources:
+    """Metacopy files whose data is one file, which has these attributes."""
+    copies = [entry(f"/m{n:07d}", "file", {METACOPY: "", REDIRECT: "/d"}, size=len(CONTENTS)) for n in range(size)]
+    return [copies, [entry("/d", "file", attrs, size=len(CONTENTS), blob=BLOB)]]
+
+
+def copies_of_long_attribute(size: int) -> Sources:
+    return copies_of_one(size, {"user.a": "v" * (40 * size)})
+
+
+def copies_of_many_attributes(size: int) -> Sources:
+    return copies_of_one(size, {f"user.a{n}": "v" for n in range(size)})
+
+
+def moved_from_one(size: int) -> Sources:
+    return [directories("", size, {REDIRECT: "/o"}), [entry("/o", attrs={"user.a": "v" * (40 * size)})]]
+
+
 def empty_over_directories(size: int) -> Sources:
     return [*[Layer()] * (size - 1), lambda: directories("", 5_000)]
 
@@ -309,10 +327,16 @@ CASES = [
     Case("N chains of 62 directories of equal names, and a moved directory", "fsck", equal_chains, (50, 100, 200)),
     Case("N directories with redirects of 20 N names that differ in the first alone, and N directories in each", "fsck", alike_redirects,
          (16, 32, 64), status=1),
-    Case("a directory with a redirect of 20 N names, and N moved directories in it", "fsck", moved_in_redirected, (50, 100, 200, 400), status=1),
+    Case("a directory with a redirect of 20 N names, and N moved directories in it", "fsck", moved_in_redirected, (100, 200, 400, 800), status=1),
     Case("a directory with a redirect of 20 N names, and N directories of a whiteout in it", "fsck", whiteouts_in_redirected,
-         (50, 100, 200, 400), status=1),
+         (100, 200, 400, 800), status=1),
     Case("a directory with N attributes and N whiteouts", "fsck", attributes_and_whiteouts, (500, 1_000, 2_000)),
+    Case("N metacopy files of one file with an attribute of 40 N bytes", "show", copies_of_long_attribute, (500, 1_000, 2_000, 4_000)),
+    Case("N metacopy files of one file with an attribute of 40 N bytes", "fsck", copies_of_long_attribute, (500, 1_000, 2_000, 4_000)),
+    Case("N metacopy files of one file with an attribute of 40 N bytes", "vacuum", copies_of_long_attribute, (500, 1_000, 2_000, 4_000)),
+    Case("N metacopy files of one file with N attributes", "fsck", copies_of_many_attributes, (500, 1_000, 2_000, 4_000)),
+    # They are redirected to one place, which is a fault.
+    Case("N directories moved from one with an attribute of 40 N bytes", "fsck", moved_from_one, (500, 1_000, 2_000, 4_000), status=1),
     # What anyone may hand in: the status is that of a manifest that is refused.
     Case("N objects that are no entries", "show", no_entries, (1_000_000, 2_000_000), status=REFUSED, most=MOST),
     Case("a list of N numbers as the whole manifest", "show", numbers_alone, (4_000_000, 8_000_000), status=REFUSED, most=MOST),

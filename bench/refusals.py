@@ -5,8 +5,12 @@ Python 3.11, standard library, and `rt`, whose compiler builds refuse.c. Each co
 2 workers, and on one of 40 directories by 7, again and again: the first, the second, the third and each later request
 for memory is refused, then all from the first on, from the second on, and so forth, each time until a run meets no
 refusal; and so is each start of a thread, of which there is none by 1 worker, and by others one fewer than they are for each
-thing that a command does, at most, also where it writes many lines, and at least of forty layers. A run must end with its full answer, or with status 5
-and `out of memory`, nothing on standard output, no new layer, and the one that was there as it was.
+thing that a command does, at most. A run must end with its full answer, or with status 5 and `out of memory`, nothing on
+standard output, no new layer, and the one that was there as it was.
+
+Where no contract says how many threads share a thing, the starts are counted: of forty layers with forty contents and of a
+layer whose report has many lines, by 2, 4 and 12 workers. So a command is told in which one thread reads all manifests or
+contents or writes all lines, one that starts a thread for each of them, and one of too few workers.
 
 Each test of the other program runs in a process of its own, again and again, with one request for memory or one start of a
 thread refused: it must pass each time, as it makes a call that ran out of memory again.
@@ -31,7 +35,7 @@ from pathlib import Path
 from growth import REDIRECT, Entry, First, Layer, entry, write
 
 SOURCE = Path(__file__).resolve().parent / "refuse.c"
-COMMANDS = ("show", "fsck", "vacuum", "deref", "merge", "flatten", "fsck --any-size", "merge --any-size")
+COMMANDS = ("show", "fsck", "vacuum", "deref", "merge", "flatten", "fsck --any-size", "merge --any-size", "merge --down-to 1")
 # What is refused, and how refuse.c is told so.
 THREAD = "the start of a thread"
 WAYS = {"a request": {"REFUSE": "memory"}, "a request and all after it": {"REFUSE": "memory", "REFUSE_ON": ""},
@@ -39,6 +43,8 @@ WAYS = {"a request": {"REFUSE": "memory"}, "a request and all after it": {"REFUS
 # What a command does beside checking its layers, each by as many threads as there are workers: it reads files, reads what these
 # state, reads blobs, digests them, makes what is shown or a new layer, lets the stack go, and writes lines.
 THINGS = 7
+# Stacks of so many layers, at most, are merged down to one.
+FEW = 3
 # No run meets so many requests. A sweep ends with so many wrong endings; of a command so many are told.
 MOST, ENOUGH, TOLD = 50_000, 40, 5
 # So many processes share the requests of a test.
@@ -72,15 +78,13 @@ def opaque(path: str) -> Entry:
 
 @dataclass(frozen=True)
 class Stack:
-    """Layers, the topmost first, each below its root; the contents of the blobs by their names; how many workers; what
-    these are refused; and for how many things at least `show`, and each other command, starts a thread for each worker but
-    one."""
+    """Layers, the topmost first, each below its root; the contents of the blobs by their names; how many workers; and what
+    these are refused."""
 
     layers: tuple[Layer, ...]
     blobs: dict[str, bytes]
     workers: tuple[int, ...] = (1, 2)
     refused: tuple[str, ...] = tuple(WAYS)
-    least: tuple[int, int] = (0, 0)
 
 
 A = {digest(b"a"): b"a"}
@@ -100,7 +104,7 @@ STACKS = {
     "forty_directories": Stack((FORTY, FORTY), A, (7,)),
     "many_lines": Stack((LINES, []), {}, refused=(THREAD,)),
     "forty_layers": Stack(tuple([file(f"/f{n:02d}", b"%d" % n)] for n in range(40)), {digest(b"%d" % n): b"%d" % n for n in range(40)},
-                          (2, 4), (THREAD,), (4, 44)),
+                          refused=(THREAD,)),
 }
 
 
@@ -119,8 +123,8 @@ class Ending:
 REFUSED = Ending(5, b"", b"ovl_layers: out of memory\n", {"layer-0.json": OLD})
 
 
-def run(words: list[str], room: Path, env: dict[str, str]) -> tuple[Ending, bool]:
-    """A run's ending, and whether something was refused. One that is killed counts as refused."""
+def run(words: list[str], room: Path, env: dict[str, str]) -> tuple[Ending, int, bool]:
+    """A run's ending, how often what is counted was met, and whether it was refused. One that is killed counts as refused."""
     new, told = room / "new", room / "told"
     shutil.rmtree(new, ignore_errors=True)
     new.mkdir()
@@ -128,8 +132,8 @@ def run(words: list[str], room: Path, env: dict[str, str]) -> tuple[Ending, bool
     told.unlink(missing_ok=True)
     ran = subprocess.run(words, env={**env, "REFUSE_TOLD": str(told)}, stdin=subprocess.DEVNULL, capture_output=True, check=False)
     layers = {it.name: it.read_bytes() for it in new.iterdir()}
-    refused = int(told.read_text().split()[1]) if told.exists() else 1
-    return Ending(ran.returncode, ran.stdout, ran.stderr, layers), refused > 0
+    met, refused = map(int, told.read_text().split()) if told.exists() else (1, 1)
+    return Ending(ran.returncode, ran.stdout, ran.stderr, layers), met, refused > 0
 
 
 @dataclass(frozen=True)
@@ -141,11 +145,14 @@ class Sweep:
     workers: int
     refused: str
 
-    def most_threads(self) -> int:
-        return (THINGS + len(STACKS[self.stack].layers)) * (self.workers - 1)
+    def goes_on(self) -> bool:
+        """Whether it merges again and again, and so checks the layers that are left and makes new ones each time."""
+        return "--down-to" in self.command
 
-    def least_threads(self) -> int:
-        return STACKS[self.stack].least[self.command != "show"] * (self.workers - 1)
+    def most_threads(self) -> int:
+        layers = len(STACKS[self.stack].layers)
+        more = sum(left + 1 for left in range(2, layers)) if self.goes_on() else 0
+        return (THINGS + layers + more) * (self.workers - 1)
 
     def words(self, program: str, room: Path) -> list[str]:
         stack, blobs, folder = STACKS[self.stack], room / "blobs", room / "layers"
@@ -165,23 +172,64 @@ def swept(program: str, library: str, sweep: Sweep) -> tuple[int, list[str]]:
     with tempfile.TemporaryDirectory(prefix="ovl-refusals-") as folder:
         room = Path(folder)
         words = sweep.words(program, room)
-        full, _ = run(words, room, {})
+        full, _, _ = run(words, room, {})
         how = f"{sweep.command} of {sweep.stack} by {sweep.workers}"
         wrong = [] if full.status in (0, 1, 3) else [f"{how}, nothing refused: {full}"]
         for number in range(1, MOST):
             env = {"LD_PRELOAD": library, "REFUSE_AT": str(number), **WAYS[sweep.refused]}
-            ending, refused = run(words, room, env)
+            ending, _, refused = run(words, room, env)
             if ending not in ((full, REFUSED) if refused else (full,)):
                 wrong.append(f"{how}, refused {sweep.refused}, number {number}: {ending}")
             if number == 1 and not refused and sweep.refused != THREAD:
                 wrong.append(f"{how}: no request was met")
             if refused and sweep.refused == THREAD and number > sweep.most_threads():
                 wrong.append(f"{how}: thread {number} was started")
-            if not refused and sweep.refused == THREAD and number <= sweep.least_threads():
-                wrong.append(f"{how}: only {number - 1} threads were started")
             if not refused or len(wrong) >= ENOUGH:
                 return number, wrong
         return MOST, [*wrong, f"{how}: no run without a refusal"]
+
+
+# Of a stack of so many layers for each command: how many lists of that length it cuts into shares, how many other things all
+# workers share, as walks and lines, and how many things are done beside others.
+REWRITES = ("vacuum", "deref", "merge", "flatten")
+STARTS = {
+    "forty_layers": (40, {"show": (3, 1, 0), "fsck": (4, 41, 0), **{it: (4, 42, 1) for it in REWRITES},
+                          "fsck --any-size": (3, 41, 0), "merge --any-size": (3, 42, 1)}),
+    "many_lines": (2, {"show": (3, 2, 1), "fsck": (3, 4, 0), **{it: (3, 4, 1) for it in REWRITES},
+                       "fsck --any-size": (3, 3, 0), "merge --any-size": (3, 3, 1)}),
+}
+
+
+@dataclass(frozen=True)
+class Crew:
+    """A command on a stack by so many workers, of which the threads are counted."""
+
+    command: str
+    stack: str
+    workers: int
+
+    def threads(self) -> int:
+        layers, commands = STARTS[self.stack]
+        lists, walks, beside = commands[self.command]
+        share = -(-layers // self.workers)
+        return lists * (-(-layers // share) - 1) + walks * (self.workers - 1) + beside
+
+
+def counted(program: str, library: str, crew: Crew) -> tuple[int, list[str]]:
+    """One run, and what is told where it starts fewer threads, or many more."""
+    with tempfile.TemporaryDirectory(prefix="ovl-refusals-") as folder:
+        room = Path(folder)
+        words = Sweep(crew.command, crew.stack, crew.workers, THREAD).words(program, room)
+        ending, met, _ = run(words, room, {"LD_PRELOAD": library, "REFUSE_AT": "0", **WAYS[THREAD]})
+    wanted = crew.threads()
+    if ending.status in (0, 1) and wanted <= met <= wanted + crew.workers:
+        return 1, []
+    return 1, [f"{crew.command} of {crew.stack} by {crew.workers}: {met} threads were started, and not {wanted}"]
+
+
+def crews() -> Iterator[Crew]:
+    for stack, (_, commands) in STARTS.items():
+        yield from (Crew(command, stack, workers) for command in commands for workers in (2, 4, 12))
 
 
 @dataclass(frozen=True)
@@ -200,7 +248,7 @@ def tried(program: str, library: str, trial: Trial) -> tuple[int, list[str]]:
     with tempfile.TemporaryDirectory(prefix="ovl-refusals-") as folder:
         for runs, number in enumerate(range(trial.first, MOST, SHARES), 1):
             env = {"LD_PRELOAD": library, "REFUSE_AT": str(number), **WAYS[trial.refused]}
-            ending, refused = run([program, trial.test], Path(folder), env)
+            ending, _, refused = run([program, trial.test], Path(folder), env)
             if ending.status != 0:
                 wrong.append(f"{trial.test}, refused {trial.refused}, number {number}: {ending}")
             if number == 1 and not refused and trial.refused != THREAD:
@@ -231,7 +279,8 @@ def sweeps() -> Iterator[Sweep]:
     """All, those of the longest runs first."""
     for name, stack in reversed(STACKS.items()):
         for refused in stack.refused:
-            yield from (Sweep(command, name, workers, refused) for workers in stack.workers for command in COMMANDS)
+            found = (Sweep(command, name, workers, refused) for workers in stack.workers for command in COMMANDS)
+            yield from (it for it in found if not it.goes_on() or len(stack.layers) <= FEW)
 
 
 def main() -> None:
@@ -251,6 +300,7 @@ def main() -> None:
         library = os.path.join(folder, "refuse.so")
         build(library)
         todo = [(it.command, pool.submit(swept, program, library, it)) for it in sweeps()]
+        todo += [(it.command, pool.submit(counted, program, library, it)) for it in crews()]
         todo += [(it.command, pool.submit(tried, tests, library, it)) for it in trials(tests)] if tests else []
         for command, done in todo:
             count, told = done.result()

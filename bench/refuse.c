@@ -1,6 +1,7 @@
 /* Stands before the C library (LD_PRELOAD) and refuses some of what a program asks of it. It needs no header.
 
-   REFUSE        what is refused: memory, thread (its start), open, copy (of a descriptor), stat, list, empty, read or write
+   REFUSE        what is refused: memory, thread (its start), open, copy (of a descriptor), stat, list, empty, read or write;
+                 or yield (of the processor), which is counted alone
    REFUSE_AT     the number of the first that is refused, counted from 1; 0, or nothing: none is
    REFUSE_ON     given: all after it are refused too
    REFUSE_ERROR  the number of the error; 0: the call moves no byte
@@ -18,7 +19,7 @@ extern long syscall(long, ...);
 extern void *dlsym(void *, const char *);
 extern char **environ;
 
-enum { READ = 0, WRITE = 1, OPEN = 2, CLOSE = 3, CONTROL = 72, EMPTY = 77, LIST = 217, EXIT = 231, OPENAT = 257, STAT = 332 };
+enum { READ = 0, WRITE = 1, OPEN = 2, CLOSE = 3, YIELD = 24, CONTROL = 72, EMPTY = 77, LIST = 217, EXIT = 231, OPENAT = 257, STAT = 332 };
 enum { NO_MEMORY = 12, TRY_AGAIN = 11, LONGEST = 60, FILES = 1024, COPY = 1030 };
 /* For writing, made where it isn't there, emptied where it is. */
 enum { ANEW = 01 | 0100 | 01000 };
@@ -101,6 +102,11 @@ int pthread_create(word *thread, const void *how, void *(*body)(void *), void *g
     if (refuses("thread")) return TRY_AGAIN;
     int (*real)(word *, const void *, void *(*)(void *), void *) = dlsym((void *)-1L, "pthread_create");
     return real(thread, how, body, given);
+}
+
+int sched_yield(void) {
+    refuses("yield");
+    return (int)syscall(YIELD);
 }
 
 static int opened(long call, long folder, const char *name, int flags, unsigned mode) {

@@ -7,7 +7,7 @@ stand for has to look at. The last row leaves out examples, and files that a scr
 Python 3.11 and git.
 
     python3 bench/width.py COMMIT..
-    python3 bench/width.py --naming nsec
+    python3 bench/width.py --naming WORD
 """
 import argparse
 import subprocess

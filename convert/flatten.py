@@ -141,9 +141,9 @@ class _Doing(Doing):
             words.append(counted(self.count, "layer", "layers"))
         return self.count
 
-    def run(self, step: str, what: str, layers: Sequence[str], new: str) -> None:
+    def run(self, step: str, what: str, layers: Sequence[str], new: str, own: Sequence[str] = ()) -> None:
         """See `Steps`."""
-        super().run(step, what, layers, new)
+        super().run(step, what, layers, new, own)
         if new == BEFORE and self._options.compress == NONE:
             require_room(self._options.out.told, self._image, least_shown(self.path(new)))
 
@@ -221,14 +221,14 @@ class _Telling:
         self._add_tool("unpack", _word_of_image(options.image), "--out", self._path(STACK), *words, *self._marks)
         return count
 
-    def run(self, step: str, what: str, layers: Sequence[str], new: str) -> None:
+    def run(self, step: str, what: str, layers: Sequence[str], new: str, own: Sequence[str] = ()) -> None:
         """See `Steps`."""
         report = self._path(new)
         if makes_layers(what):
             self._add("mkdir", report)
             report = self._path(f"{new}/{REPORT}")
         blobs = self._path(f"{STACK}/{stacks.BLOBS}")
-        words = words_of(what, [self._path(layer) for layer in layers], blobs, self._path(new))
+        words = words_of(what, [self._path(layer) for layer in layers], blobs, self._path(new), own=own)
         self._add(self._program, *words, into=report)
 
     def vacuum(self, step: str, layers: Sequence[str], new: str) -> str:

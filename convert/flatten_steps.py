@@ -29,8 +29,9 @@ class Steps(Protocol):
     def unpack(self) -> int:
         """Unpacks the image into the folder `stack`. Gives the number of its layers."""
 
-    def run(self, step: str, what: str, layers: Sequence[str], new: str) -> None:
-        """Runs the program: its report is the file `new`, or where it makes layers, in a folder `new` with them."""
+    def run(self, step: str, what: str, layers: Sequence[str], new: str, own: Sequence[str] = ()) -> None:
+        """Runs the program, a command with words of its own: its report is the file `new`, or where it makes layers, in
+        a folder `new` with them."""
 
     def vacuum(self, step: str, layers: Sequence[str], new: str) -> str:
         """The topmost layer without what changes nothing, or as it is where that takes away a name of a hard link, or
@@ -70,7 +71,7 @@ def _as_one(steps: Steps, layers: Sequence[str]) -> list[str]:
 
 
 def _merged_down(steps: Steps, given: Sequence[str], wanted: int, data_layers: int) -> list[str]:
-    """The layers without redirects, metacopy files and what changes nothing, the topmost merged until so many are
+    """The layers without redirects, metacopy files and what changes nothing, the topmost merged so that so many are
     left."""
     layers = list(given)
     steps.run("fsck", "fsck", layers, f"fsck.{REPORT}")
@@ -80,10 +81,10 @@ def _merged_down(steps: Steps, given: Sequence[str], wanted: int, data_layers: i
         steps.run(f"deref of layer {number}", "deref", layers[number:], f"deref-{number}")
         layers[number] = new_layer(f"deref-{number}")
     merges = max(0, len(layers) - data_layers - wanted)
-    for number in range(1, merges + 1):
-        steps.run(f"merge {number} of {merges}", "merge", layers, f"merge-{number}")
+    if merges:
+        steps.run(f"merge of {merges + 1} layers", "merge", layers, "merged", ("--down-to", str(wanted)))
         # The new topmost layer holds a root alone, which the one below it has too.
-        layers[:2] = [new_layer(f"merge-{number}", 1)]
+        layers[:merges + 1] = [new_layer("merged", 1)]
     del layers[len(layers) - data_layers:]
     if merges:
         layers[0] = steps.vacuum("vacuum of the merged layer", layers, "vacuum-merged")
@@ -110,15 +111,15 @@ class Doing:
         """A name in the folder of the work."""
         return f"{self._folder}/{name}"
 
-    def run(self, step: str, what: str, layers: Sequence[str], new: str) -> None:
+    def run(self, step: str, what: str, layers: Sequence[str], new: str, own: Sequence[str] = ()) -> None:
         """See `Steps`."""
         with timed(step) as words:
-            words.append(self.run_on(what, [self.path(layer) for layer in layers], self.path(new)))
+            words.append(self.run_on(what, [self.path(layer) for layer in layers], self.path(new), own))
 
-    def run_on(self, what: str, layers: Sequence[str], new: str) -> str:
+    def run_on(self, what: str, layers: Sequence[str], new: str, own: Sequence[str] = ()) -> str:
         """Runs the program on layers at paths; gives the last line of its report."""
         blobs = self.path(f"{STACK}/{stacks.BLOBS}")
-        words = words_of(what, layers, blobs, new, sum(layer in self.data_layers for layer in layers))
+        words = words_of(what, layers, blobs, new, sum(layer in self.data_layers for layer in layers), own)
         report = new
         if makes_layers(what):
             with writing(new):

@@ -54,9 +54,11 @@ def makes_layers(what: str) -> bool:
     return what not in ("show", "fsck")
 
 
-def words_of(what: str, layers: Sequence[str], blobs: str, out: str, data_layers: int = 0) -> list[str]:
-    """A command of the program with its words: the folders are given to those that take them."""
-    words = [what]
+def words_of(
+    what: str, layers: Sequence[str], blobs: str, out: str, data_layers: int = 0, own: Sequence[str] = (),
+) -> list[str]:
+    """A command of the program with its own words, and the folders, which are given to those that take them."""
+    words = [what, *own]
     if data_layers:
         words += ["--data-layers", str(data_layers)]
     if what != "show":

@@ -1,7 +1,7 @@
 #!/usr/bin/env python3
 """Looks whether the documents name what is there.
 
-- HEADLINE.md has every definition that is reached from the contract of `command`, beside its file.
+- HEADLINE.md has every definition that is reached from the contracts of `command` and `merge_down`, beside its file.
 - PROVED.md has every public call of the crates, and none that isn't there.
 - definitions.txt has the text of these definitions.
 - MADE_FAULTS.md has every function that names want of memory, or a fault of reading or writing, in its code,
@@ -22,15 +22,15 @@ from pathlib import Path
 
 TOP = Path(__file__).resolve().parent.parent
 CLAUSES = ["IsOutcome", "is_outside", "request_of", "makes_layers", "KeepsTree", "after", "stays_sound", "HasSoundStack", "stands_alone",
-           "IsQuiet"]
+           "IsQuiet", "IsOutcomeDown", "after_down"]
 # What is made by hand, and the words of code that make it, chapter by chapter of MADE_FAULTS.md.
 MADE = {
     "want of memory": r"\bAllocError\b(?!\s*[>{;])|\bAllocFailed\b(?!\s*[<>{;])|Fault::Memory\b|\bOutOfMemory\b|\bUnread\b(?!\s*[>{;(])|\bstarved (?:=|: true)",
     "a fault of reading or writing": r"\bReadFault::(?:Device|TooLong)\b|\bProgramFault::(?:Input|Unread|Unwritten|Output)\b|\bErr\(\w*PartFault::",
 }
 # Types, and facts and records of specs/, whose names stand twice with two meanings. Each is to go; none is to come.
-TWICE = {"AreEnds", "AreInOrder", "AreMerged", "AreStarts", "Directory", "Ends", "HeldBlobs", "IsBelow", "IsFaultOf", "IsMarked", "IsPlace",
-         "IsTold", "IsToldOf", "IsUnread", "IsVisited", "PassesLimit", "Place", "Reached", "ReadFault", "Reading", "Texts", "Told", "Tree",
+TWICE = {"AreEnds", "AreMerged", "AreStarts", "Directory", "HeldBlobs", "IsBelow", "IsFaultOf", "IsMarked",
+         "IsTold", "IsToldOf", "IsUnread", "IsVisited", "PassesLimit", "Place", "Reached", "ReadFault", "Texts", "Told", "Tree",
          "View"}
 TESTS = {"ovl_pool_tests", "ovl_engine_tests", "ovl_program_tests", "ovl_refusal_tests"}
 
@@ -68,7 +68,7 @@ def definitions():
 
 
 def reached(found, taken):
-    todo = [key for key in found if key[0].startswith("ovl_engine/") and key[1] in CLAUSES]
+    todo = [key for key in found if key[0].startswith(("ovl_engine/", "ovl_commands/")) and key[1] in CLAUSES]
     seen = set()
     while todo:
         key = todo.pop()
@@ -120,8 +120,8 @@ def definitions_page():
     """The definitions of HEADLINE.md in its order, each once, with its file and where its rule comes from."""
     found, _ = definitions()
     seen, source = set(), ""
-    yield "The definitions that the contract of `command` reaches, in the order of HEADLINE.md, which says of each what it says and from"
-    yield "where. Made by `python3 docs/check.py --definitions`."
+    yield "The definitions that the contracts of `command` and `merge_down` reach, in the order of HEADLINE.md, which says of each what it"
+    yield "says and from where. Made by `python3 docs/check.py --definitions`."
     for chapter, names, files, told in rows_of_headline():
         if chapter:
             yield f"\n\n==== {chapter} ===="
@@ -143,7 +143,7 @@ def headline():
     told = {(file, name) for _, names, files, _ in rows for file in files for name in names}
     found, taken = definitions()
     needed = reached(found, taken)
-    print(f"{len(needed)} definitions are reached from the contract of command")
+    print(f"{len(needed)} definitions are reached from the contracts of command and merge_down")
     for file, name in sorted(needed - told):
         yield f"HEADLINE.md lacks {name} of {file}"
     known = {name for _, name in found}

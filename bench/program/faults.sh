@@ -206,6 +206,12 @@ for ((i = 0; i < 24; i++)); do
     printf -v name '%064x' "$i"
     truncate -s 200000000 "flood/$name"
 done
+mkdir crowd
+for ((i = 0; i < 1100; i++)); do
+    printf -v name '%064x' "$i"
+    printf a > "crowd/$name"
+done
+printf '{"entries":[%s],"overlay-layer":2}' "$(printf '0,%.0s' {1..1200000})0" > items.json
 
 # A metacopy file over its contents; and a moved directory with a chain of directories below its old place, of which the
 # last lies within the limit of names for the shorter chain alone.
@@ -295,6 +301,7 @@ prints 1 'fault blob-missing 1 /k\nfaults 1 notes 0\n' fsck --blobs none root.js
 prints 1 'fault blob-size 0 /k\nfault blob-digest 0 /k\nfaults 2 notes 0\n' fsck --blobs short k.json
 prints 1 'fault blob-size 0 /k\nfault blob-digest 0 /k\nfaults 2 notes 0\n' fsck --blobs hollow k.json
 prints 0 'faults 0 notes 0\n' fsck --blobs most root.json
+prints 0 'faults 0 notes 0\n' fsck --blobs crowd root.json
 
 # Files and folders.
 refuses 3 'cannot read missing.json' show missing.json
@@ -305,6 +312,7 @@ refuses 3 'cannot read missing' fsck --blobs missing shape.json
 refuses 3 'cannot read folder.json' show folder.json
 refuses 3 'cannot read long.json' show long.json
 refuses 3 'layer 0: not JSON' show most.json
+refuses 3 'layer 1: entry count' show root.json items.json
 refuses 3 'cannot read missing.json' fsck --blobs missing missing.json
 refuses 3 'cannot read missing' fsck --blobs missing shape.json
 refuses 3 'cannot read missing/' fsck --blobs missing/ root.json
@@ -394,9 +402,12 @@ prints 0 "$clean" "${parts[@]}" large root.json
 unlike='fault blob-size 0 /k\nfault blob-digest 0 /k\nfaults 2 notes 0\n'
 prints 1 "$unlike" "${parts[@]}" large k.json
 prints 1 "$unlike" "${parts[@]}" hollow k.json
+# (The longer one has more bytes than a number of 32 bits tells.)
 mkdir longest && truncate -s 268435457 "longest/$abc"
 prints 1 "$unlike" "${parts[@]}" longest k.json
 refuses 3 "cannot read longest/$abc" fsck --blobs longest k.json
+truncate -s 4294967297 "longest/$abc"
+prints 1 "$unlike" "${parts[@]}" longest k.json
 rm -r longest
 refuses 3 'cannot read missing.json' "${parts[@]}" missing missing.json
 refuses 3 'layer 0: wrong shape' "${parts[@]}" missing shape.json
@@ -595,6 +606,8 @@ refuses 5 'result over the limits' deref "${rewritten[@]}" long_named.json long.
 gives new
 closes 'entries 130\n' show moved.json deeper.json
 closes 'entries 66\n' show moved.json half.json
+prints 0 "$clean" fsck --blobs none chain_moved.json half.json
+closes 'entries 128\n' show chain_moved.json half.json
 refuses 5 'result over the limits' deref "${rewritten[@]}" many_beside.json many_below.json
 gives new
 closes 'entries 1048576\n' merge "${rewritten[@]}" many_beside.json many_below.json
@@ -629,6 +642,15 @@ fi
 rm -f new/layer-0.json
 refuses 5 'result over the limits' merge --blobs none --out new moved_deeper.json deeper.json
 refuses 3 'no lower layer' merge --blobs blobs --out missing k.json
+for left in 2 127; do
+    refuses 3 'no lower layer' merge --down-to "$left" --blobs blobs --out missing meta.json k.json
+done
+refuses 3 'no lower layer' merge --down-to 1 --data-layers 1 --blobs blobs --out missing meta.json k.json
+for left in 0 128 two ''; do
+    ends 2 printed merge --down-to "$left" --blobs blobs --out missing meta.json k.json && same=$((same + 1))
+done
+ends 2 printed vacuum --down-to 1 --blobs blobs --out missing meta.json k.json && same=$((same + 1))
+prints 1 'fault blob-missing 2 /k\nfaults 1 notes 0\n' merge --down-to 1 --blobs none --out new root.json meta.json k.json
 refuses 3 'layer 0: wrong shape' merge --blobs blobs --out missing shape.json
 prints 1 'fault blob-missing 1 /k\nfaults 1 notes 0\n' merge --blobs none --out new meta.json k.json
 refuses 5 'result over the limits' merge --blobs none --out new moved.json deeper.json
@@ -638,6 +660,13 @@ mkdir taken/second && mkdir taken/second/layer-1.json
 cp pipes.json taken/second/layer-0.json
 refuses 4 'cannot write taken/second/layer-1.json' merge --blobs blobs --out taken/second meta.json k.json
 gives taken/second pipes.json
+for more in '' --any-size; do
+    # shellcheck disable=SC2086
+    prints 0 'leaf /k\nentries 2\n' merge --down-to 1 $more --blobs blobs --out new root.json meta.json k.json
+    gives new root.json
+    mv new/layer-1.json new/layer-0.json
+    gives new k.json
+done
 prints 0 'leaf /k\nentries 2\n' merge --blobs blobs --out new meta.json k.json
 gives new root.json
 mv new/layer-1.json new/layer-0.json

@@ -114,8 +114,7 @@ class Steps(FlattenTest):
         lower = "stack/l1.json stack/l2.json stack/l3.json"
         begin = [f"fsck {whole}", f"vacuum {whole}"]
         merged = [
-            *begin, f"merge vacuum/layer-0.json {lower}", "merge merge-1/layer-1.json stack/l2.json stack/l3.json",
-            "vacuum merge-2/layer-1.json stack/l3.json",
+            *begin, f"merge vacuum/layer-0.json {lower}", "vacuum merged/layer-1.json stack/l3.json",
         ]
         for wanted, calls, new, left in (
             (1, [f"flatten {whole}"], "flatten/layer-0.json", 1),
@@ -139,7 +138,7 @@ class Steps(FlattenTest):
         self.left("flat.tar")
 
     def test_each_step_is_told_with_its_time(self) -> None:
-        several = ["fsck: faults 0 notes 0", "vacuum: done vacuum", "merge 1 of 1: entries 2"]
+        several = ["fsck: faults 0 notes 0", "vacuum: done vacuum", "merge of 2 layers: entries 2"]
         several.append("vacuum of the merged layer: done vacuum")
         for left, steps in (("1 layer", ["flatten: done flatten"]), ("2 layers", several)):
             out = f"flat{left[0]}"

@@ -37,12 +37,16 @@ IsMissing root views p = Reached (HasKid views) root p × ¬ Contains (pieces_of
 abbrev pub IsBoardFault : {S : Type 0} → Piece → List (ParcelView S) → BoardFault → Type 0
 IsBoardFault root views (Double p) = IsLeast (IsDouble views) p
 IsBoardFault root views (Stranger p) = NoPiece (IsDouble views) × IsLeast (IsStranger root views) p
-IsBoardFault root views (Missing p) = NoPiece (IsDouble views) × NoPiece (IsStranger root views) × IsLeast (IsMissing root views) p
+IsBoardFault root views (Missing p) =
+    NoPiece (IsDouble views) × NoPiece (IsStranger root views) × IsLeast (IsMissing root views) p
 IsBoardFault root views Memory = Unit {0}
 
--- the same parcels in the order of pieces, one for each piece to which their kids lead from the root
+-- the same parcels in the order of pieces, one for each piece to which their kids lead from the
+-- root
 abbrev pub IsInOrder : {O : Type 0} → Piece → List (Parcel O) → List (Parcel O) → Type 0
-IsInOrder root parcels assembled = IsPermutation parcels assembled × IsWalk (HasKid (bare parcels)) root (pieces_of (bare assembled))
+IsInOrder root parcels assembled =
+    IsPermutation parcels assembled
+    × IsWalk (HasKid (bare parcels)) root (pieces_of (bare assembled))
 
 -- a piece of the first list that isn't in the second
 abbrev pub IsAbsent : List Piece → List Piece → Piece → Type 0
@@ -50,11 +54,14 @@ IsAbsent pieces among p = Contains pieces p × ¬ Contains among p
 
 -- ascending pieces are the expected ones
 abbrev pub AreExpected : List Piece → List Piece → Type 0
-AreExpected pieces expected = AllPairs IsBefore pieces × All (Contains expected) pieces × All (Contains pieces) expected
+AreExpected pieces expected =
+    AllPairs IsBefore pieces × All (Contains expected) pieces × All (Contains pieces) expected
 
 -- what a refusal says of pieces beside the expected ones
 abbrev pub IsListFault : List Piece → List Piece → BoardFault → Type 0
 IsListFault pieces expected (Double p) = IsLeast (λ q. 2 ≤ times q pieces) p
-IsListFault pieces expected (Stranger p) = AllPairs IsBefore pieces × IsLeast (IsAbsent pieces expected) p
-IsListFault pieces expected (Missing p) = AllPairs IsBefore pieces × All (Contains expected) pieces × IsLeast (IsAbsent expected pieces) p
+IsListFault pieces expected (Stranger p) =
+    AllPairs IsBefore pieces × IsLeast (IsAbsent pieces expected) p
+IsListFault pieces expected (Missing p) =
+    AllPairs IsBefore pieces × All (Contains expected) pieces × IsLeast (IsAbsent expected pieces) p
 IsListFault pieces expected Memory = Unit {0}

@@ -19,7 +19,8 @@ kids_in views = flat_map (λ view. view.kids) views
 
 -- the root with the kids of all parcels has each piece as often as the parcels with the open pieces
 abbrev pub IsBalanced : {S : Type 0} → Piece → List (ParcelView S) → List Piece → Type 0
-IsBalanced root views open_ones = (p : Piece) → times p (root ∷ kids_in views) ≡ times p (pieces_of views ++ open_ones)
+IsBalanced root views open_ones =
+    (p : Piece) → times p (root ∷ kids_in views) ≡ times p (pieces_of views ++ open_ones)
 
 -- the kids of each parcel are lawful
 abbrev pub AllLawful : {S : Type 0} → List (ParcelView S) → Type 0
@@ -27,4 +28,5 @@ AllLawful views = All (λ view. AreLawfulKids view.piece view.kids) views
 
 -- some parcel of p has q among its kids
 abbrev pub HasKid : {S : Type 0} → List (ParcelView S) → Piece → Piece → Type 0
-HasKid {S} views p q = (view : ParcelView S) × (Contains views view × ((view.piece ≡ p) × Contains view.kids q))
+HasKid {S} views p q =
+    (view : ParcelView S) × (Contains views view × ((view.piece ≡ p) × Contains view.kids q))

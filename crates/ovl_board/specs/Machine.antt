@@ -20,7 +20,8 @@ pub record CoreState (S : Type 0) : Type 0 where
 
 -- at the start the first lane holds the root, and nothing else is anywhere
 abbrev pub start_desks : Piece → ℕ → List DeskView
-start_desks root workers = record empty_desk { lane = root ∷ [] } ∷ replicate (workers - 1) empty_desk
+start_desks root workers =
+    record empty_desk { lane = root ∷ [] } ∷ replicate (workers - 1) empty_desk
 
 abbrev pub start_state : {S : Type 0} → Piece → ℕ → CoreState S
 start_state root workers = record { desks = start_desks root workers; parcels = [] }
@@ -39,11 +40,13 @@ hold desks w p = slice_set desks w (record (desk_of desks w) { hand = Some p })
 
 abbrev pub take_first : List DeskView → ℕ → ℕ → List Piece → Option (List DeskView)
 take_first desks w l [] = None
-take_first desks w l (p ∷ rest) = Some (hold (slice_set desks l (record (desk_of desks l) { lane = rest })) w p)
+take_first desks w l (p ∷ rest) =
+    Some (hold (slice_set desks l (record (desk_of desks l) { lane = rest })) w p)
 
 abbrev pub after_take : List DeskView → ℕ → ℕ → Option (List DeskView)
 after_take desks w l =
-    if nat_lt w (length desks) && is_free (desk_of desks w) then take_first desks w l (desk_of desks l).lane else None
+    if nat_lt w (length desks) && is_free (desk_of desks w)
+    then take_first desks w l (desk_of desks l).lane else None
 
 -- the same from the lane of another worker
 abbrev pub after_steal : List DeskView → ℕ → ℕ → Option (List DeskView)
@@ -89,7 +92,8 @@ open_pieces desks = flat_map desk_pieces desks
 abbrev pub IsIdle : List DeskView → Type 0
 IsIdle desks = All (λ desk. desk ≡ empty_desk) desks
 
--- a full hand stands beside an empty outbox, and the root with all kids are the pieces of the parcels with the open ones
+-- a full hand stands beside an empty outbox, and the root with all kids are the pieces of the
+-- parcels with the open ones
 pub record IsCoreState {S : Type 0} (root : Piece) (s : CoreState S) : Type 0 where
   pub free : All (λ desk. (p : Piece) → desk.hand ≡ Some p → desk.outbox ≡ []) s.desks
   pub balance : IsBalanced root s.parcels (open_pieces s.desks)

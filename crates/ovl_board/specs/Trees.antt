@@ -32,9 +32,11 @@ tree_kids paths p = if p.space == 0 then map tree_piece (children paths p.dir) e
 abbrev pub deepest_path : List PathNames → ℕ
 deepest_path paths = fold (λ most path. max most (length path)) 0 paths
 
--- a path that may stand right behind another one: it comes after it, and its parent is that one or lies above it
+-- a path that may stand right behind another one: it comes after it, and its parent is that one or
+-- lies above it
 abbrev pub is_next : PathNames → PathNames → Bool
 is_next before path = is_lt (path_cmp before path) && starts_with name_eq before (parent_path path)
 
 abbrev pub EachFollows : List PathNames → Type 0
-EachFollows paths = AllAdjacentBelow (λ before path. is_next before path ≡ true) paths (length paths)
+EachFollows paths =
+    AllAdjacentBelow (λ before path. is_next before path ≡ true) paths (length paths)

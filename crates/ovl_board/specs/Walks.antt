@@ -11,7 +11,8 @@ pub data Reached (Step : Piece → Piece → Type 0) (root : Piece) : Piece → 
   next : {p q : Piece} → Reached Step root p → Step p q → Reached Step root q
 
 -- the pieces that are reached, each once, in the order of pieces
-pub record IsWalk (Step : Piece → Piece → Type 0) (root : Piece) (pieces : List Piece) : Type 0 where
+pub record IsWalk (Step : Piece → Piece → Type 0) (root : Piece)
+    (pieces : List Piece) : Type 0 where
   pub ascend : AllPairs IsBefore pieces
   pub reached : All (Reached Step root) pieces
   pub whole : (p : Piece) → Reached Step root p → Contains pieces p
@@ -25,14 +26,18 @@ abbrev pub StepsToKids : (Piece → List Piece) → ℕ → PathNames → PathNa
 StepsToKids kids space dir [] = Unit {0}
 StepsToKids kids space dir (name ∷ names) =
     let kid : Piece = record { space = space; dir = child_path dir name } in
-    ToKid kids (record { space = space; dir = dir }) kid × StepsToKids kids space (child_path dir name) names
+    ToKid kids (record { space = space; dir = dir }) kid
+    × StepsToKids kids space (child_path dir name) names
 
 -- a piece under the root, in its space, to which kids lead name by name
 abbrev pub IsReachedByNames : (Piece → List Piece) → Piece → Piece → Type 0
 IsReachedByNames kids root p =
-    (p.space ≡ root.space) × ((names : PathNames) × ((p.dir ≡ root.dir ++ names) × StepsToKids kids root.space root.dir names))
+    (p.space ≡ root.space)
+    × ((names : PathNames)
+    × ((p.dir ≡ root.dir ++ names) × StepsToKids kids root.space root.dir names))
 
--- a piece and, `depth` times at most, the kids of what stands before: what one call of the walk appends
+-- a piece and, `depth` times at most, the kids of what stands before: what one call of the walk
+-- appends
 abbrev pub preorder : (Piece → List Piece) → ℕ → Piece → List Piece
 preorder kids zero p = p ∷ []
 preorder kids (suc depth) p = p ∷ flat_map (λ kid. preorder kids depth kid) (kids p)

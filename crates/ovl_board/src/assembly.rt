@@ -35,10 +35,10 @@ impl From<AllocError> for BoardFault {
     }
 }
 
-/// The parcels in the order of their pieces, where each piece to which their kids lead from `root` has one
-/// parcel and no other piece has any; else the first fault in the order of [`BoardFault`].
-/// The kids of each parcel must be lawful, see [`crate::kids_lawful`]. It sorts parcels only where they don't come in
-/// order, and copies pieces only where there is a fault.
+/// The parcels in the order of their pieces, where each piece to which their kids lead from `root`
+/// has one parcel and no other piece has any; else the first fault in the order of [`BoardFault`].
+/// The kids of each parcel must be lawful, see [`crate::kids_lawful`]. It sorts parcels only where
+/// they don't come in order, and copies pieces only where there is a fault.
 pub fn assemble<T: Drop>(
     alloc: Global,
     root: &Piece,
@@ -77,7 +77,8 @@ fn assemble_unordered<T: Drop>(
     Ok(parcels)
 }
 
-/// Puts parcels into the order of their pieces; fails, with nothing changed, only when out of memory.
+/// Puts parcels into the order of their pieces; fails, with nothing changed, only when out of
+/// memory.
 pub fn sort_parcels<T>(parcels: &mut Vec<Parcel<T>>) -> Result<(), AllocError>
     ensures same { IsPermutation parcels.old.items parcels.new.items }
     ensures sorted { OnOk result (IsSorted piece_cmp (pieces_of (bare parcels.new.items))) }
@@ -86,13 +87,16 @@ pub fn sort_parcels<T>(parcels: &mut Vec<Parcel<T>>) -> Result<(), AllocError>
     parcels.sort_by(|a, b| a.piece.cmp(&b.piece))
 }
 
-// Whether the parcels go down the tree of kids, from the root: each of them has the piece that became open last, and
-// then its kids are open, the first of them last; and in the end no piece is open. That is the walk: lawful kids lie
-// below their piece and ascend, so pieces ascend where they go down.
+// Whether the parcels go down the tree of kids, from the root: each of them has the piece that
+// became open last, and then its kids are open, the first of them last; and in the end no piece is
+// open. That is the walk: lawful kids lie below their piece and ascend, so pieces ascend where they
+// go down.
 fn is_walk<T>(alloc: Global, root: &Piece, parcels: &[Parcel<T>]) -> Result<bool, AllocError>
     requires { AllLawful (bare parcels.now) }
-    ensures balanced { IfOk result (λ walk. IsTrue walk → IsBalanced root.now (bare parcels.now) []) }
-    ensures ascend { IfOk result (λ walk. IsTrue walk → AllPairs IsBefore (pieces_of (bare parcels.now))) }
+    ensures balanced { IfOk result
+        (λ walk. IsTrue walk → IsBalanced root.now (bare parcels.now) []) }
+    ensures ascend { IfOk result
+        (λ walk. IsTrue walk → AllPairs IsBefore (pieces_of (bare parcels.now))) }
 {
     let mut open = Vec::new(alloc);
     open.push(root)?;
@@ -110,7 +114,9 @@ fn is_walk<T>(alloc: Global, root: &Piece, parcels: &[Parcel<T>]) -> Result<bool
 
 // Appends the kids, the last one first.
 fn push_reversed<'a>(waiting: &mut Vec<&'a Piece>, kids: &'a [Piece]) -> Result<(), AllocError>
-    ensures { OnOk result (map (λ piece. piece.now) waiting.new.items ≡ map (λ piece. piece.now) waiting.old.items ++ reverse kids.now) }
+    ensures { OnOk result
+        (map (λ piece. piece.now) waiting.new.items
+        ≡ map (λ piece. piece.now) waiting.old.items ++ reverse kids.now) }
 {
     waiting.extend(kids.iter().rev())
 }
@@ -151,7 +157,8 @@ fn expected_pieces<T>(
     root: &Piece,
     parcels: &[Parcel<T>],
 ) -> Result<Vec<Piece>, AllocError>
-    ensures same { IfOk result (λ pieces. IsPermutation (root.now ∷ kids_in (bare parcels.now)) pieces.items) }
+    ensures same { IfOk result
+        (λ pieces. IsPermutation (root.now ∷ kids_in (bare parcels.now)) pieces.items) }
     ensures sorted { IfOk result (λ pieces. IsSorted piece_cmp pieces.items) }
 {
     let mut expected = Vec::new(alloc);

@@ -15,15 +15,17 @@ use std::collections::VecDeque;
 /// The most workers that share a work.
 pub const WORKER_LIMIT: usize = 64;
 
-/// The work of several workers as a machine of single steps. Each worker has a lane of pieces, a hand for one
-/// piece, and an outbox of kids that it has still to push; a piece that was worked on becomes a parcel.
+/// The work of several workers as a machine of single steps. Each worker has a lane of pieces, a
+/// hand for one piece, and an outbox of kids that it has still to push; a piece that was worked on
+/// becomes a parcel.
 pub struct Core<'a, W: Work> {
     work: &'a W,
     root: Piece,
     desks: Vec<Desk>,
     parcels: Vec<Parcel<W::Out>>,
-    ghost own: { AreOwn (W.kids_of work.now) (W.out_of work.now) (parcel_views W.seen parcels.items) } by { AreOwn-prop W.seen_set (Coded-set root-code) (W.kids_of work.now) (W.out_of work.now)
-        (parcel_views W.seen parcels.items) },
+    ghost own: { AreOwn (W.kids_of work.now) (W.out_of work.now)
+        (parcel_views W.seen parcels.items) } by { AreOwn-prop W.seen_set (Coded-set root-code)
+            (W.kids_of work.now) (W.out_of work.now) (parcel_views W.seen parcels.items) },
     ghost kept: { IsCoreState root (core_state W.seen desks.items parcels.items) },
 }
 
@@ -45,8 +47,9 @@ impl<'a, W: Work> Core<'a, W> {
     ghost use Rattle.ovl_board.specs.Machine.{worker_limit, IsIdle, after, start_state, work_piece, desk_of};
     ghost use Rattle.ovl_board.specs.Cores.{work_of, root_of, parcels_of, state_of};
 
-    /// A core of 1 to [`WORKER_LIMIT`] workers, whose first lane holds the root of the work; everything else is empty.
-    /// Refuses every other number of workers as not possible, and fails otherwise only when out of memory.
+    /// A core of 1 to [`WORKER_LIMIT`] workers, whose first lane holds the root of the work;
+    /// everything else is empty. Refuses every other number of workers as not possible, and fails
+    /// otherwise only when out of memory.
     pub fn start(
         alloc: Global,
         work: &'a W,
@@ -69,18 +72,21 @@ impl<'a, W: Work> Core<'a, W> {
         })
     }
 
-    /// Does one event exactly, or refuses it: as not possible where it isn't, else where memory runs out. A refused
-    /// step changes nothing: its parcels are the same ones, outputs and all.
+    /// Does one event exactly, or refuses it: as not possible where it isn't, else where memory
+    /// runs out. A refused step changes nothing: its parcels are the same ones, outputs and all.
     pub fn step(&mut self, alloc: Global, event: Event) -> Result<(), CoreFault>
         ensures done { OnOk result
-            (after (W.kids_of (work_of self.old)) (W.out_of (work_of self.old)) (state_of W.seen self.old) event
+            (after (W.kids_of (work_of self.old)) (W.out_of (work_of self.old))
+            (state_of W.seen self.old) event
             ≡ Some (state_of W.seen self.new)) }
         ensures refused { (result ≡ Err NotPossible) ↔
-            (after (W.kids_of (work_of self.old)) (W.out_of (work_of self.old)) (state_of W.seen self.old) event
+            (after (W.kids_of (work_of self.old)) (W.out_of (work_of self.old))
+            (state_of W.seen self.old) event
             ≡ None) }
         ensures same { OnErr result (state_of W.seen self.new ≡ state_of W.seen self.old) }
         ensures parcels { OnErr result (parcels_of self.new ≡ parcels_of self.old) }
-        ensures given { (work_of self.new ≡ work_of self.old) × (root_of self.new ≡ root_of self.old) }
+        ensures given { (work_of self.new ≡ work_of self.old)
+            × (root_of self.new ≡ root_of self.old) }
     {
         match event {
             Event::Pop(worker) => take(&mut self.desks, worker, worker),
@@ -93,18 +99,21 @@ impl<'a, W: Work> Core<'a, W> {
     // Turns the piece in a worker's hand into a parcel, and puts its kids into the outbox.
     fn work_piece(&mut self, alloc: Global, worker: usize) -> Result<(), CoreFault>
         ensures done { OnOk result
-            (work_piece (W.kids_of (work_of self.old)) (W.out_of (work_of self.old)) (state_of W.seen self.old)
-            worker (desk_of (state_of W.seen self.old).desks worker).hand ≡ Some (state_of W.seen self.new)) }
+            (work_piece (W.kids_of (work_of self.old)) (W.out_of (work_of self.old))
+            (state_of W.seen self.old) worker
+            (desk_of (state_of W.seen self.old).desks worker).hand
+            ≡ Some (state_of W.seen self.new)) }
         ensures refused { (result ≡ Err NotPossible) ↔
             ((desk_of (state_of W.seen self.old).desks worker).hand ≡ None) }
         ensures same { OnErr result (state_of W.seen self.new ≡ state_of W.seen self.old) }
         ensures parcels { OnErr result (parcels_of self.new ≡ parcels_of self.old) }
-        ensures given { (work_of self.new ≡ work_of self.old) × (root_of self.new ≡ root_of self.old) }
+        ensures given { (work_of self.new ≡ work_of self.old)
+            × (root_of self.new ≡ root_of self.old) }
     {
         if worker >= self.desks.len() {
             return Err(CoreFault::NotPossible);
         }
-        let Some(piece) = self.desks[worker].held() else {
+        let Some(piece) = self.desks[worker].piece_in_hand() else {
             return Err(CoreFault::NotPossible);
         };
         let (kids, out) = self.work.visit(alloc, piece)?;
@@ -122,13 +131,14 @@ impl<'a, W: Work> Core<'a, W> {
         are_empty(&self.desks)
     }
 
-    /// The parcels, where nothing is open: those of the plain walk from the root, in the order in which they came.
-    /// Otherwise the core as it was.
+    /// The parcels, where nothing is open: those of the plain walk from the root, in the order in
+    /// which they came. Otherwise the core as it was.
     pub fn finish(self) -> Result<Vec<Parcel<W::Out>>, Core<'a, W>>
         ensures idle { IsOk result ↔ IsIdle (state_of W.seen self.entry).desks }
         ensures given { IfOk result (λ parcels. parcels.items ≡ parcels_of self.entry) }
         ensures plain { IfOk result (λ parcels.
-            IsPlainUnordered (W.kids_of (work_of self.entry)) (W.out_of (work_of self.entry)) (root_of self.entry)
+            IsPlainUnordered (W.kids_of (work_of self.entry)) (W.out_of (work_of self.entry))
+            (root_of self.entry)
             (parcel_views W.seen parcels.items)) }
         ensures back { IfErr result (λ core. core ≡ self.entry) }
     {
@@ -148,7 +158,8 @@ impl<'a, W: Work> Core<'a, W> {
 
 fn start_desks(alloc: Global, root: Piece, workers: usize) -> Result<Vec<Desk>, CoreFault>
     requires { 0 < workers }
-    ensures { MatchResult result (λ desks. desks.items ≡ first_desks root workers) (λ fault. fault ≡ Memory) }
+    ensures { MatchResult result (λ desks. desks.items ≡ first_desks root workers)
+        (λ fault. fault ≡ Memory) }
 {
     let mut desks = Vec::with_capacity(alloc, workers)?;
     desks.push(Desk::with_piece(alloc, root)?)?;

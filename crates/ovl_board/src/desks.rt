@@ -8,7 +8,8 @@ use std::alloc::Global;
 use std::collections::VecDeque;
 use std::marker::Model;
 
-// What a worker has: the lane of pieces to do, the piece in its hand, and the kids that it has still to push.
+/// What a worker has: the lane of pieces to do, the piece in its hand, and the kids that it has
+/// still to push.
 #[derive(Drop)]
 pub(crate) struct Desk {
     lane: VecDeque<Piece>,
@@ -25,6 +26,7 @@ impl Model for Desk {
 }
 
 impl Desk {
+    /// A desk with nothing on it.
     pub(crate) fn new(alloc: Global) -> Desk
         ensures { result ≡ empty_desk }
     {
@@ -35,7 +37,7 @@ impl Desk {
         }
     }
 
-    // A desk whose lane holds one piece.
+    /// A desk whose lane holds one piece.
     pub(crate) fn with_piece(alloc: Global, piece: Piece) -> Result<Desk, CoreFault>
         ensures { MatchResult result
             (λ desk. desk ≡ record empty_desk { lane = piece ∷ [] })
@@ -46,38 +48,45 @@ impl Desk {
         Ok(desk)
     }
 
+    /// Whether the worker may take a piece: its hand and its outbox are empty.
     pub(crate) fn is_free(&self) -> bool
         ensures { result ≡ is_free self.now }
     {
         self.hand.is_none() && self.outbox.is_empty()
     }
 
+    /// Whether nothing is on it.
     pub(crate) fn is_empty(&self) -> bool
         ensures { IsTrue result ↔ (self.now ≡ empty_desk) }
     {
         self.lane.is_empty() && self.hand.is_none() && self.outbox.is_empty()
     }
 
+    /// Takes the first piece of the lane, if there is one.
     pub(crate) fn take_first(&mut self) -> Option<Piece>
         ensures { MatchOption result
             ((self.old.lane ≡ []) × (self.new ≡ self.old))
-            (λ piece. (self.old.lane ≡ piece ∷ self.new.lane) × (self.new ≡ record self.old { lane = self.new.lane })) }
+            (λ piece. (self.old.lane ≡ piece ∷ self.new.lane)
+            × (self.new ≡ record self.old { lane = self.new.lane })) }
     {
         self.lane.pop_front()
     }
 
+    /// Puts a piece into the hand.
     pub(crate) fn hold(&mut self, piece: Piece)
         ensures { self.new ≡ record self.old { hand = Some piece } }
     {
         self.hand = Some(piece);
     }
 
-    pub(crate) fn held(&self) -> Option<&Piece>
+    /// The piece in the hand, if there is one.
+    pub(crate) fn piece_in_hand(&self) -> Option<&Piece>
         ensures { option_copied result ≡ self.now.hand }
     {
         self.hand.as_ref()
     }
 
+    /// Takes the piece out of the hand, and makes its kids the outbox.
     pub(crate) fn put_down(&mut self, outbox: VecDeque<Piece>) -> Piece
         requires { IsSome self.old.hand }
         ensures piece { self.old.hand ≡ Some result }
@@ -87,9 +96,10 @@ impl Desk {
         self.hand.take().unwrap()
     }
 
-    // Moves the first kid of the outbox to the back of the lane.
+    /// Moves the first kid of the outbox to the back of the lane.
     pub(crate) fn push(&mut self) -> Result<(), CoreFault>
-        ensures done { MatchResult result (λ _. pushed_desk self.old ≡ Some self.new) (λ _. self.new ≡ self.old) }
+        ensures done { MatchResult result (λ _. pushed_desk self.old ≡ Some self.new)
+            (λ _. self.new ≡ self.old) }
         ensures refused { (result ≡ Err NotPossible) ↔ (pushed_desk self.old ≡ None) }
     {
         if self.outbox.is_empty() {

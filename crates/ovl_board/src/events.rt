@@ -7,7 +7,8 @@ use thiserror::Error;
 /// One step of one worker of a [`crate::Core`]; workers and their lanes are counted from 0.
 #[derive(Clone, Copy, Debug, PartialEq, Eq)]
 pub enum Event {
-    /// A worker takes the first piece of its own lane into its empty hand, while its outbox is empty.
+    /// A worker takes the first piece of its own lane into its empty hand, while its outbox is
+    /// empty.
     Pop(usize),
     /// A worker, the first, takes the first piece of another one's lane in the same way.
     Steal(usize, usize),

@@ -2,20 +2,20 @@ ghost use Rattle.ovl_board.specs.Laws.{ReachedByNames, HasReachedPieces, KeepsBa
 
 use crate::works::Work;
 
-/// With lawful kids, a piece is reached exactly where it lies under the root, in its space, and each step of its
-/// path down from the root goes to a kid.
+/// With lawful kids, a piece is reached exactly where it lies under the root, in its space, and
+/// each step of its path down from the root goes to a kid.
 pub fn reached_by_names()
     ensures { ReachedByNames }
 {}
 
-/// A plain walk has exactly the pieces that are reached from the root, ascending and each once, and the parcels
-/// that the work makes of them: so it is the only one.
+/// A plain walk has exactly the pieces that are reached from the root, ascending and each once, and
+/// the parcels that the work makes of them: so it is the only one.
 pub fn plain_walk_has_the_reached_pieces<W: Work>(_work: &W)
     ensures { HasReachedPieces (W.kids_of _work.now) (W.out_of _work.now) }
 {}
 
-/// After every list of events, from the start on, each piece is the root or a kid as often as it has a parcel or
-/// is open. An event that isn't possible changes nothing.
+/// After every list of events, from the start on, each piece is the root or a kid as often as it
+/// has a parcel or is open. An event that isn't possible changes nothing.
 pub fn events_keep_the_balance<W: Work>(_work: &W)
     ensures { KeepsBalance (W.kids_of _work.now) (W.out_of _work.now) }
 {}
@@ -35,7 +35,8 @@ pub fn balanced_parcels_have_no_fault()
     ensures { BalancedHaveNoFault }
 {}
 
-/// A work's own parcels meet the condition of [`crate::assemble`], and in order they are its plain walk.
+/// A work's own parcels meet the condition of [`crate::assemble`], and in order they are its plain
+/// walk.
 pub fn own_parcels_assemble<W: Work>(_work: &W)
     ensures { OwnAssemble (W.kids_of _work.now) (W.out_of _work.now) W.seen }
 {}

@@ -1,11 +1,13 @@
-//! Pieces of work, the plain walk over them, the assembly of what workers bring, and the workers' core.
+//! Pieces of work, the plain walk over them, the assembly of what workers bring, and the workers'
+//! core.
 #![tactic(auto)]
 
 mod assembly;
 mod cores;
 mod desks;
 mod events;
-/// Laws of the plain walk, of parcels in balance and of their assembly, each the contract of a function that does nothing.
+/// Laws of the plain walk, of parcels in balance and of their assembly, each the contract of a
+/// function that does nothing.
 pub mod laws;
 mod pieces;
 mod plain;

@@ -7,9 +7,9 @@ use crate::pieces::{Piece, copies};
 use crate::works::{Parcel, Work};
 use std::alloc::{AllocError, Global};
 
-/// The plain walk of a work: the parcels of all pieces that kids lead to from `root`, in the order of pieces,
-/// each once. The root's parcel comes first, and then the walk from each kid in turn.
-/// It goes as deep as the work says, a call for each name. Fails only when out of memory.
+/// The plain walk of a work: the parcels of all pieces that kids lead to from `root`, in the order
+/// of pieces, each once. The root's parcel comes first, and then the walk from each kid in turn. It
+/// goes as deep as the work says, a call for each name. Fails only when out of memory.
 pub fn plain_walk<W: Work>(
     alloc: Global,
     work: &W,
@@ -32,7 +32,8 @@ fn walk_from<W: Work>(
     parcels: &mut Vec<Parcel<W::Out>>,
 ) -> Result<(), AllocError>
     requires { HasLawfulKids (W.kids_of work.now) (W.deepest_of work.now) }
-    ensures { IfOk result (λ _. parcel_views W.seen parcels.new.items ≡ parcel_views W.seen parcels.old.items
+    ensures { IfOk result
+        (λ _. parcel_views W.seen parcels.new.items ≡ parcel_views W.seen parcels.old.items
         ++ map (own_view (W.kids_of work.now) (W.out_of work.now))
         (preorder (W.kids_of work.now) (W.deepest_of work.now - length piece.dir) piece)) }
 {

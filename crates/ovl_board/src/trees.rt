@@ -1,4 +1,4 @@
-ghost use Rattle.std.specs.Prelude.{◌≡◌, ◌↔◌, IfOk, IsTrue, AllPairs};
+ghost use Rattle.std.specs.Prelude.{◌≡◌, ◌↔◌, ◌<◌, ◌^◌, IfOk, IsOk, IsTrue, AllPairs};
 ghost use Rattle.std.specs.declared.cmp.Ordering.TheVariants.{Less};
 ghost use Rattle.ovl_names.specs.Paths.{path_cmp};
 ghost use Rattle.ovl_board.specs.declared.trees.TreeFault.TheVariants.{Shape};
@@ -14,16 +14,18 @@ use thiserror::Error;
 /// Why listed paths are no tree; where both hold, the first is given.
 #[derive(Clone, Copy, Debug, PartialEq, Eq, Error)]
 pub enum TreeFault {
-    /// The first path isn't `/`, or one doesn't come after the one before it, or has no parent among them.
+    /// The first path isn't `/`, or one doesn't come after the one before it, or has no parent
+    /// among them.
     #[error("the paths do not begin with `/`, do not ascend, or lack a parent")]
     Shape,
-    /// Out of memory, or a path has 2^32 names or more.
+    /// A path has 2^32 names or more.
     #[error("out of memory")]
     Memory,
 }
 
-/// A tree of listed paths, as work that puts out nothing: its pieces are the paths in space 0, and the kids of a
-/// piece are the listed paths one name below it. A piece of another space has no kids. For tests.
+/// A tree of listed paths, as work that puts out nothing: its pieces are the paths in space 0, and
+/// the kids of a piece are the listed paths one name below it. A piece of another space has no
+/// kids. For tests.
 #[derive(Drop)]
 pub struct Tree {
     paths: Vec<Path>,
@@ -40,15 +42,19 @@ impl Model for Tree {
 
     ghost view = { λ t. t.paths.items };
 
-    ghost invariant = { λ t. HasTreeShape t.paths.items × (t.deepest ≡ deepest_path t.paths.items) };
+    ghost invariant = { λ t. HasTreeShape t.paths.items
+        × (t.deepest ≡ deepest_path t.paths.items) };
 }
 
 impl Tree {
-    /// The tree of these paths, of which the first is `/`; they ascend strictly, and the parent of each is listed.
-    /// A path of 2^32 names or more is refused as out of memory, since its tree has as many paths.
+    /// The tree of these paths, of which the first is `/`; they ascend strictly, and the parent of
+    /// each is listed. `Memory` is told of a path of 2^32 names or more alone, whose tree has as
+    /// many paths.
     pub fn of(paths: Vec<Path>) -> Result<Tree, TreeFault>
         ensures tree { IfOk result (λ tree. (tree ≡ paths.items) × HasTreeShape paths.items) }
         ensures refused { (result ≡ Err Shape) ↔ (HasTreeShape paths.items → ⊥) }
+        ensures taken { IsOk result
+            ↔ (HasTreeShape paths.items × (deepest_path paths.items < 2 ^ 32)) }
     {
         if !has_tree_shape(&paths) {
             return Err(TreeFault::Shape);

@@ -5,8 +5,8 @@ ghost use Rattle.ovl_board.specs.Pieces.{IsBefore, IsOneBelow, AreLawfulKids, Ha
 use crate::pieces::Piece;
 use std::alloc::{AllocError, Global};
 
-/// Work that is split into pieces: a visit of a piece gives its output, and the pieces that come after it.
-/// Both depend on the piece alone.
+/// Work that is split into pieces: a visit of a piece gives its output, and the pieces that come
+/// after it. Both depend on the piece alone.
 pub trait Work {
     /// What a visit puts out.
     type Out: Drop;
@@ -25,8 +25,9 @@ pub trait Work {
 
     ghost deepest_of: { Self → ℕ };
 
-    /// The kids and the output of a piece. Kids have the piece's space, lie one name below it, ascend
-    /// strictly, and have at most as many names as [`Work::deepest`] says. Fails only when out of memory.
+    /// The kids and the output of a piece. Kids have the piece's space, lie one name below it,
+    /// ascend strictly, and have at most as many names as [`Work::deepest`] says. Fails only when
+    /// out of memory.
     fn visit(&self, alloc: Global, piece: &Piece) -> Result<(Vec<Piece>, Self::Out), AllocError>
         ensures kids { IfOk result (λ r. r.0.items ≡ kids_of self.now piece.now) }
         ensures out { IfOk result (λ r. seen r.1 ≡ out_of self.now piece.now) };

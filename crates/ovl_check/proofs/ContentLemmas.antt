@@ -5,7 +5,7 @@ use Rattle.std.specs.List.{flat_map}
 use Rattle.std.specs.Option.{option_map}
 use Rattle.std.specs.Str.{bytes_eq}
 use Rattle.ovl_inode.specs.Kinds.{size_of, blob_of}
-use Rattle.ovl_manifest.specs.Layers.{Entries, Entry}
+use Rattle.ovl_layer.specs.Layers.{Entries, Entry}
 use Rattle.ovl_lookup.specs.Stacks.{StackView}
 use Rattle.ovl_lookup.proofs.LawsOfPaths.{all-first, all-rest}
 use Rattle.ovl_check.specs.declared.contents.Content.{Content}

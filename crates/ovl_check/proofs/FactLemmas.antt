@@ -13,7 +13,7 @@ use Rattle.ovl_inode.specs.declared.marks.Mark.TheVariants.{Whiteout as Whiteout
 use Rattle.ovl_inode.specs.Kinds.{size_of, blob_of}
 use Rattle.ovl_inode.specs.Marks.{is_directory, is_regular, is_whiteout, attribute_is}
 use Rattle.ovl_inode.specs.Attributes.{impure_name}
-use Rattle.ovl_manifest.specs.Layers.{Entries, entry_at}
+use Rattle.ovl_layer.specs.Layers.{Entries, entry_at}
 use Rattle.ovl_lookup.specs.declared.looks.Look.{Look}
 use Rattle.ovl_lookup.specs.declared.looks.Look.TheVariants.{Nothing as NothingLook, Shown, Broken}
 use Rattle.ovl_lookup.specs.Walk.{mark_at, walk, natural_path}

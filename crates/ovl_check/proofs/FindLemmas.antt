@@ -1,12 +1,15 @@
 -- The names of blobs with wrong bytes, and one that is sought among them.
-use Rattle.std.proofs.Common.{◌≡◌, ℕ, Bool, true, false, Option, Some, None, Result, Ok, Err, List, length, refl, sym, ap, ◌∙◌, subst}
+use Rattle.std.proofs.Common.{◌≡◌, ◌+◌, ◌<◌, ◌∷◌, ◌++◌, [], get_or, take, ℕ, Bool, true, false, Option, Some, None, Result, Ok, Err, List, length, refl, sym, ap, ◌∙◌, subst}
 use Rattle.std.specs.Prelude.{filter, IsTrue, Contains, ◌↔◌}
+use Rattle.std.proofs.lemmas.List.{take_more, map-append}
 use Rattle.std.specs.List.Sorted.{IsBinarySearchResult, IsSearchInRange}
 use Rattle.std.specs.Result.{is_ok}
 use Rattle.std.specs.Cmp.Lexicographic.{bytes_decides}
 use Rattle.ovl_names.specs.Order.{ascends}
 use Rattle.ovl_board.proofs.LawsOfMembers.{In, In-map, In-map-cases, get_or-In, Contains-In, In-Contains, In-filter-cases}
-use Rattle.ovl_check.specs.Blobs.{BlobView, digest_cmp, blob_cmp, are_in_order, is_wrong, wrong_names}
+use Rattle.ovl_check.specs.declared.blobs.Blob.{Blob}
+use Rattle.ovl_check.specs.Blobs.{BlobView, blob_view, blob_views, digest_cmp, blob_cmp, are_in_order, is_wrong, wrong_names}
+use Rattle.ovl_check.specs.Contents.{content_of, contents_of}
 use Rattle.ovl_check.specs.Conditions.{find_blob, has_blob}
 use Rattle.ovl_check.proofs.Ascent.{Rises-ascends, In-filter}
 use Rattle.ovl_check.proofs.NamedLemmas.{find-In, find-there, named-there, named-nowhere}
@@ -41,13 +44,23 @@ among names name up (Err spot) r bound position is = (
       absurd (cc)),
 )
 
-pub wrong-among : (blobs : List BlobView) (name : List ℕ) (blob : BlobView) (r : Bool) → are_in_order blobs ≡ true → find_blob blobs name ≡ Some blob → IsTrue r ↔ Contains (wrong_names blobs) blob.name → r ≡ has_blob is_wrong (find_blob blobs name)
-wrong-among blobs name blob r up is told = by r (is_wrong blob) refl told ∙ sym (ap (has_blob is_wrong) is)
+-- what tells whether a name is among them tells whether its blob's bytes are wrong
+pub wrong-told : (blobs : List BlobView) → are_in_order blobs ≡ true → (blob : BlobView) → In blob blobs → (r : Bool) → IsTrue r ↔ Contains (wrong_names blobs) blob.name → r ≡ is_wrong blob
+wrong-told blobs up blob here r told = by r (is_wrong blob) refl told
   where
-    here : In blob blobs
-    here = find-there (λ (b : BlobView). b.name) blobs name blob is
-
     by : (r w : Bool) → is_wrong blob ≡ w → IsTrue r ↔ Contains (wrong_names blobs) blob.name → r ≡ is_wrong blob
     by true w e told = sym (In-wrong blobs up blob here (In-Contains blob.name (wrong_names blobs) (told.0 refl)))
     by false true e told = told.1 (Contains-In blob.name (wrong_names blobs) (wrong-In blobs up blob here e)) ∙ sym e
     by false false e told = sym e
+
+pub wrong-among : (blobs : List BlobView) (name : List ℕ) (blob : BlobView) (r : Bool) → are_in_order blobs ≡ true → find_blob blobs name ≡ Some blob → IsTrue r ↔ Contains (wrong_names blobs) blob.name → r ≡ has_blob is_wrong (find_blob blobs name)
+wrong-among blobs name blob r up is told =
+    wrong-told blobs up blob (find-there (λ (b : BlobView). b.name) blobs name blob is) r told ∙ sym (ap (has_blob is_wrong) is)
+
+-- what is told of one more blob
+pub contents-more : (blobs : List Blob) (i : ℕ) (blob : Blob) → i < length blobs → blob ≡ get_or blobs i blob
+    → contents_of (blob_views (take (i + 1) blobs)) ≡ contents_of (blob_views (take i blobs)) ++ content_of (blob_view blob) ∷ []
+contents-more blobs i blob inside is =
+    ap (λ (bs : List Blob). contents_of (blob_views bs)) (take_more blobs i blob inside ∙ ap (λ (b : Blob). take i blobs ++ b ∷ []) (sym is))
+    ∙ (ap contents_of (map-append blob_view (take i blobs) (blob ∷ []))
+    ∙ map-append content_of (blob_views (take i blobs)) (blob_view blob ∷ []))

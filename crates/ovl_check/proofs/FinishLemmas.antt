@@ -9,7 +9,7 @@ use Rattle.ovl_lookup.proofs.LawsOfPaths.{all-first, all-rest, drop_past}
 use Rattle.std.proofs.lemmas.Bool.{lt-ltb, le-ltb}
 use Rattle.std.proofs.lemmas.List.{flat_map_more, append-nil}
 use Rattle.std.proofs.lemmas.List.Sorted.{IsPermutation-trans, IsPermutation-append_left}
-use Rattle.ovl_manifest.specs.Layers.{Entries, IsLayer}
+use Rattle.ovl_layer.specs.Layers.{Entries, IsLayer}
 use Rattle.ovl_lookup.specs.Stacks.{all_layers}
 use Rattle.ovl_names.specs.Paths.{PathNames}
 use Rattle.ovl_board.specs.declared.works.Parcel.{Parcel}

@@ -16,7 +16,7 @@ use Rattle.ovl_inode.specs.declared.marks.Redirect.{Redirect}
 use Rattle.ovl_inode.specs.Attributes.{opaque_name, origin_name}
 use Rattle.ovl_inode.specs.Kinds.{size_of}
 use Rattle.ovl_inode.specs.Marks.{mark_of, is_whiteout, is_directory, is_metacopy, is_metacopy_mark, attribute_is, has_attribute}
-use Rattle.ovl_manifest.specs.Layers.{Entries, entry_at, is_directory_at}
+use Rattle.ovl_layer.specs.Layers.{Entries, entry_at, is_directory_at}
 use Rattle.ovl_lookup.specs.declared.steps.Step.{Step}
 use Rattle.ovl_lookup.specs.Walk.{mark_at, walk, walk_beyond, walk_to_file, turn, is_shut, natural_path}
 use Rattle.ovl_lookup.specs.Stacks.{StackView}

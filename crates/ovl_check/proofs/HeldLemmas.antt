@@ -12,9 +12,9 @@ use Rattle.ovl_inode.specs.declared.inodes.Inode.{Inode}
 use Rattle.ovl_inode.specs.Attributes.{origin_name}
 use Rattle.ovl_inode.specs.declared.marks.Mark.{Mark}
 use Rattle.ovl_inode.specs.Marks.{mark_of, is_directory, has_attribute}
-use Rattle.ovl_manifest.specs.Layers.{Entries, IsLayer, entry_at, is_directory_at, names_below, has_parent}
-use Rattle.ovl_manifest.specs.Sheets.{path_at}
-use Rattle.ovl_manifest.proofs.SheetLemmas.{last_name-child}
+use Rattle.ovl_layer.specs.Layers.{Entries, IsLayer, entry_at, is_directory_at, names_below, has_parent}
+use Rattle.ovl_layer.specs.Sheets.{path_at}
+use Rattle.ovl_layer.proofs.SheetLemmas.{last_name-child}
 use Rattle.ovl_lookup.proofs.LawsOfPaths.{length-child, parent_path-child}
 use Rattle.ovl_board.specs.declared.pieces.Piece.{Piece}
 use Rattle.ovl_board.proofs.LawsOfMembers.{In, In-map, In-flat_map-cases, get_or-In}

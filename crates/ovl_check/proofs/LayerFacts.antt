@@ -8,7 +8,7 @@ use Rattle.std.proofs.lemmas.Cmp.{tied_itself, nat_cmp_total}
 use Rattle.std.specs.declared.cmp.Ordering.TheVariants.{Less}
 use Rattle.ovl_names.specs.Names.{PathName, name_cmp}
 use Rattle.ovl_names.specs.Paths.{PathNames, child_path, path_cmp, depth_limit}
-use Rattle.ovl_manifest.specs.Layers.{Entries, Entry, IsLayer, entry_cmp, is_directory_at, name_below, names_below}
+use Rattle.ovl_layer.specs.Layers.{Entries, Entry, IsLayer, entry_cmp, is_directory_at, name_below, names_below}
 use Rattle.ovl_lookup.specs.Stacks.{all_layers}
 use Rattle.ovl_lookup.proofs.LawsOfWalks.{directory-limited}
 use Rattle.ovl_lookup.proofs.LawsOfPaths.{all-first, all-rest}

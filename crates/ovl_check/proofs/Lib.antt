@@ -4,7 +4,6 @@ mod Moves
 mod BlobLemmas
 mod BlobRanges
 mod NamedLemmas
-mod DataLemmas
 mod FindLemmas
 mod LayerFacts
 mod OutLemmas
@@ -13,6 +12,7 @@ mod MarkLemmas
 mod HeldLemmas
 mod BelowLemmas
 mod GatherLemmas
+mod SeenLemmas
 mod FactLemmas
 mod DoubleLemmas
 mod MemberLemmas

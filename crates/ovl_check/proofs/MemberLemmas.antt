@@ -17,7 +17,7 @@ use Rattle.ovl_inode.specs.declared.marks.Mark.TheVariants.{Whiteout, DirOpaque,
 use Rattle.ovl_inode.specs.declared.marks.Redirect.{Redirect}
 use Rattle.ovl_inode.specs.Attributes.{attribute, redirect_name}
 use Rattle.ovl_inode.specs.Redirects.{read_redirect}
-use Rattle.ovl_manifest.specs.Layers.{Entries, Entry, IsLayer, entry_at, entry_cmp, is_directory_at, names_below, has_parent}
+use Rattle.ovl_layer.specs.Layers.{Entries, Entry, IsLayer, entry_at, entry_cmp, is_directory_at, names_below, has_parent}
 use Rattle.ovl_lookup.specs.Stacks.{all_layers}
 use Rattle.ovl_lookup.specs.Walk.{walk, mark_at}
 use Rattle.ovl_lookup.specs.Sound.{is_moved, goes_on_there, redirect_is_double}

@@ -13,7 +13,7 @@ use Rattle.std.proofs.lemmas.Cmp.{ranked, tied_itself}
 use Rattle.std.proofs.lemmas.List.{get_or-drop, get_or-take}
 use Rattle.std.proofs.lemmas.List.Sorted.{searchable_from_sorted}
 use Rattle.ovl_names.proofs.Ascending.{ascends-next, is_lt-Less}
-use Rattle.ovl_manifest.proofs.NodeLemmas.{name_eq-cmp}
+use Rattle.ovl_layer.proofs.NodeLemmas.{name_eq-cmp}
 use Rattle.ovl_board.proofs.LawsOfMembers.{In, Every, Rises, AllPairs-Rises, Rises-from_adjacent, get_or-In, place}
 use Rattle.ovl_check.specs.Blobs.{digest_cmp}
 use Rattle.ovl_check.specs.Named.{by_name, names_ascend, element_named, IsStart}

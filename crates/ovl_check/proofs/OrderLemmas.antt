@@ -10,7 +10,7 @@ use Rattle.std.specs.declared.cmp.Ordering.{Ordering}
 use Rattle.std.specs.declared.cmp.Ordering.TheVariants.{Less, Equal, Greater}
 use Rattle.std.proofs.lemmas.Cmp.{tied_itself, nat_cmp_total, ranked}
 use Rattle.ovl_names.specs.Paths.{PathNames, path_cmp}
-use Rattle.ovl_manifest.specs.Layers.{Entries, Entry, IsLayer, entry_cmp}
+use Rattle.ovl_layer.specs.Layers.{Entries, Entry, IsLayer, entry_cmp}
 use Rattle.ovl_lookup.specs.Stacks.{StackView}
 use Rattle.ovl_lookup.proofs.LawsOfPaths.{all-first, all-rest}
 use Rattle.ovl_board.proofs.LawsOfMembers.{In, Rises, Rises-append, Rises-flat_map, In-cases, In-map-cases, In-flat_map-cases, Rises-filter}

@@ -4,7 +4,7 @@ use Rattle.std.specs.Prelude.{not, ◌||◌, ◌&&◌, filter}
 use Rattle.std.specs.List.{flat_map}
 use Rattle.ovl_names.specs.Names.{PathName}
 use Rattle.ovl_names.specs.Paths.{PathNames, child_path}
-use Rattle.ovl_manifest.specs.Layers.{IsLayer, is_directory_at}
+use Rattle.ovl_layer.specs.Layers.{IsLayer, is_directory_at}
 use Rattle.ovl_lookup.specs.Walk.{walk, mark_at}
 use Rattle.ovl_lookup.specs.Sound.{is_moved}
 use Rattle.ovl_board.specs.declared.pieces.Piece.{Piece}

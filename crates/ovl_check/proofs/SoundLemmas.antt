@@ -3,7 +3,7 @@ use Rattle.std.proofs.Common.{◌≡◌, ℕ, ◌+◌, Bool, true, false, ◌&&�
 use Rattle.std.specs.List.{list_any, list_all, flat_map}
 use Rattle.std.proofs.lemmas.List.Folds.{list_any-append}
 use Rattle.std.proofs.Math.Bool.{and-true, and-false, or-false}
-use Rattle.ovl_manifest.specs.Layers.{Entries, Entry}
+use Rattle.ovl_layer.specs.Layers.{Entries, Entry}
 use Rattle.ovl_lookup.specs.Stacks.{StackView}
 use Rattle.ovl_names.specs.Paths.{PathNames}
 use Rattle.ovl_lookup.specs.Sound.{redirect_is_malformed, redirect_is_lost, redirect_is_of_wrong_kind, redirect_is_double, redirect_is_open, data_is_missing, data_is_of_other_size, is_faulty, are_sound}

@@ -12,7 +12,7 @@ use Rattle.ovl_inode.specs.declared.inodes.Inode.{Inode}
 use Rattle.ovl_inode.specs.declared.inodes.Kind.{Kind}
 use Rattle.ovl_inode.specs.Attributes.{attribute, is_overlay_name, opaque_name, redirect_name, metacopy_name, whiteout_name, origin_name}
 use Rattle.ovl_inode.specs.Marks.{has_attribute, is_directory, is_whiteout}
-use Rattle.ovl_manifest.specs.Layers.{Entries, Entry, IsLayer, entry_at, names_below}
+use Rattle.ovl_layer.specs.Layers.{Entries, Entry, IsLayer, entry_at, names_below}
 use Rattle.ovl_lookup.specs.Stacks.{StackView}
 use Rattle.ovl_lookup.specs.Sound.{IsSoundStack}
 use Rattle.ovl_lookup.specs.Unmarked.{alone, HasNoMarks}

@@ -7,10 +7,7 @@ use Rattle.ovl_check.specs.contracts.findings.Code as code_type
 use Rattle.std.specs.Prelude.{ℕ, ◌+◌, Bool, false, not, ◌&&◌, ◌||◌, length, min, nat_lt, Option, Some, None, List, [], ◌++◌, if◌then◌else◌, map, filter, slice_get, unwrap_or}
 use Rattle.std.specs.List.{flat_map}
 use Rattle.ovl_names.specs.Paths.{PathNames, child_path}
-use Rattle.ovl_manifest.specs.Layers.{Entries, Entry, entry_at, is_directory_at, names_below}
-use Rattle.ovl_inode.specs.declared.inodes.Kind.TheVariants.{File}
-use Rattle.ovl_lookup.specs.declared.looks.Look.{Look}
-use Rattle.ovl_lookup.specs.declared.looks.Look.TheVariants.{Shown}
+use Rattle.ovl_layer.specs.Layers.{Entries, Entry, entry_at, is_directory_at, names_below}
 use Rattle.ovl_lookup.specs.Walk.{mark_at, walk}
 use Rattle.ovl_lookup.specs.Stacks.{StackView, all_layers, from_layer}
 use Rattle.ovl_lookup.specs.Sound.{is_moved}
@@ -47,11 +44,6 @@ first_below stack i = min (i + 1) (length stack.layers)
 
 abbrev pub layers_below : StackView → ℕ → StackView
 layers_below stack i = from_layer (first_below stack i) stack
-
--- the size of the file that is shown
-abbrev pub size_shown : Look → Option ℕ
-size_shown (Shown inode) = elim inode.kind [ File size blob ↦ Some size | _ ↦ None ]
-size_shown _ = None
 
 -- a directory of layer `i`
 abbrev pub directory_piece : ℕ → PathNames → Piece

@@ -11,7 +11,7 @@ use Rattle.ovl_inode.specs.declared.marks.Mark.TheVariants.{DirOpaque, Meta, Met
 use Rattle.ovl_inode.specs.Attributes.{opaque_name, redirect_name, metacopy_name, whiteout_name, impure_name, origin_name}
 use Rattle.ovl_inode.specs.Kinds.{size_of, blob_of}
 use Rattle.ovl_inode.specs.Marks.{has_attribute, attribute_is, is_directory, is_regular, is_whiteout}
-use Rattle.ovl_manifest.specs.Layers.{Entries, Entry, entry_at, names_below}
+use Rattle.ovl_layer.specs.Layers.{Entries, Entry, entry_at, names_below}
 use Rattle.ovl_lookup.specs.Walk.{mark_at, walk, natural_path}
 use Rattle.ovl_lookup.specs.Stacks.{StackView}
 use Rattle.ovl_lookup.specs.Merged.{look, is_nothing}

@@ -3,7 +3,7 @@ use Rattle.std.specs.Prelude.{◌≡◌, ⊤, All, MatchOption, ℕ, ◌+◌, Bo
 use Rattle.std.specs.List.{find, flat_map}
 use Rattle.ovl_inode.specs.declared.inodes.Inode.{Inode}
 use Rattle.ovl_inode.specs.Kinds.{size_of, blob_of}
-use Rattle.ovl_manifest.specs.Layers.{Entries, Entry}
+use Rattle.ovl_layer.specs.Layers.{Entries, Entry}
 use Rattle.ovl_lookup.specs.Stacks.{StackView}
 use Rattle.std.specs.Str.{bytes_eq}
 use Rattle.ovl_check.specs.declared.contents.Content.{Content}

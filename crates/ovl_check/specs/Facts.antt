@@ -11,8 +11,8 @@ use Rattle.ovl_inode.specs.declared.marks.Mark.TheVariants.{Whiteout as Whiteout
 use Rattle.ovl_inode.specs.Attributes.{opaque_name, redirect_name, impure_name}
 use Rattle.ovl_inode.specs.Kinds.{size_of, blob_of}
 use Rattle.ovl_inode.specs.Marks.{mark_of, has_attribute, attribute_is, is_directory, is_regular, is_whiteout}
-use Rattle.ovl_manifest.specs.Layers.{Entries, IsLayer, entry_at, names_below}
-use Rattle.ovl_manifest.specs.Sheets.{last_name}
+use Rattle.ovl_layer.specs.Layers.{Entries, IsLayer, entry_at, names_below}
+use Rattle.ovl_layer.specs.Sheets.{last_name}
 use Rattle.ovl_lookup.specs.declared.looks.Look.{Look}
 use Rattle.ovl_lookup.specs.declared.steps.Step.{Step}
 use Rattle.ovl_lookup.specs.Walk.{mark_at, walk, natural_path}

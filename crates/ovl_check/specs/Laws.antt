@@ -2,7 +2,7 @@
 use Rattle.std.specs.Prelude.{◌≡◌, true, false, not, List, []}
 use Rattle.std.specs.List.{All, list_any, list_all}
 use Rattle.ovl_names.specs.Paths.{PathNames}
-use Rattle.ovl_manifest.specs.Layers.{Entries, IsLayer, entry_at}
+use Rattle.ovl_layer.specs.Layers.{Entries, IsLayer, entry_at}
 use Rattle.ovl_lookup.specs.Stacks.{StackView, all_layers}
 use Rattle.ovl_lookup.specs.Merged.{look}
 use Rattle.ovl_lookup.specs.ShownInodes.{inode_shown}

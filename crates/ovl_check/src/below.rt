@@ -7,23 +7,23 @@ ghost use Rattle.ovl_check.specs.Checks.{layers_below};
 ghost use Rattle.ovl_check.specs.Facts.{IsBelow, asks as asks_test, data_size, next_of};
 
 use crate::directories::{Child, Directory};
-use crate::places::first_below;
-use ovl_inode::{Mark, file_size};
+use crate::places::{first_below, size_in};
+use ovl_inode::Mark;
 use ovl_lookup::{DirView, Stack, Trail};
 use ovl_names::{Name, Path};
 use std::alloc::{AllocError, Global};
 
 // The view of the layers below layer `i` where the walk of a directory of this path with these entries goes on, made only
 // where that is open and an entry asks.
-pub(crate) fn below_children(
+pub(crate) fn below_children<'p, 'a: 'p>(
     alloc: Global,
-    stack: &Stack,
+    stack: &'a Stack,
     i: usize,
-    path: &Path,
-    turned: &Option<Trail<'_>>,
+    path: &'p Path,
+    turned: &Option<Trail<'a>>,
     closed: bool,
     children: &[Child<'_>],
-) -> Result<Option<DirView>, AllocError>
+) -> Result<Option<DirView<'p>>, AllocError>
     requires { i < length (all_layers stack.now) }
     ensures { IfOk result (λ below. closed ≡ false → list_any (λ child. asks_test child.mark.now) children.now ≡ true
         → IsBelow stack.now i (unwrap_or turned.now path.now) below) }
@@ -36,7 +36,7 @@ pub(crate) fn below_children(
     }
     let from = first_below(stack, i);
     match turned {
-        Some(next) => DirView::of(alloc, stack, from, &next.path(alloc)?),
+        Some(next) => DirView::at(alloc, stack, from, next.copy(alloc)?),
         None => DirView::of(alloc, stack, from, path),
     }
 }
@@ -83,8 +83,5 @@ pub(crate) fn data_size_in(
     let Some(view) = &directory.below else {
         return Ok(None);
     };
-    match view.data(alloc, stack, name)? {
-        Some(inode) => Ok(Some(file_size(&inode))),
-        None => Ok(None),
-    }
+    Ok(size_in(view.data(alloc, stack, name)?))
 }

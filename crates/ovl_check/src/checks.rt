@@ -2,7 +2,7 @@ ghost use Rattle.std.specs.Prelude.{◌≡◌, ◌<◌, ◌&&◌, ◌||◌, not,
 ghost use Rattle.std.specs.List.{flat_map};
 ghost use Rattle.ovl_lookup.specs.Stacks.{all_layers};
 ghost use Rattle.ovl_names.specs.Paths.{child_path};
-ghost use Rattle.ovl_manifest.specs.Layers.{entry_at};
+ghost use Rattle.ovl_layer.specs.Layers.{entry_at};
 ghost use Rattle.ovl_lookup.specs.Sound.{is_moved as moved_test};
 ghost use Rattle.ovl_check.specs.Codes.{all_codes, is_blob_fault};
 ghost use Rattle.ovl_check.specs.Findings.{finding, any_code};

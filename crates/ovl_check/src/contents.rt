@@ -1,13 +1,15 @@
-ghost use Rattle.std.specs.Prelude.{◌≡◌, ◌↔◌, true, IsTrue, Contains};
+ghost use Rattle.std.specs.Prelude.{◌≡◌, ◌↔◌, true, IfOk, IsTrue, Contains};
 ghost use Rattle.ovl_names.specs.Order.{ascends};
-ghost use Rattle.ovl_check.specs.Blobs.{blob_views, digest_cmp};
-ghost use Rattle.ovl_check.specs.Contents.{contents_of};
+ghost use Rattle.ovl_check.specs.Blobs.{are_in_order, blob_views, digest_cmp, wrong_names};
+ghost use Rattle.ovl_check.specs.Contents.{contents_ascend, contents_of};
 ghost use Rattle.ovl_check.specs.Facts.{blob_named as the_blob_named};
 
+use crate::blobs::Blob;
 use crate::facts::NamedBlob;
 use crate::named::ByName;
 use crate::sources::HeldBlobs;
 use ovl_inode::{Digest, Inode, blob_of};
+use std::alloc::{AllocError, Global};
 
 // What is told of the blob that an inode names, sought once.
 pub(crate) fn blob_named(held: &HeldBlobs<'_>, inode: &Inode) -> NamedBlob
@@ -58,4 +60,27 @@ pub(crate) fn content_named(contents: &ByName<'_, Content>, inode: &Inode) -> Na
         },
         None => NamedBlob::Missing,
     }
+}
+
+/// What is told of blobs that are held, whose names ascend strictly. `wrong` has the names of those with wrong bytes, as
+/// [`crate::finish_blobs`] gives them.
+pub fn contents_held(
+    alloc: Global,
+    blobs: &[Blob],
+    wrong: &[Digest],
+) -> Result<Vec<Content>, AllocError>
+    requires ascend { are_in_order (blob_views blobs.now) ≡ true }
+    requires all_wrong { wrong.now ≡ wrong_names (blob_views blobs.now) }
+    ensures told { IfOk result (λ contents. contents.items ≡ contents_of (blob_views blobs.now)) }
+    ensures ascend { IfOk result (λ contents. contents_ascend contents.items ≡ true) }
+{
+    let mut contents = Vec::with_capacity(alloc, blobs.len())?;
+    for blob in blobs {
+        contents.push(Content {
+            name: blob.name,
+            size: blob.bytes.len() as u64,
+            is_right: !is_among(wrong, &blob.name),
+        })?;
+    }
+    Ok(contents)
 }

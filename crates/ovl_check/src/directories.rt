@@ -5,8 +5,8 @@ ghost use Rattle.ovl_names.specs.Paths.{child_path};
 ghost use Rattle.ovl_inode.specs.declared.marks.Mark.TheVariants.{DirPlain};
 ghost use Rattle.ovl_inode.specs.Attributes.{origin_name};
 ghost use Rattle.ovl_inode.specs.Marks.{has_attribute as attribute_test, is_directory as the_directory};
-ghost use Rattle.ovl_manifest.specs.Layers.{is_directory_at};
-ghost use Rattle.ovl_manifest.specs.Sheets.{path_at};
+ghost use Rattle.ovl_layer.specs.Layers.{is_directory_at};
+ghost use Rattle.ovl_layer.specs.Sheets.{path_at};
 ghost use Rattle.ovl_check.specs.Checks.{layer_at, directory_piece};
 ghost use Rattle.ovl_check.specs.Facts.{IsGathered, IsBelowOf, IsMarked, child_seen, seen_at, held_in};
 
@@ -15,8 +15,8 @@ use crate::marks::{attribute_is, has_attribute};
 use crate::places::mark_in;
 use ovl_board::Piece;
 use ovl_inode::{Inode, Mark, is_directory, overlay};
+use ovl_layer::Sheet;
 use ovl_lookup::{DirView, OwnDirectory, Stack, Trail};
-use ovl_manifest::Sheet;
 use ovl_names::{Name, Path};
 use std::alloc::{AllocError, Global};
 
@@ -41,7 +41,7 @@ pub(crate) struct Directory<'p, 'a> {
     pub(crate) closed: bool,
     pub(crate) children: Vec<Child<'a>>,
     // The view of the layers below there, where they aren't hidden and an entry asks them.
-    pub(crate) below: Option<DirView>,
+    pub(crate) below: Option<DirView<'p>>,
 }
 
 // The directory that layer `i` has at a path, and `None` where it has none; the mark of plain directories is lent for

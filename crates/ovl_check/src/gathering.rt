@@ -5,8 +5,10 @@ ghost use Rattle.ovl_names.specs.Paths.{child_path};
 ghost use Rattle.ovl_inode.specs.Attributes.{origin_name};
 ghost use Rattle.ovl_inode.specs.Marks.{has_attribute as attribute_test, is_directory as the_directory};
 ghost use Rattle.ovl_inode.specs.declared.marks.Mark.TheVariants.{Meta};
-ghost use Rattle.ovl_manifest.specs.Layers.{entry_at};
+ghost use Rattle.ovl_layer.specs.Layers.{entry_at};
+ghost use Rattle.ovl_lookup.specs.declared.looks.Look.{Look};
 ghost use Rattle.ovl_lookup.specs.Walk.{walk_to_file};
+ghost use Rattle.ovl_lookup.specs.Sights.{sight_of};
 ghost use Rattle.ovl_lookup.specs.Merged.{place_of_data};
 ghost use Rattle.ovl_lookup.specs.Sound.{is_seen_there};
 ghost use Rattle.ovl_check.specs.Checks.{layer_at, layers_below};
@@ -16,10 +18,11 @@ ghost use Rattle.ovl_check.specs.Facts.{IsGathered, IsBelow, IsMarked, AreFacts,
 use crate::below::{data_size_in, show_in};
 use crate::directories::{Child, Directory};
 use crate::facts::{Facts, KindFacts, NamedBlob, OldPlace, ThingShown};
-use crate::places::{data_size_below, is_plain_at, look_below, step_of};
+use crate::marks::is_plain;
+use crate::places::{data_size_below, sight_below, step_of};
 use crate::subjects::CheckWork;
 use ovl_inode::{Inode, Mark, Redirect};
-use ovl_lookup::{Look, Stack};
+use ovl_lookup::{Sight, Stack, Trail, TrailStep};
 use ovl_names::{Name, Path};
 use std::alloc::{AllocError, Global};
 
@@ -105,49 +108,76 @@ fn old_place(
         return Ok(OldPlace::Hidden);
     }
     match &directory.turned {
-        Some(next) => open_place(alloc, stack, i, &next.path(alloc)?),
-        None => open_place(alloc, stack, i, directory.path),
+        Some(next) => {
+            let place = next.copy(alloc)?;
+            open_place(alloc, stack, i, place)
+        }
+        None => {
+            let place = trail_of(alloc, directory.path)?;
+            open_place(alloc, stack, i, place)
+        }
     }
+}
+
+// The trail of a path.
+fn trail_of<'a>(alloc: Global, path: &'a Path) -> Result<Trail<'a>, AllocError>
+    ensures { IfOk result (λ trail. trail ≡ path.now) }
+{
+    Trail::of(alloc, &path.names())
 }
 
 // The same at a path where the layers below aren't hidden.
-fn open_place(alloc: Global, stack: &Stack, i: usize, place: &Path) -> Result<OldPlace, AllocError>
+fn open_place<'a>(
+    alloc: Global,
+    stack: &'a Stack,
+    i: usize,
+    place: Trail<'a>,
+) -> Result<OldPlace, AllocError>
     requires { i < length (all_layers stack.now) }
-    ensures { IfOk result (λ old. old ≡ the_old_place (layer_at stack.now i) (layers_below stack.now i) place.now false) }
+    ensures { IfOk result (λ old. old ≡ the_old_place (layer_at stack.now i) (layers_below stack.now i) place.entry false) }
 {
-    let thing = thing_shown(&look_below(alloc, stack, i, place)?);
-    let is_seen = is_seen(alloc, stack, i, place)?;
+    let thing = thing_shown(sight_below(alloc, stack, i, place.copy(alloc)?)?);
+    let is_seen = is_seen(alloc, stack, i, &place)?;
     Ok(OldPlace::Open { thing, is_seen })
 }
 
-fn thing_shown(look: &Look) -> ThingShown
-    ensures { result ≡ the_thing look.now }
+fn thing_shown(sight: Sight) -> ThingShown
+    ensures { (look : Look) → sight ≡ sight_of look → result ≡ the_thing look }
 {
-    if look.is_nothing() {
-        return ThingShown::Nothing;
+    match sight {
+        Sight::Nothing => ThingShown::Nothing,
+        Sight::Directory => ThingShown::Directory,
+        Sight::File | Sight::Other => ThingShown::Other,
     }
-    if look.is_shown_directory() {
-        return ThingShown::Directory;
-    }
-    ThingShown::Other
 }
 
 // Whether the layer doesn't hide a place from itself.
-fn is_seen(alloc: Global, stack: &Stack, i: usize, place: &Path) -> Result<bool, AllocError>
+fn is_seen<'a>(
+    alloc: Global,
+    stack: &'a Stack,
+    i: usize,
+    place: &Trail<'a>,
+) -> Result<bool, AllocError>
     requires { i < length (all_layers stack.now) }
     ensures { IfOk result (λ answer. answer ≡ is_seen_there (layer_at stack.now i) place.now) }
 {
-    let step = step_of(alloc, stack, i, place)?;
-    if step.closed {
+    // Each of them is a layer.
+    let _layers = stack.layers();
+    let TrailStep {
+        found,
+        next,
+        closed,
+    } = step_of(alloc, stack, i, place.copy(alloc)?)?;
+    if closed {
         return Ok(false);
     }
-    if step.next != *place {
+    if next != *place {
         return Ok(false);
     }
-    if step.found.is_none() {
-        return Ok(true);
+    match found {
+        Some(found) => Ok(place.is_root() || is_plain(found.mark)),
+        None => Ok(true),
     }
-    Ok(is_plain_at(stack, i, place))
 }
 
 // A whiteout in a directory of layer `i`.

@@ -21,7 +21,7 @@ mod subjects;
 mod tellings;
 
 pub use blobs::{BLOB_SPACE, Blob, BlobWork, blobs_in_order, finish_blobs};
-pub use contents::Content;
+pub use contents::{Content, contents_held};
 pub use findings::{Code, Finding};
 pub use finish::finish_check;
 pub use next_places::Place;

@@ -56,4 +56,14 @@ impl<'a> Place<'a> {
             PlaceNames::Turned(next) => next.copy(alloc),
         }
     }
+
+    /// The path, in a text of its own; fails only when out of memory.
+    pub fn path(&self, alloc: Global) -> Result<Path, AllocError>
+        ensures { IfOk result (λ path. path ≡ self.now) }
+    {
+        match &self.names {
+            PlaceNames::Own(path) => path.copy(alloc),
+            PlaceNames::Turned(next) => next.path(alloc),
+        }
+    }
 }

@@ -1,31 +1,34 @@
 ghost use Rattle.std.specs.Prelude.{◌≡◌, ◌<◌, ◌≤◌, Some, IfOk, length};
+ghost use Rattle.std.specs.Option.{option_map};
 ghost use Rattle.ovl_lookup.specs.Stacks.{all_layers};
 ghost use Rattle.ovl_inode.specs.declared.marks.Mark.TheVariants.{DirPlain};
-ghost use Rattle.ovl_manifest.specs.Sheets.{path_at};
+ghost use Rattle.ovl_layer.specs.Sheets.{path_at};
+ghost use Rattle.ovl_inode.specs.Kinds.{size_of};
 ghost use Rattle.ovl_lookup.specs.Walk.{walk, mark_at as the_mark};
+ghost use Rattle.ovl_lookup.specs.Passes.{IsMarked, step_of as the_step};
 ghost use Rattle.ovl_lookup.specs.Merged.{look as the_look};
-ghost use Rattle.ovl_lookup.specs.Sound.{is_plain as plain_test};
-ghost use Rattle.ovl_check.specs.Checks.{layer_at, first_below as the_first_below, layers_below, size_shown};
+ghost use Rattle.ovl_lookup.specs.Sights.{sight_of};
+ghost use Rattle.ovl_check.specs.Checks.{layer_at, first_below as the_first_below, layers_below};
 ghost use Rattle.ovl_check.specs.Facts.{data_size};
 
-use crate::marks::is_plain;
-use ovl_inode::{Kind, Mark, file_size};
-use ovl_lookup::{Look, Stack, Step};
-use ovl_manifest::Sheet;
+use ovl_inode::{Inode, Mark, file_size};
+use ovl_layer::Sheet;
+use ovl_lookup::{Sight, Stack, Trail, TrailStep};
 use ovl_names::Path;
 use std::alloc::{AllocError, Global};
 
-// The walk of a path in layer `i`.
-pub(crate) fn step_of(
+// The walk of a trail in layer `i`.
+pub(crate) fn step_of<'a>(
     alloc: Global,
-    stack: &Stack,
+    stack: &'a Stack,
     i: usize,
-    path: &Path,
-) -> Result<Step, AllocError>
+    trail: Trail<'a>,
+) -> Result<TrailStep<'a>, AllocError>
     requires { i < length (all_layers stack.now) }
-    ensures { IfOk result (λ step. step ≡ walk (layer_at stack.now i) path.now) }
+    ensures value { IfOk result (λ step. the_step step ≡ walk (layer_at stack.now i) trail.entry) }
+    ensures marked { IfOk result IsMarked }
 {
-    stack.own_walk(alloc, i, path)
+    stack.own_walk(alloc, i, trail)
 }
 
 // The first of the layers below layer `i`; below a data-only one there is none.
@@ -37,17 +40,17 @@ pub(crate) fn first_below(stack: &Stack, i: usize) -> usize
     if i < layers { i + 1 } else { layers }
 }
 
-// What the layers below layer `i` show at a path, by walks from their roots.
-pub(crate) fn look_below(
+// Of what kind it is that the layers below layer `i` show at a path, by walks from their roots.
+pub(crate) fn sight_below<'a>(
     alloc: Global,
-    stack: &Stack,
+    stack: &'a Stack,
     i: usize,
-    path: &Path,
-) -> Result<Look, AllocError>
+    path: Trail<'a>,
+) -> Result<Sight, AllocError>
     requires { i < length (all_layers stack.now) }
-    ensures { IfOk result (λ look. look ≡ the_look (layers_below stack.now i) path.now) }
+    ensures { IfOk result (λ sight. sight ≡ sight_of (the_look (layers_below stack.now i) path.entry)) }
 {
-    stack.look(alloc, first_below(stack, i), path)
+    stack.sight(alloc, first_below(stack, i), path)
 }
 
 // The size of the data of a metacopy file with this path as its redirect.
@@ -60,40 +63,18 @@ pub(crate) fn data_size_below(
     requires { i < length (all_layers stack.now) }
     ensures { IfOk result (λ size. size ≡ data_size (layers_below stack.now i) (Some path.now) path.now) }
 {
-    let look = look_below(alloc, stack, i, path)?;
-    if !look.is_nothing() {
-        return Ok(shown_size(&look));
-    }
-    match stack.full_file(path) {
-        Some(inode) => Ok(Some(file_size(inode))),
-        None => Ok(None),
-    }
+    let trail = Trail::of(alloc, &path.names())?;
+    let found = stack.data(alloc, first_below(stack, i), trail, Some(path))?;
+    Ok(size_in(found))
 }
 
-// The size of the file that is shown.
-fn shown_size(look: &Look) -> Option<u64>
-    ensures { result ≡ size_shown look.now }
+// The size of this file, if there is one.
+pub(crate) fn size_in(found: Option<&Inode>) -> Option<u64>
+    ensures { result ≡ option_map size_of (option_map (λ inode. inode.now) found.entry) }
 {
-    match look {
-        Look::Shown(inode) => match &inode.kind {
-            Kind::File { size, .. } => Some(*size),
-            _ => None,
-        },
-        _ => None,
-    }
-}
-
-// Whether layer `i` has a directory at a path that hides nothing; the root is one.
-pub(crate) fn is_plain_at(stack: &Stack, i: usize, path: &Path) -> bool
-    requires { i < length (all_layers stack.now) }
-    ensures { result ≡ plain_test (the_mark (layer_at stack.now i) path.now) }
-{
-    if path.is_empty() {
-        return true;
-    }
-    match stack.any_sheet(i).place(path) {
-        Some(place) => is_plain(place.mark()),
-        None => false,
+    match found {
+        Some(inode) => Some(file_size(inode)),
+        None => None,
     }
 }
 

@@ -2,8 +2,8 @@ ghost use Rattle.std.specs.Prelude.{◌≡◌, ◌++◌, IfOk, OnOk};
 ghost use Rattle.ovl_check.specs.Stated.{AreStated, name_in, names_in};
 
 use ovl_inode::{Digest, Inode, blob_of};
+use ovl_layer::Sheet;
 use ovl_lookup::Stack;
-use ovl_manifest::Sheet;
 use std::alloc::{AllocError, Global};
 
 /// The names of the blobs that the layers of a stack state, the data-only ones too: ascending, each once. Fails only when

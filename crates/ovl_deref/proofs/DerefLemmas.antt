@@ -20,7 +20,7 @@ use Rattle.ovl_inode.specs.Attributes.{Attributes, attribute, visible_attributes
 use Rattle.ovl_inode.specs.Inodes.{visible}
 use Rattle.ovl_inode.specs.Kinds.{size_of}
 use Rattle.ovl_inode.specs.Marks.{mark_of, is_directory, is_regular, is_whiteout, is_metacopy, is_metacopy_mark, has_attribute, has_opaque, has_metacopy, redirect_reading, directory_mark, metacopy_mark, is_data}
-use Rattle.ovl_manifest.specs.Layers.{Entries, entry_at, is_directory_at, IsLayer}
+use Rattle.ovl_layer.specs.Layers.{Entries, entry_at, is_directory_at, IsLayer}
 use Rattle.ovl_lookup.specs.declared.looks.Look.{Look}
 use Rattle.ovl_lookup.specs.declared.looks.Look.TheVariants.{Nothing, Shown, Broken}
 use Rattle.ovl_lookup.specs.Walk.{walk, walk_beyond, walk_to_file, nothing_found, found_at_end, mark_at, turn, is_shut}

@@ -7,7 +7,7 @@ use Rattle.ovl_names.specs.Order.{ascends}
 use Rattle.ovl_names.proofs.Ascending.{both}
 use Rattle.ovl_inode.specs.declared.inodes.Inode.{Inode}
 use Rattle.ovl_inode.specs.Marks.{is_directory, is_metacopy}
-use Rattle.ovl_manifest.specs.Layers.{Entries, Entry, entry_at, entry_cmp, entry_limit, is_within_limits, IsLayer}
+use Rattle.ovl_layer.specs.Layers.{Entries, Entry, entry_at, entry_cmp, entry_limit, is_within_limits, IsLayer}
 use Rattle.ovl_lookup.specs.Stacks.{StackView}
 use Rattle.ovl_lookup.specs.Merged.{look}
 use Rattle.ovl_lookup.specs.Sound.{IsSoundStack}

@@ -14,7 +14,7 @@ use Rattle.ovl_inode.specs.Marks.{is_directory, is_metacopy}
 use Rattle.ovl_inode.specs.Sound.{is_sound_inode, is_sound_kind}
 use Rattle.ovl_inode.proofs.AttributeLemmas.{are_attributes-visible, are_attributes-with}
 use Rattle.ovl_inode.proofs.SoundLaws.{sound_values, sound-with}
-use Rattle.ovl_manifest.specs.Layers.{Entries, Entry, entry_at, entry_cmp, entry_limit, is_directory_at, is_within_limits, has_parent, IsLayer}
+use Rattle.ovl_layer.specs.Layers.{Entries, Entry, entry_at, entry_cmp, entry_limit, is_directory_at, is_within_limits, has_parent, IsLayer}
 use Rattle.ovl_lookup.specs.declared.looks.Look.{Look}
 use Rattle.ovl_lookup.specs.declared.looks.Look.TheVariants.{Nothing, Shown, Broken}
 use Rattle.ovl_lookup.specs.Walk.{mark_at}

@@ -12,12 +12,12 @@ use Rattle.ovl_names.proofs.Ascending.{both, ascends-across, ascends-filter}
 use Rattle.ovl_inode.specs.declared.inodes.Inode.{Inode}
 use Rattle.ovl_inode.specs.Attributes.{Attributes, attribute_cmp, is_attribute, are_attributes, with_attribute, redirect_name, metacopy_name}
 use Rattle.ovl_inode.specs.Marks.{mark_of}
-use Rattle.ovl_manifest.specs.Layers.{Entries, IsLayer, entry_at, names_below}
-use Rattle.ovl_manifest.specs.LayerTrees.{entries_in, entries_under}
-use Rattle.ovl_manifest.proofs.NodeLemmas.{entry_at-under}
-use Rattle.ovl_manifest.specs.Sheets.{path_at, last_name}
-use Rattle.ovl_manifest.proofs.SheetLemmas.{entries_under-child, last_name-child}
-use Rattle.ovl_manifest.proofs.ValueLemmas.{put-last}
+use Rattle.ovl_layer.specs.Layers.{Entries, IsLayer, entry_at, names_below}
+use Rattle.ovl_layer.specs.LayerTrees.{entries_in, entries_under}
+use Rattle.ovl_layer.proofs.NodeLemmas.{entry_at-under}
+use Rattle.ovl_layer.specs.Sheets.{path_at, last_name}
+use Rattle.ovl_layer.proofs.SheetLemmas.{entries_under-child, last_name-child}
+use Rattle.ovl_inode.proofs.AttributeLemmas.{put-last}
 use Rattle.ovl_lookup.specs.Walk.{mark_at}
 use Rattle.ovl_lookup.specs.Stacks.{StackView}
 use Rattle.ovl_lookup.specs.Passes.{kids_along}

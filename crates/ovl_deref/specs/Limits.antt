@@ -1,7 +1,7 @@
 -- When a dereferenced layer passes the limits of a manifest.
 use Rattle.std.specs.Prelude.{◌≡◌, true, false}
 use Rattle.ovl_names.specs.Order.{ascends}
-use Rattle.ovl_manifest.specs.Layers.{Entries, entry_cmp}
+use Rattle.ovl_layer.specs.Layers.{Entries, entry_cmp}
 use Rattle.ovl_lookup.specs.Stacks.{StackView}
 use Rattle.ovl_lookup.specs.Words.{top_layer, lower_layers}
 use Rattle.ovl_rewrite.specs.Limits.{keeps_limits}

@@ -3,9 +3,9 @@ use Rattle.std.specs.Prelude.{◌≡◌, ◌<◌, true, false, Option, Some, Non
 use Rattle.std.specs.Option.{option_map}
 use Rattle.ovl_names.specs.Names.{PathName}
 use Rattle.ovl_names.specs.Paths.{PathNames, child_path}
-use Rattle.ovl_manifest.specs.Layers.{Entries}
-use Rattle.ovl_manifest.specs.LayerTrees.{entries_under}
-use Rattle.ovl_manifest.specs.Sheets.{path_at, last_name}
+use Rattle.ovl_layer.specs.Layers.{Entries}
+use Rattle.ovl_layer.specs.LayerTrees.{entries_under}
+use Rattle.ovl_layer.specs.Sheets.{path_at, last_name}
 use Rattle.ovl_lookup.specs.Stacks.{StackView}
 use Rattle.ovl_rewrite.specs.Directories.{NamedInode}
 use Rattle.ovl_deref.specs.declared.directories.OwnPlace.{OwnPlace}

@@ -2,8 +2,8 @@ ghost use Rattle.std.specs.Prelude.{◌≡◌, ◌<◌, ◌++◌, [], false, Som
 ghost use Rattle.std.specs.List.{cons_option};
 ghost use Rattle.ovl_names.specs.Paths.{child_path};
 ghost use Rattle.ovl_inode.specs.Marks.{mark_of as the_mark};
-ghost use Rattle.ovl_manifest.specs.Layers.{entry_at};
-ghost use Rattle.ovl_manifest.specs.Sheets.{path_at};
+ghost use Rattle.ovl_layer.specs.Layers.{entry_at};
+ghost use Rattle.ovl_layer.specs.Sheets.{path_at};
 ghost use Rattle.ovl_lookup.specs.DirViews.{IsViewOf};
 ghost use Rattle.ovl_lookup.specs.Sound.{is_moved as moved_test};
 ghost use Rattle.ovl_lookup.specs.Words.{top_layer, lower_layers};
@@ -94,11 +94,11 @@ fn own_inodes(
 }
 
 // Adds what becomes of the entry of a row, which lies directly in such a directory, by the view of that.
-fn push_own(
+fn push_own<'a>(
     alloc: Global,
-    stack: &Stack,
-    view: &mut Option<DirView>,
-    dir: &Path,
+    stack: &'a Stack,
+    view: &mut Option<DirView<'a>>,
+    dir: &'a Path,
     number: u32,
     inodes: &mut Vec<(Name, Inode)>,
 ) -> Result<(), AllocError>
@@ -124,11 +124,11 @@ fn push_own(
 }
 
 // What becomes of the entry at a name in a directory, by the view of that.
-fn dereferenced(
+fn dereferenced<'a>(
     alloc: Global,
-    stack: &Stack,
-    view: &mut Option<DirView>,
-    dir: &Path,
+    stack: &'a Stack,
+    view: &mut Option<DirView<'a>>,
+    dir: &'a Path,
     name: &Name,
     entry: &Found<'_>,
 ) -> Result<Inode, AllocError>

@@ -11,7 +11,7 @@ ghost use Rattle.ovl_deref.specs.Limits.{PassesLimit};
 use crate::works::DerefWork;
 use ovl_board::Parcel;
 use ovl_inode::Inode;
-use ovl_manifest::Layer;
+use ovl_layer::Layer;
 use ovl_names::Name;
 use ovl_rewrite::{RewriteFault, layer_told};
 use std::alloc::Global;

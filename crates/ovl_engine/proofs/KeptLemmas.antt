@@ -1,5 +1,5 @@
 -- New layers in place of the topmost keep the merged tree, where nothing is found to be at fault.
-use Rattle.std.proofs.Common.{◌≡◌, ℕ, zero, suc, ◌-◌, ◌<◌, ◌≤◌, Bool, true, false, cond, Some, None, Result, Ok, Err, List, [], ◌∷◌, ◌++◌, length, take, drop, map, refl, sym, ap, ◌∙◌, subst, append_assoc, arith, length-append, length-drop}
+use Rattle.std.proofs.Common.{◌≡◌, ℕ, zero, suc, ◌+◌, ◌-◌, ◌<◌, ◌≤◌, Bool, true, false, cond, Some, None, Result, Ok, Err, List, [], ◌∷◌, ◌++◌, length, take, drop, map, refl, sym, ap, ◌∙◌, subst, append_assoc, arith, length-append, length-drop}
 use Rattle.std.specs.Prelude.{◌||◌, ◌==◌, not}
 use Rattle.std.specs.List.{All, list_any, list_all}
 use Rattle.std.proofs.Math.Seq.{take-append_seam, drop-append_seam}
@@ -8,13 +8,13 @@ use Rattle.std.proofs.lemmas.List.Elements.{All-head, All-tail}
 use Rattle.std.proofs.lemmas.List.Folds.{sum_by-zero}
 use Rattle.ovl_names.specs.Paths.{PathNames}
 use Rattle.ovl_names.proofs.Ascending.{both}
-use Rattle.ovl_manifest.specs.Layers.{Entries, IsLayer}
+use Rattle.ovl_layer.specs.Layers.{Entries, IsLayer}
 use Rattle.ovl_manifest.specs.Manifest.{read_layer}
-use Rattle.ovl_manifest.specs.declared.faults.LayerFault.{LayerFault}
-use Rattle.ovl_lookup.specs.Stacks.{StackView, stack_with}
+use Rattle.ovl_layer.specs.declared.faults.LayerFault.{LayerFault}
+use Rattle.ovl_lookup.specs.Stacks.{StackView, from_layer, stack_with}
 use Rattle.ovl_lookup.specs.Merged.{look}
 use Rattle.ovl_lookup.specs.Sound.{IsSoundStack}
-use Rattle.ovl_lookup.specs.Words.{top_layer, lower_layers}
+use Rattle.ovl_lookup.specs.Words.{over, top_layer, lower_layers}
 use Rattle.ovl_check.specs.declared.findings.Finding.{Finding}
 use Rattle.ovl_check.specs.Codes.{is_fault, is_layer_fault, is_blob_fault}
 use Rattle.ovl_check.specs.Blobs.{BlobView}
@@ -25,17 +25,18 @@ use Rattle.ovl_deref.specs.Deref.{IsDereferenced}
 use Rattle.ovl_deref.specs.Laws.{DerefKeepsTree, DerefKeepsSoundness}
 use Rattle.ovl_merge.specs.Places.{merge_of}
 use Rattle.ovl_merge.specs.MergeDown.{IsMergedDown, merged_top}
-use Rattle.ovl_merge.specs.Laws.{MergeKeepsTree}
+use Rattle.ovl_merge.specs.Laws.{MergeKeepsTree, MergedLayerKeepsTree}
 use Rattle.ovl_engine.specs.declared.faults.EngineFault.{EngineFault}
 use Rattle.ovl_engine.specs.declared.faults.EngineFault.TheVariants.{Layer}
-use Rattle.ovl_engine.specs.declared.requests.Answer.{Answer}
-use Rattle.ovl_engine.specs.declared.requests.Command.{Command}
-use Rattle.ovl_engine.specs.Commands.{stands_alone}
+use Rattle.ovl_commands.specs.declared.requests.Answer.{Answer}
+use Rattle.ovl_commands.specs.declared.requests.Command.{Command}
+use Rattle.ovl_commands.specs.Commands.{stands_alone}
 use Rattle.ovl_engine.specs.FsckReports.{is_clean}
 use Rattle.ovl_engine.specs.Refusals.{layers_from, under_layer, stated_layers, first_unread}
 use Rattle.ovl_engine.specs.Requests.{Request}
 use Rattle.ovl_engine.specs.Outcomes.{stack_of, new_manifests, left_by_vacuum}
-use Rattle.ovl_engine.specs.Kept.{KeepsTreeOf, KeepsSoundness, FindsBlobsAlone, FindsNothing, IsQuietOf, IsRequestOf, manifests_after, after}
+use Rattle.ovl_engine.specs.Kept.{KeepsTree, KeepsTreeOf, KeepsSoundness, FindsBlobsAlone, FindsNothing, IsQuietOf, IsRequestOf, manifests_after, after}
+use Rattle.ovl_engine.specs.MergesDown.{KeepsTreeDown, count_in}
 
 -- ---- a stack without faults is sound
 
@@ -124,12 +125,15 @@ of_new k (text ∷ texts) (layer ∷ new) others rest reads below =
     let more : map read_layer texts ≡ map stated_as new = cc in
     in_front k text (texts ++ others) layer (new ++ rest) one (of_new (suc k) texts new others rest more below)
 
--- layers over data-only ones, and a stack with new layers in place of as many of the topmost
+-- layers over data-only ones, and a stack with new layers in place of so many of the topmost, and of as many
 abbrev under : List Entries → List Entries → StackView
 under data_only layers = record { layers = layers; data_only = data_only }
 
+abbrev pub renewed_from : ℕ → List Entries → StackView → StackView
+renewed_from d new stack = record stack { layers = new ++ drop d stack.layers }
+
 abbrev renewed : List Entries → StackView → StackView
-renewed new stack = record stack { layers = new ++ drop (length new) stack.layers }
+renewed new stack = renewed_from (length new) new stack
 
 -- a list of which the last ones are data-only
 split_here : (layers data_only : List Entries) (bottom : ℕ) → length (layers ++ data_only) - bottom ≡ length layers → stack_with (layers ++ data_only) bottom ≡ under data_only layers
@@ -137,8 +141,8 @@ split_here layers data_only bottom count =
     ap (λ (n : ℕ). under (drop n (layers ++ data_only)) (take n (layers ++ data_only))) count
     ∙ (λ j. under (drop-append_seam layers data_only j) (take-append_seam layers data_only j))
 
--- new layers in front of such a list leave the data-only ones what they are
-module _ (new layers : List Entries) (bottom : ℕ) (few : length new ≤ length layers - bottom) where
+-- new layers in front of such a list, in place of at least as many, leave the data-only ones what they are
+module _ (new layers : List Entries) (bottom d : ℕ) (few : length new ≤ d) (fits : d ≤ length layers - bottom) where
   abbrev ordinary : List Entries
   ordinary = take (length layers - bottom) layers
 
@@ -146,30 +150,31 @@ module _ (new layers : List Entries) (bottom : ℕ) (few : length new ≤ length
   data_only = drop (length layers - bottom) layers
 
   abbrev front : List Entries
-  front = new ++ drop (length new) ordinary
+  front = new ++ drop d ordinary
 
   number : length ordinary ≡ length layers - bottom
   number = omega (arith, length-take (length layers - bottom) layers)
 
-  parts : new ++ drop (length new) layers ≡ front ++ data_only
+  parts : new ++ drop d layers ≡ front ++ data_only
   parts =
-      ap (λ (ls : List Entries). new ++ drop (length new) ls) (sym (take-append-drop (length layers - bottom) layers))
-      ∙ (ap (λ (ls : List Entries). new ++ ls) (drop-append-le (length new) ordinary data_only (omega (arith, few, number)))
-      ∙ sym (append_assoc new (drop (length new) ordinary) data_only))
+      ap (λ (ls : List Entries). new ++ drop d ls) (sym (take-append-drop (length layers - bottom) layers))
+      ∙ (ap (λ (ls : List Entries). new ++ ls) (drop-append-le d ordinary data_only (omega (arith, fits, number)))
+      ∙ sym (append_assoc new (drop d ordinary) data_only))
 
   count : length (front ++ data_only) - bottom ≡ length front
   count =
       omega (
         arith,
         few,
+        fits,
         number,
         length-append front data_only,
-        length-append new (drop (length new) ordinary),
-        length-drop (length new) ordinary,
+        length-append new (drop d ordinary),
+        length-drop d ordinary,
         length-drop (length layers - bottom) layers,
       )
 
-  with_new : stack_with (new ++ drop (length new) layers) bottom ≡ renewed new (stack_with layers bottom)
+  with_new : stack_with (new ++ drop d layers) bottom ≡ renewed_from d new (stack_with layers bottom)
   with_new = ap (λ (ls : List Entries). stack_with ls bottom) parts ∙ split_here front data_only bottom count
 
 -- manifests that are read have layers
@@ -204,7 +209,7 @@ module _ (answer : Answer) (new : List Entries) (stack : StackView) (reads : map
   stack_after : stack_of (after request answer) ≡ renewed new stack
   stack_after =
       (λ j. stack_with (after_stated j) (cond (others j) 0 request.bottom))
-      ∙ (with_new new layers request.bottom few_stated
+      ∙ (with_new new layers request.bottom (length new) (omega arith) few_stated
       ∙ ap (renewed new) (sym of.same))
 
 pub keeps_tree : (answer : Answer) (new : List Entries) (stack : StackView) → map read_layer (new_manifests answer) ≡ map stated_as new → length new ≤ length stack.layers
@@ -220,6 +225,44 @@ pub keeps_soundness : (answer : Answer) (new : List Entries) (stack : StackView)
     → IsSoundStack (renewed new stack) → (what : Command) → stands_alone what ≡ false → KeepsSoundness what stack answer
 keeps_soundness answer new stack reads few sound what others request asked of =
     subst IsSoundStack (sym (stack_after answer new stack reads few request (ap stands_alone asked ∙ others) of)) sound
+
+-- ---- new layers in place of more
+
+module _ (answer : Answer) (new : List Entries) (stack : StackView) (reads : map read_layer (new_manifests answer) ≡ map stated_as new) (d : ℕ) (few : length new ≤ d) (fits : d ≤ length stack.layers) (request : Request) (of : IsRequestOf stack request) where
+  abbrev given : List Entries
+  given = stated_layers request.manifests
+
+  further_read : layers_from 0 (new_manifests answer ++ drop d request.manifests) ≡ Ok (new ++ drop d given)
+  further_read =
+      of_new 0 (new_manifests answer) new (drop d request.manifests) (drop d given) reads
+      (λ j. of_last j d 0 request.manifests given (all_stated request.manifests of.read))
+
+  further_stated : stated_layers (new_manifests answer ++ drop d request.manifests) ≡ new ++ drop d given
+  further_stated = rw (further_read, stated_layers) refl
+
+  further_stack : stack_with (stated_layers (new_manifests answer ++ drop d request.manifests)) request.bottom ≡ renewed_from d new stack
+  further_stack =
+      ap (λ (ls : List Entries). stack_with ls request.bottom) further_stated
+      ∙ (with_new new given request.bottom d few
+      (omega (arith, fits, ap (λ (s : StackView). length s.layers) of.same, length-take (length given - request.bottom) given))
+      ∙ ap (renewed_from d new) (sym of.same))
+
+  keeps_further : ((path : PathNames) → look (renewed_from d new stack) path ≡ look stack path)
+      → KeepsTree request (record request { manifests = new_manifests answer ++ drop d request.manifests })
+  keeps_further same = record {
+    read = rw (further_read, first_unread) refl;
+    same = λ path.
+        ap (λ (s : StackView). look s path) further_stack
+        ∙ (same path ∙ ap (λ (s : StackView). look s path) of.same);
+  }
+
+pub keeps_down : (left : ℕ) (answer : Answer) (new : List Entries) (stack : StackView) → map read_layer (new_manifests answer) ≡ map stated_as new
+    → 0 < left → length new ≤ length stack.layers + 1 - left
+    → ((path : PathNames) → look (renewed_from (length stack.layers + 1 - left) new stack) path ≡ look stack path) → KeepsTreeDown left stack answer
+keeps_down left answer new stack reads some few same request of =
+    let number : length stack.layers ≡ count_in request = ap (λ (s : StackView). length s.layers) of.same in
+    keeps_further answer new stack reads (count_in request + 1 - left) (omega (arith, few, number)) (omega (arith, some, number)) request of
+    (subst (λ (n : ℕ). (path : PathNames) → look (renewed_from (n + 1 - left) new stack) path ≡ look stack path) number same)
 
 -- ---- new layers in place of all
 
@@ -297,6 +340,14 @@ module _ (data_only : List Entries) where
   merge_same_of law (top ∷ next ∷ rest) several each sound lower is_layer is path =
       law (merge_of (under data_only (top ∷ next ∷ rest))) lower each sound is_layer is path
 
+  merged_same_of : MergedLayerKeepsTree → (layers : List Entries) → 1 < length layers → All IsLayer layers → IsSoundStack (under data_only layers) → (lower : Entries) → IsLayer lower
+      → IsMergedDown (merge_of (under data_only layers)) lower
+      → (path : PathNames) → look (under data_only (lower ∷ drop 2 layers)) path ≡ look (under data_only layers) path
+  merged_same_of law [] several each sound lower is_layer is path = absurd (omega (arith, several))
+  merged_same_of law (top ∷ []) several each sound lower is_layer is path = absurd (omega (arith, several))
+  merged_same_of law (top ∷ next ∷ rest) several each sound lower is_layer is path =
+      law (merge_of (under data_only (top ∷ next ∷ rest))) lower each sound is_layer is path
+
 module _ (stack : StackView) (each : All IsLayer stack.layers) where
   pub vacuum_same : VacuumKeepsTree → 0 < length stack.layers → (path : PathNames) → look (renewed (left_by_vacuum stack ∷ []) stack) path ≡ look stack path
   vacuum_same law some path = vacuum_same_of stack.data_only law stack.layers some each path
@@ -314,3 +365,7 @@ module _ (stack : StackView) (each : All IsLayer stack.layers) where
   pub merge_same : MergeKeepsTree → 1 < length stack.layers → IsSoundStack stack → (lower : Entries) → IsLayer lower → IsMergedDown (merge_of stack) lower
       → (path : PathNames) → look (renewed (merged_top (merge_of stack) ∷ lower ∷ []) stack) path ≡ look stack path
   merge_same law several sound lower is_layer is path = merge_same_of stack.data_only law stack.layers several each sound lower is_layer is path
+
+  pub merged_same : MergedLayerKeepsTree → 1 < length stack.layers → IsSoundStack stack → (lower : Entries) → IsLayer lower → IsMergedDown (merge_of stack) lower
+      → (path : PathNames) → look (over lower (from_layer 2 stack)) path ≡ look stack path
+  merged_same law several sound lower is_layer is path = merged_same_of stack.data_only law stack.layers several each sound lower is_layer is path

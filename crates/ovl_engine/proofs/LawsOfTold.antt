@@ -1,5 +1,5 @@
 -- What comes of a command over contents that are told.
-use Rattle.std.proofs.Common.{◌≡◌, ℕ, Bool, true, false, Option, Result, Ok, Err, List, [], inr, refl, subst, sym}
+use Rattle.std.proofs.Common.{◌≡◌, ℕ, Bool, true, false, Option, Result, Ok, Err, List, [], inr, refl, subst, sym, ap, ◌∙◌}
 use Rattle.std.proofs.lemmas.List.Elements.{All-nil}
 use Rattle.ovl_names.specs.Order.{ascends}
 use Rattle.ovl_lookup.specs.Stacks.{StackView}
@@ -9,15 +9,17 @@ use Rattle.ovl_check.specs.declared.contents.Content.{Content}
 use Rattle.ovl_check.specs.Blobs.{BlobView, digest_cmp}
 use Rattle.ovl_check.specs.Contents.{contents_of}
 use Rattle.ovl_check.specs.Findings.{findings}
-use Rattle.ovl_engine.specs.declared.requests.Command.{Command}
-use Rattle.ovl_engine.specs.declared.requests.Answer.{Answer}
+use Rattle.ovl_commands.specs.declared.requests.Command.{Command}
+use Rattle.ovl_commands.specs.declared.requests.Command.TheVariants.{Merge}
+use Rattle.ovl_commands.specs.declared.requests.Answer.{Answer}
 use Rattle.ovl_engine.specs.declared.faults.EngineFault.{EngineFault}
 use Rattle.ovl_engine.specs.declared.questions.Question.{Question}
-use Rattle.ovl_engine.specs.Commands.{checks}
+use Rattle.ovl_commands.specs.Commands.{checks}
 use Rattle.ovl_engine.specs.Requests.{Request}
 use Rattle.ovl_engine.specs.Outcomes.{IsAccepted, IsRun, stack_of}
 use Rattle.ovl_engine.specs.Questions.{AreAsked, IsQuestionOf}
 use Rattle.ovl_engine.specs.Told.{AreTold, IsOutcomeTold, IsRunTold, MayRefuseTold}
+use Rattle.ovl_engine.specs.MergesDown.{IsAcceptedDown, IsOutcomeDownTold, IsRunDown, IsRunDownTold}
 
 module _ (may_be : List ℕ → Option (List ℕ) → Type 0) where
   -- of no names nothing is told
@@ -50,6 +52,24 @@ module _ (may_be : List ℕ → Option (List ℕ) → Type 0) where
       (subst (λ (what : Command). IsRunTold what question.stack may_be may_refuse result) of.what run))
     where
       by : (told : Result Answer EngineFault) → IsRunTold request.what (stack_of request) may_be may_refuse told → IsOutcomeTold request may_be may_refuse told
+      by (Ok answer) run = (accepted, run)
+      by (Err fault) run = inr (accepted, run)
+
+  -- and of its merges until so many layers are left
+  pub outcome_down_told : (left : ℕ) (request : Request) (question : Question) (may_refuse : Piece → Type 0) (told : List Content) (result : Result Answer EngineFault)
+      → request.what ≡ Merge → IsAcceptedDown left request → IsQuestionOf request question → AreTold may_be question.names.items told
+      → ((blobs : List BlobView) → contents_of blobs ≡ told → IsRunDown left blobs question.stack (λ one. MayRefuseTold Merge one may_refuse) result)
+      → IsOutcomeDownTold left request may_be may_refuse result
+  outcome_down_told left request question may_refuse told result merges accepted of are run =
+      by result (subst (λ (stack : StackView). IsRunDownTold left stack may_be may_refuse result) of.stack.same is)
+    where
+      checking : checks question.what ≡ true
+      checking = ap checks (of.what ∙ merges)
+
+      is : IsRunDownTold left question.stack may_be may_refuse result
+      is = (are.blobs, ((λ name stated. are.each name (((of.names.stated checking).same name).1 stated)), run are.blobs (sym are.contents)))
+
+      by : (one : Result Answer EngineFault) → IsRunDownTold left (stack_of request) may_be may_refuse one → IsOutcomeDownTold left request may_be may_refuse one
       by (Ok answer) run = (accepted, run)
       by (Err fault) run = inr (accepted, run)
 

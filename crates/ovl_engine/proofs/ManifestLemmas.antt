@@ -5,10 +5,11 @@ use Rattle.std.specs.Iterator.{Yields}
 use Rattle.std.specs.Vec.Iter.{into_iter_items, into_iter_steps}
 use Rattle.std.specs.declared.vec.IntoIter.{IntoIter}
 use Rattle.std.proofs.lemmas.List.{take-append-drop, map-append, length-map}
-use Rattle.ovl_manifest.specs.Layers.{Entries}
-use Rattle.ovl_manifest.specs.Manifest.{read_layer, IsFaultOf}
-use Rattle.ovl_manifest.specs.declared.faults.LayerFault.{LayerFault}
-use Rattle.ovl_manifest.specs.declared.faults.LayerFault.TheVariants.{NotJson, Shape, Version, Count, Entry, Order, NoParent, Root, Escaped, Memory as UnreadMemory}
+use Rattle.ovl_layer.specs.Layers.{Entries}
+use Rattle.ovl_manifest.specs.Manifest.{read_layer}
+use Rattle.ovl_layer.specs.Entries.{IsFaultOf}
+use Rattle.ovl_layer.specs.declared.faults.LayerFault.{LayerFault}
+use Rattle.ovl_layer.specs.declared.faults.LayerFault.TheVariants.{NotJson, Shape, Version, Count, Entry, Order, NoParent, Root, Escaped, Memory as UnreadMemory}
 use Rattle.ovl_engine.specs.declared.faults.EngineFault.{EngineFault}
 use Rattle.ovl_engine.specs.declared.faults.EngineFault.TheVariants.{Workers, Layers, Layer, BlobOrder, BlobSize, NoLower, Faulty, LimitOut, Run, Memory, DataLayers}
 use Rattle.ovl_engine.specs.Refusals.{layers_from, under_layer, unread_layer, stated_layers, first_unread, IsUnread}

@@ -7,12 +7,12 @@ use Rattle.ovl_pool.specs.declared.runs.RunFault.{RunFault}
 use Rattle.ovl_pool.specs.declared.runs.RunFault.TheVariants.{Workers, Gate, Board, Memory}
 use Rattle.ovl_pool.specs.Runs.{IsBoardMemory}
 use Rattle.ovl_check.specs.declared.findings.Finding.{Finding}
-use Rattle.ovl_engine.specs.declared.requests.Command.{Command}
-use Rattle.ovl_engine.specs.declared.requests.Answer.{Answer}
+use Rattle.ovl_commands.specs.declared.requests.Command.{Command}
+use Rattle.ovl_commands.specs.declared.requests.Answer.{Answer}
 use Rattle.ovl_engine.specs.declared.faults.EngineFault.{EngineFault}
 use Rattle.ovl_engine.specs.declared.faults.EngineFault.TheVariants.{Workers as NoWorkers, Layers, Layer, BlobOrder, BlobSize, NoLower, Faulty, LimitOut, Run, Memory as WantsMemory, DataLayers}
 use Rattle.ovl_engine.specs.Refusals.{failed_run}
-use Rattle.ovl_engine.specs.Commands.{makes_layers}
+use Rattle.ovl_commands.specs.Commands.{makes_layers}
 use Rattle.ovl_engine.specs.Outcomes.{IsFailedRun, IsFailedWalk, IsFailure, IsUnclean, IsRun}
 
 module _ (refused : Type 0) where

@@ -6,7 +6,7 @@ use Rattle.ovl_check.specs.declared.findings.Code.{Code}
 use Rattle.ovl_check.specs.declared.findings.Code.TheVariants.{RedirectForm, RedirectLost, RedirectKind, RedirectDouble, RedirectOpen, DataMissing, DataSize, BlobMissing, BlobSize, BlobDigest, OrphanWhiteout, WhiteoutInOpaque, WhiteoutUnmarked, ImpureMissing, MarkIgnored}
 use Rattle.ovl_check.specs.declared.findings.Finding.{Finding}
 use Rattle.ovl_check.specs.Codes.{is_fault}
-use Rattle.ovl_engine.specs.Reports.{spaced}
+use Rattle.ovl_reports.specs.Reports.{spaced}
 
 -- the word of a code
 abbrev pub code_word : Code → List ℕ

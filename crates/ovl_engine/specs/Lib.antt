@@ -1,15 +1,9 @@
-pub mod Commands
-pub mod Directories
 pub mod FsckReports
 pub mod Kept
-pub mod LayerReports
-pub mod Listings
+pub mod MergesDown
 pub mod NamedBlobs
 pub mod Outcomes
 pub mod Questions
 pub mod Refusals
-pub mod Reports
 pub mod Requests
-pub mod Shares
 pub mod Told
-pub mod VacuumReports

@@ -1,11 +1,9 @@
 -- What a command answers.
 use Rattle.std.specs.Prelude.{◌≡◌, ◌⊎◌, ◌<◌, ⊤, ℕ, true, false, Some, None, Result, Ok, Err, List, [], ◌∷◌, length, map}
 use Rattle.ovl_names.specs.Paths.{PathNames}
-use Rattle.ovl_manifest.specs.Layers.{Entries, IsLayer}
+use Rattle.ovl_layer.specs.Layers.{Entries, IsLayer}
 use Rattle.ovl_manifest.specs.Text.{manifest_text}
-use Rattle.ovl_lookup.specs.declared.looks.Look.{Look}
 use Rattle.ovl_lookup.specs.Stacks.{StackView, all_layers, stack_with}
-use Rattle.ovl_lookup.specs.Merged.{IsMerged}
 use Rattle.ovl_lookup.specs.Words.{top_layer, lower_layers}
 use Rattle.ovl_board.specs.declared.pieces.Piece.{Piece}
 use Rattle.ovl_pool.specs.declared.runs.RunFault.{RunFault}
@@ -27,29 +25,23 @@ use Rattle.ovl_merge.specs.Limits.{PassesLimit as PassesLimitMerged}
 use Rattle.ovl_flatten.specs.Flatten.{IsFlattened}
 use Rattle.ovl_flatten.specs.Directories.{flatten_kids, flatten_root}
 use Rattle.ovl_flatten.specs.Limits.{PassesLimit as PassesLimitFlattened}
-use Rattle.ovl_engine.specs.Reports.{show_report}
+use Rattle.ovl_reports.specs.Listings.{IsShowReport}
 use Rattle.ovl_engine.specs.FsckReports.{fsck_report, is_clean}
-use Rattle.ovl_engine.specs.VacuumReports.{vacuum_report}
-use Rattle.ovl_engine.specs.LayerReports.{layer_report}
-use Rattle.ovl_engine.specs.Directories.{show_kids, show_root}
-use Rattle.ovl_engine.specs.declared.requests.Command.{Command}
-use Rattle.ovl_engine.specs.declared.requests.Command.TheVariants.{Show, Fsck, Vacuum, Deref, Merge, Flatten}
-use Rattle.ovl_engine.specs.declared.requests.Answer.{Answer}
+use Rattle.ovl_reports.specs.VacuumReports.{vacuum_report}
+use Rattle.ovl_reports.specs.LayerReports.{layer_report}
+use Rattle.ovl_reports.specs.Directories.{show_kids, show_root}
+use Rattle.ovl_commands.specs.declared.requests.Command.{Command}
+use Rattle.ovl_commands.specs.declared.requests.Command.TheVariants.{Show, Fsck, Vacuum, Deref, Merge, Flatten}
+use Rattle.ovl_commands.specs.declared.requests.Answer.{Answer}
 use Rattle.ovl_engine.specs.declared.faults.EngineFault.{EngineFault}
 use Rattle.ovl_engine.specs.declared.faults.EngineFault.TheVariants.{Workers, Layers, Layer, BlobOrder, BlobSize, NoLower, Faulty, LimitOut, Run, Memory, DataLayers}
-use Rattle.ovl_engine.specs.Commands.{checks, makes_layers}
+use Rattle.ovl_commands.specs.Commands.{checks, makes_layers}
 use Rattle.ovl_engine.specs.Requests.{Request}
 use Rattle.ovl_engine.specs.Refusals.{stated_layers, first_refusal}
 
 -- the stack of the layers that a request's manifests state
 abbrev pub stack_of : Request → StackView
 stack_of request = stack_with (stated_layers request.manifests) request.bottom
-
--- the report of `show` over this stack is that of its merged tree
-pub record IsShowReport (stack : StackView) (report : List ℕ) : Type 0 where
-  pub looks : List (PathNames × Look)
-  pub merged : IsMerged stack looks
-  pub printed : report ≡ show_report looks
 
 -- the topmost layer without what changes nothing, and the paths of that
 abbrev pub left_by_vacuum : StackView → Entries

@@ -2,9 +2,9 @@
 use Rattle.std.specs.Prelude.{◌≡◌, ℕ, true, false, List, []}
 use Rattle.ovl_lookup.specs.Stacks.{StackView}
 use Rattle.ovl_check.specs.Stated.{AreStated}
-use Rattle.ovl_engine.specs.declared.requests.Command.{Command}
+use Rattle.ovl_commands.specs.declared.requests.Command.{Command}
 use Rattle.ovl_engine.specs.declared.questions.Question.{Question}
-use Rattle.ovl_engine.specs.Commands.{checks}
+use Rattle.ovl_commands.specs.Commands.{checks}
 use Rattle.ovl_engine.specs.Requests.{Request}
 use Rattle.ovl_engine.specs.Kept.{IsRequestOf}
 

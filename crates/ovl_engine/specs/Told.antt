@@ -10,12 +10,12 @@ use Rattle.ovl_check.specs.Conditions.{find_blob}
 use Rattle.ovl_check.specs.Contents.{contents_of, contents_ascend}
 use Rattle.ovl_check.specs.Findings.{findings}
 use Rattle.ovl_check.specs.Stated.{IsStated}
-use Rattle.ovl_engine.specs.declared.requests.Command.{Command}
-use Rattle.ovl_engine.specs.declared.requests.Answer.{Answer}
+use Rattle.ovl_commands.specs.declared.requests.Command.{Command}
+use Rattle.ovl_commands.specs.declared.requests.Answer.{Answer}
 use Rattle.ovl_engine.specs.declared.faults.EngineFault.{EngineFault}
 use Rattle.ovl_engine.specs.declared.contents.CommandFault.{CommandFault}
 use Rattle.ovl_engine.specs.declared.contents.CommandFault.TheVariants.{Engine, Contents as ContentsFault}
-use Rattle.ovl_engine.specs.Commands.{checks}
+use Rattle.ovl_commands.specs.Commands.{checks}
 use Rattle.ovl_engine.specs.Requests.{Request}
 use Rattle.ovl_engine.specs.Outcomes.{IsAccepted, IsRefusal, IsRun, MayRefuseLayers, MayRefuseOwn, stack_of}
 

@@ -66,8 +66,8 @@ pub(crate) fn findings_by<G: Gate + Sync, R: Threads + Wait + Sync>(
     Ok(found)
 }
 
-// The names of the blobs whose bytes have another digest.
-fn wrong_blobs<G: Gate + Sync, R: Threads + Wait + Sync>(
+/// The names of the blobs whose bytes have another digest.
+pub(crate) fn wrong_blobs<G: Gate + Sync, R: Threads + Wait + Sync>(
     team: &Team<'_, G, R>,
     blobs: &[Blob],
 ) -> Result<Vec<Digest>, EngineFault>

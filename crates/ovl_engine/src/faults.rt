@@ -4,8 +4,8 @@ ghost use Rattle.ovl_engine.specs.Refusals.{unread_layer, failed_run, failed_der
 
 use crate::commands::BLOB_LIMIT;
 use ovl_board::{BoardFault, WORKER_LIMIT};
+use ovl_layer::LayerFault;
 use ovl_lookup::LAYER_LIMIT;
-use ovl_manifest::LayerFault;
 use ovl_merge::MergeFault;
 use ovl_pool::RunFault;
 use ovl_rewrite::RewriteFault;

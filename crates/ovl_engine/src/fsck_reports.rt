@@ -3,10 +3,9 @@ ghost use Rattle.std.specs.List.{flat_map};
 ghost use Rattle.ovl_names.specs.Escapes.{shown_path};
 ghost use Rattle.ovl_engine.specs.FsckReports.{code_word as the_code_word, weight_word as the_weight_word, finding_line, fault_count, note_count, is_clean as clean_test, fsck_report};
 
-use crate::reports::{push_name, push_number, push_number_word, push_word};
-use crate::shares::{joined, share_of};
 use ovl_check::{Code, Finding};
 use ovl_names::{Names, Path};
+use ovl_reports::{joined, push_name, push_number, push_number_word, push_word, share_of};
 use std::alloc::{AllocError, Global};
 use std::marker::Model;
 use std::thread::{Threads, map_chunks};
@@ -87,7 +86,7 @@ struct Above<'a> {
 impl<'a> Model for Above<'a> {
     ghost use Rattle.std.specs.Prelude.{◌≡◌, string_bytes};
     ghost use Rattle.ovl_names.specs.Paths.{PathNames};
-    ghost use Rattle.ovl_engine.specs.Reports.{shown_names};
+    ghost use Rattle.ovl_reports.specs.Reports.{shown_names};
 
     ghost Value = { PathNames };
 

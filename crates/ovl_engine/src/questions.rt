@@ -14,16 +14,16 @@ ghost use Rattle.ovl_engine.specs.Refusals.{is_outside};
 ghost use Rattle.ovl_engine.specs.Outcomes.{IsAccepted, IsRefusal, IsRun, IsFailedWalk, MayRefuseLayers};
 ghost use Rattle.ovl_engine.specs.Told.{AreTold, IsOutcomeOver, MayRefuseTold};
 ghost use Rattle.ovl_engine.specs.Questions.{AreAsked, IsQuestionOf};
-ghost use Rattle.ovl_engine.specs.Commands.{checks as checks_test, makes_layers, stays_sound, stands_alone, wants_lower};
+ghost use Rattle.ovl_commands.specs.Commands.{checks as checks_test, makes_layers, stays_sound, stands_alone, wants_lower};
 ghost use Rattle.ovl_engine.specs.Kept.{KeepsTree, KeepsTreeOf, KeepsSoundness, HasSoundStack, IsQuiet, IsQuietOf, after};
 
 use crate::checks::findings_by;
 use crate::commands::{answer, checks, stack_for};
 use crate::contents::{CommandFault, Contents};
 use crate::faults::EngineFault;
-use crate::requests::{Answer, Command};
 use crate::teams::Team;
 use ovl_check::{Content, Finding, stated_names};
+use ovl_commands::{Answer, Command};
 use ovl_inode::Digest;
 use ovl_lookup::Stack;
 use ovl_pool::Gate;

@@ -7,10 +7,11 @@ ghost use Rattle.ovl_engine.specs.Outcomes.{IsUnclean, IsRewritten, new_manifest
 
 use crate::faults::EngineFault;
 use crate::fsck_reports::{fsck_report_of, is_clean};
-use crate::requests::Answer;
-use crate::shares::side_by_side;
 use ovl_check::Finding;
-use ovl_manifest::{Layer, write_layer};
+use ovl_commands::Answer;
+use ovl_layer::Layer;
+use ovl_manifest::write_layer;
+use ovl_reports::side_by_side;
 use std::alloc::{AllocError, Global};
 use std::thread::Threads;
 

@@ -4,8 +4,9 @@ ghost use Rattle.ovl_lookup.specs.Stacks.{layer_limit, stack_with};
 ghost use Rattle.ovl_engine.specs.Refusals.{layers_from, stated_layers, first_unread, IsUnread};
 
 use crate::faults::EngineFault;
+use ovl_layer::Sheet;
 use ovl_lookup::Stack;
-use ovl_manifest::{Sheet, read_sheet};
+use ovl_manifest::read_sheet;
 use std::alloc::Global;
 use std::convert::AsSlice;
 use std::thread::{Threads, for_each_mut, join};

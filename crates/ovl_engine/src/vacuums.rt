@@ -1,22 +1,21 @@
 ghost use Rattle.std.specs.Prelude.{◌≡◌, ◌<◌, ◌≤◌, true, IfOk, MatchResult};
 ghost use Rattle.ovl_board.specs.Machine.{worker_limit};
 ghost use Rattle.ovl_lookup.specs.Sound.{IsSoundStack};
-ghost use Rattle.ovl_engine.specs.declared.requests.Command.TheVariants.{Vacuum};
+ghost use Rattle.ovl_commands.specs.declared.requests.Command.TheVariants.{Vacuum};
 ghost use Rattle.ovl_engine.specs.Outcomes.{IsFailedWalk, IsRun, MayRefuseOwn, left_by_vacuum, removed_by_vacuum};
 ghost use Rattle.ovl_engine.specs.FsckReports.{is_clean};
-ghost use Rattle.ovl_engine.specs.VacuumReports.{vacuum_report};
+ghost use Rattle.ovl_reports.specs.VacuumReports.{vacuum_report};
 ghost use Rattle.ovl_engine.specs.Kept.{KeepsTreeOf, KeepsSoundness};
 
 use crate::faults::EngineFault;
-use crate::layer_reports::entry_count;
-use crate::requests::Answer;
 use crate::rewrites::{expect_clean, rewritten};
 use crate::stacks::let_go;
 use crate::teams::Team;
-use crate::vacuum_reports::vacuum_report_of;
 use ovl_check::Finding;
+use ovl_commands::Answer;
 use ovl_lookup::Stack;
 use ovl_pool::Gate;
+use ovl_reports::{entry_count, vacuum_report_of};
 use ovl_vacuum::laws::{vacuum_keeps_soundness, vacuum_keeps_the_tree};
 use ovl_vacuum::{VacuumDone, VacuumWork, finish_vacuum};
 use std::alloc::AllocError;

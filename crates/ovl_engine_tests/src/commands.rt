@@ -1,7 +1,6 @@
 //! Commands by numbers of workers and layers.
 
-use crate::answers::blobs_of;
-use crate::samples::{manifest_of, manifests_of};
+use crate::samples::{blobs_of, manifest_of, manifests_of};
 use crate::tables::{parts_of, same};
 use ovl_engine::{Answer, Command, EngineFault, command};
 use ovl_pool::OpenGate;
@@ -28,7 +27,7 @@ pub(crate) fn text_of(alloc: Global, fault: Option<EngineFault>) -> Result<Strin
     }
 }
 
-// Numbers of layers and workers, and the fault that they are.
+// Numbers of layers and workers with blobs, and the fault that they are.
 const LIMITS: &str = "\
 1 0 -> workers must be 1 to 64
 1 64 -> none
@@ -37,6 +36,9 @@ const LIMITS: &str = "\
 128 2 -> none
 129 2 -> layers must be 1 to 128
 0 65 -> workers must be 1 to 64
+1 2 b a -> none
+1 2 ab ab -> blobs out of order
+1 2 ab abc=abd -> blobs out of order
 ";
 
 // So many manifests of a root alone.
@@ -48,10 +50,12 @@ fn roots(alloc: Global, count: usize) -> Result<Vec<Vec<u8>>, Fail> {
     Ok(manifests)
 }
 
-// How a command of numbers of layers and workers ends.
-fn ended<R: Threads + Wait + Sync>(rt: &R, alloc: Global, numbers: &str) -> Result<String, Fail> {
-    let (layers, workers) = numbers.split_once(' ').unwrap_or((numbers, ""));
+// How a command of numbers of layers and workers, and of blobs, ends.
+fn ended<R: Threads + Wait + Sync>(rt: &R, alloc: Global, given: &str) -> Result<String, Fail> {
+    let (layers, more) = given.split_once(' ').unwrap_or((given, ""));
+    let (workers, words) = more.split_once(' ').unwrap_or((more, ""));
     let manifests = roots(alloc, layers.parse()?)?;
+    let blobs = blobs_of(alloc, words)?;
     let workers = workers.parse()?;
     let ended = command(
         rt,
@@ -59,7 +63,7 @@ fn ended<R: Threads + Wait + Sync>(rt: &R, alloc: Global, numbers: &str) -> Resu
         Command::Show,
         &manifests,
         0,
-        &[],
+        &blobs,
         workers,
         &OpenGate,
     );
@@ -67,10 +71,10 @@ fn ended<R: Threads + Wait + Sync>(rt: &R, alloc: Global, numbers: &str) -> Resu
 }
 
 #[test]
-fn there_are_1_to_64_workers_and_1_to_128_layers(rt: HostRuntime) -> Result<(), Fail> {
+fn numbers_and_orders_are_refused(rt: HostRuntime) -> Result<(), Fail> {
     for row in LIMITS.lines() {
-        let (numbers, wanted) = parts_of(row);
-        same(row, ended(&rt, rt.alloc(), numbers)?.as_str(), wanted)?;
+        let (given, wanted) = parts_of(row);
+        same(row, ended(&rt, rt.alloc(), given)?.as_str(), wanted)?;
     }
     Ok(())
 }

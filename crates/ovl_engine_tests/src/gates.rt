@@ -1,10 +1,8 @@
 //! Gates that look how workers share the pieces of a work.
 ghost use Rattle.std.specs.Prelude.{◌≡◌, []};
 
-use crate::answers::blobs_of;
 use crate::commands::{of_forty, text_of};
-use crate::rows::command_of_word;
-use crate::samples::{manifests_of, stack_of};
+use crate::samples::{blobs_of, manifests_of, stack_of};
 use crate::tables::{parts_of, same};
 use ovl_board::{BoardFault, Piece};
 use ovl_engine::{Command, EngineFault, ShowWork, command};
@@ -143,6 +141,18 @@ deref of dir /p redirect=/x, whiteout /x | dir /x, dir /x/a, dir /x/b -> 0 /p/a 
 flatten of dir /p redirect=/x, whiteout /x | dir /x, dir /x/a, dir /x/b -> 0 /p/a /p/b
 ";
 
+fn command_of_word(word: &str) -> Result<Command, Fail> {
+    match word {
+        "show" => Ok(Command::Show),
+        "fsck" => Ok(Command::Fsck),
+        "vacuum" => Ok(Command::Vacuum),
+        "deref" => Ok(Command::Deref),
+        "merge" => Ok(Command::Merge),
+        "flatten" => Ok(Command::Flatten),
+        _ => Err(Fail::new("no command has this word")),
+    }
+}
+
 // How a command ends of which the pieces are to meet.
 fn met<R: Threads + Wait + Sync>(
     rt: &R,
@@ -162,6 +172,28 @@ fn two_workers_of_a_command_meet_and_one_is_refused(rt: HostRuntime) -> Result<(
     for row in SHARED.lines() {
         same(row, met(&rt, rt.alloc(), row, 2)?.as_str(), "none")?;
         same(row, met(&rt, rt.alloc(), row, 1)?.as_str(), "gate")?;
+    }
+    Ok(())
+}
+
+// As many workers as there are pieces, and behind them a row as above.
+const CREWS: &str = "\
+4 show of dir /a, dir /b, dir /c, dir /d | root -> 0 /a /b /c /d
+4 fsck of root | dir /a, dir /b, dir /c, dir /d -> 1 /a /b /c /d
+4 merge of root | dir /a, dir /b, dir /c, dir /d -> 0 /a /b /c /d
+12 show of dir /a, dir /b, dir /c, dir /d, dir /e, dir /f, dir /g, dir /h, dir /i, dir /j, dir /k, dir /l \
+-> 0 /a /b /c /d /e /f /g /h /i /j /k /l
+";
+
+#[test]
+fn all_workers_of_a_command_meet(rt: HostRuntime) -> Result<(), Fail> {
+    for row in CREWS.lines() {
+        let (workers, row) = row.split_once(' ').unwrap_or((row, ""));
+        same(
+            row,
+            met(&rt, rt.alloc(), row, workers.parse()?)?.as_str(),
+            "none",
+        )?;
     }
     Ok(())
 }
@@ -270,6 +302,7 @@ const RUNS: &str = "\
 4 /a /b /c /d -> 5: 5 5 5 0
 3 /a /b /c /d -> Gate
 7 /a /b /c /d /e /f /g -> 8: 8 8 8 0
+12 /a /b /c /d /e /f /g /h /i /j /k /l -> 13: 13 13 13 0
 ";
 
 fn row_met<R: Threads + Wait + Sync>(rt: &R, alloc: Global, row: &str) -> Result<(), Fail> {

@@ -3,8 +3,6 @@
 #![tactic(auto)]
 
 #[cfg(test)]
-mod answers;
-#[cfg(test)]
 mod checks;
 #[cfg(test)]
 mod commands;
@@ -20,8 +18,6 @@ mod lookups;
 mod manifests;
 #[cfg(test)]
 mod names;
-#[cfg(test)]
-mod rows;
 #[cfg(test)]
 mod samples;
 #[cfg(test)]

@@ -6,8 +6,8 @@ ghost use Rattle.ovl_lookup.specs.DirViews.{IsViewOver};
 use crate::samples::{layer_of, stack_of};
 use crate::tables::{parts_of, same};
 use ovl_inode::Kind;
-use ovl_lookup::{DirView, Look, Stack, StackFault, Step, walk};
-use ovl_manifest::Layer;
+use ovl_layer::Layer;
+use ovl_lookup::{DirView, Look, Stack, StackFault, Step, Trail, walk};
 use ovl_names::{Name, Path};
 use std::alloc::{AllocError, Global};
 use std::test::Fail;
@@ -117,7 +117,8 @@ fn step_line(alloc: Global, step: &Step) -> Result<String, AllocError> {
 fn walked(alloc: Global, stack: &Stack, path: &Path) -> Result<String, Fail>
     requires { 0 < length (all_layers stack.now) }
 {
-    let line = step_line(alloc, &stack.own_walk(alloc, 0, path)?)?;
+    let trail = Trail::of(alloc, &path.names())?;
+    let line = step_line(alloc, &stack.own_walk(alloc, 0, trail)?.copied(alloc)?)?;
     if step_line(alloc, &walk(alloc, stack.any_sheet(0), path)?)? != line {
         return Err(Fail::new("the walks differ"));
     }
@@ -156,7 +157,7 @@ fn listed(alloc: Global, stack: &Stack) -> Result<String, AllocError> {
     Ok(text)
 }
 
-fn looks_in(alloc: Global, stack: &Stack, view: &DirView) -> Result<String, Fail>
+fn looks_in(alloc: Global, stack: &Stack, view: &DirView<'_>) -> Result<String, Fail>
     requires { IsViewOver stack.now view.now }
 {
     let mut text = String::new(alloc);
@@ -167,7 +168,7 @@ fn looks_in(alloc: Global, stack: &Stack, view: &DirView) -> Result<String, Fail
     Ok(text)
 }
 
-fn names_in(alloc: Global, stack: &Stack, view: &DirView) -> Result<String, Fail>
+fn names_in(alloc: Global, stack: &Stack, view: &DirView<'_>) -> Result<String, Fail>
     requires { IsViewOver stack.now view.now }
 {
     let mut text = String::new(alloc);
@@ -179,7 +180,7 @@ fn names_in(alloc: Global, stack: &Stack, view: &DirView) -> Result<String, Fail
 }
 
 // What is shown in the directory of a view, by each call that tells it.
-fn shown_in(alloc: Global, stack: &Stack, view: &DirView) -> Result<String, Fail>
+fn shown_in(alloc: Global, stack: &Stack, view: &DirView<'_>) -> Result<String, Fail>
     requires { IsViewOver stack.now view.now }
 {
     let text = looks_in(alloc, stack, view)?;
@@ -194,7 +195,12 @@ fn none(alloc: Global) -> Result<String, Fail> {
 }
 
 // What is shown in the directory of a view, or in that which a name leads to from there where it isn't empty.
-fn entered_last(alloc: Global, stack: &Stack, view: &DirView, name: &str) -> Result<String, Fail>
+fn entered_last(
+    alloc: Global,
+    stack: &Stack,
+    view: &DirView<'_>,
+    name: &str,
+) -> Result<String, Fail>
     requires { IsViewOver stack.now view.now }
 {
     if name.is_empty() {
@@ -210,7 +216,7 @@ fn entered_last(alloc: Global, stack: &Stack, view: &DirView, name: &str) -> Res
 fn entered(
     alloc: Global,
     stack: &Stack,
-    view: &DirView,
+    view: &DirView<'_>,
     first: &str,
     second: &str,
 ) -> Result<String, Fail>

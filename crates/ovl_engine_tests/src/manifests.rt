@@ -2,9 +2,8 @@
 
 use crate::samples::{layer_of, manifest_of};
 use crate::tables::{parts_of, same};
-use ovl_manifest::{
-    LayerFault, Sheet, SheetRow, from_entries, read_layer, read_sheet, write_layer,
-};
+use ovl_layer::{LayerFault, Sheet, SheetRow, from_entries};
+use ovl_manifest::{read_layer, read_sheet, write_layer};
 use ovl_names::Path;
 use std::alloc::{AllocError, Global};
 use std::test::Fail;

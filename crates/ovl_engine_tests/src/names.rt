@@ -29,6 +29,8 @@ path: // -> the path has an empty part
 path: /../ -> the path has an empty part
 path: /a/.. -> the path has a part that is no name
 path: 129*/d -> the path has more than 128 names
+depth: 65*/d -> 65 names
+depth: 128*/d -> 128 names
 long-path: 4095 -> 16 names
 long-path: 4096 -> the path has more than 4095 bytes
 before: / /a -> true
@@ -61,7 +63,15 @@ fn path_told(alloc: Global, text: &str) -> Result<String, AllocError> {
     }
 }
 
-// How many names a path of so many bytes has, at most 4,096, or what is told of its fault: each name but the last has 255.
+// How many names a path has, or what is told of its fault.
+fn depth_told(alloc: Global, text: &str) -> Result<String, AllocError> {
+    match Path::parse(alloc, text) {
+        Ok(path) => format!(in alloc; "{} names", path.len()),
+        Err(fault) => fault.to_string(alloc),
+    }
+}
+
+// The same of a path of so many bytes, at most 4,096: each name but the last has 255.
 fn long_path_told(alloc: Global, bytes: &str) -> Result<String, AllocError> {
     let name = "n".repeat(alloc, 255)?;
     let names = format!(in alloc; "/{name}")?.as_str().repeat(alloc, 16)?;
@@ -69,10 +79,7 @@ fn long_path_told(alloc: Global, bytes: &str) -> Result<String, AllocError> {
         .as_str()
         .get(..bytes.parse().unwrap_or(0))
         .unwrap_or("");
-    match Path::parse(alloc, text) {
-        Ok(path) => format!(in alloc; "{} names", path.len()),
-        Err(fault) => fault.to_string(alloc),
-    }
+    depth_told(alloc, text)
 }
 
 fn before_told(alloc: Global, path: &str, other: &str) -> Result<String, Fail> {
@@ -106,6 +113,7 @@ fn told(alloc: Global, call: &str, text: &str) -> Result<String, Fail> {
     match call {
         "name" => Ok(name_told(alloc, text)?),
         "path" => Ok(path_told(alloc, text)?),
+        "depth" => Ok(depth_told(alloc, text)?),
         "long-path" => Ok(long_path_told(alloc, text)?),
         "before" => before_told(alloc, first, second),
         "child" => child_told(alloc, first, second),

@@ -1,7 +1,9 @@
-//! Stacks as lines of text, and the manifests that these state.
+//! Stacks as lines of text, the manifests that these state, and blobs.
 
+use ovl_engine::{Blob, named_blobs};
+use ovl_layer::Layer;
 use ovl_lookup::Stack;
-use ovl_manifest::{Layer, read_layer};
+use ovl_manifest::read_layer;
 use std::alloc::{AllocError, Global};
 use std::test::Fail;
 
@@ -140,4 +142,19 @@ pub(crate) fn stack_of(alloc: Global, stack: &str) -> Result<Stack, Fail> {
         layers.push(read_layer(alloc, manifest)?)?;
     }
     Ok(Stack::with_data(alloc, layers, bottom)?)
+}
+
+// A blob for each word, in this order: of the bytes of the word, or of those behind `=`, where it has the name of those
+// before.
+pub(crate) fn blobs_of(alloc: Global, words: &str) -> Result<Vec<Blob>, Fail> {
+    let mut blobs = Vec::new(alloc);
+    for word in words.split_whitespace() {
+        let (named, bytes) = word.split_once('=').unwrap_or((word, word));
+        let contents = [String::from_str(alloc, named)?.into_bytes()];
+        for mut blob in named_blobs(alloc, &contents)? {
+            blob.bytes = String::from_str(alloc, bytes)?.into_bytes();
+            blobs.push(blob)?;
+        }
+    }
+    Ok(blobs)
 }

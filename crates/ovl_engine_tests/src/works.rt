@@ -1,16 +1,20 @@
 //! The works of commands, walked by one thread.
-use crate::answers::blobs_of;
+ghost use Rattle.std.specs.Prelude.{IfOk};
+ghost use Rattle.ovl_board.specs.Balance.{AllLawful};
+ghost use Rattle.ovl_board.specs.Assembly.{bare};
+
 use crate::gates::root_piece;
-use crate::samples::{manifest_of, stack_of};
+use crate::samples::{blobs_of, manifest_of, stack_of};
 use crate::tables::{parts_of, same};
-use ovl_board::{Core, CoreFault, Event, Parcel, Piece, plain_walk};
+use ovl_board::{Core, CoreFault, Event, Parcel, Piece, assemble, kids_lawful, plain_walk};
 use ovl_check::{BLOB_SPACE, Blob, BlobWork, blobs_in_order, finish_blobs};
 use ovl_deref::{DerefWork, finish_deref};
 use ovl_engine::ShowWork;
 use ovl_flatten::{FlattenWork, finish_flatten};
 use ovl_inode::Digest;
+use ovl_layer::Layer;
 use ovl_lookup::Stack;
-use ovl_manifest::{Layer, write_layer};
+use ovl_manifest::write_layer;
 use ovl_merge::{MergeDone, MergeFault, MergeWork, finish_merge};
 use ovl_names::{Name, Path};
 use ovl_vacuum::{VacuumDone, VacuumWork, finish_vacuum};
@@ -43,9 +47,31 @@ fn shared(alloc: Global, stack: &Stack, steps: &[Event]) -> Result<String, Fail>
         core.step(alloc, *event)?;
     }
     match core.finish() {
-        Ok(parcels) => told(alloc, &parcels),
+        Ok(parcels) => assembled(alloc, parcels),
         Err(_) => Err(Fail::new("open")),
     }
+}
+
+// These parcels, each tested for lawful kids.
+fn checked<T: Drop>(alloc: Global, parcels: Vec<Parcel<T>>) -> Result<Vec<Parcel<T>>, Fail>
+    ensures { IfOk result (λ lawful. AllLawful (bare lawful.items)) }
+{
+    let mut lawful = Vec::new(alloc);
+    for parcel in parcels {
+        if !kids_lawful(&parcel) {
+            return Err(Fail::new("unlawful kids"));
+        }
+        lawful.push(parcel)?;
+    }
+    Ok(lawful)
+}
+
+// The pieces of parcels, and behind `=` those of the walk that is assembled from them.
+fn assembled<T: Drop>(alloc: Global, parcels: Vec<Parcel<Vec<(Name, T)>>>) -> Result<String, Fail> {
+    let arrived = told(alloc, &parcels)?;
+    let walk = assemble(alloc, &root_piece(alloc), checked(alloc, parcels)?)?;
+    let walk = told(alloc, &walk)?;
+    Ok(format!(in alloc; "{arrived}= {walk}")?)
 }
 
 const STEPS: [Event; 8] = [
@@ -63,7 +89,11 @@ const STEPS: [Event; 8] = [
 fn two_workers_share_the_directories(rt: HostRuntime) -> Result<(), Fail> {
     let stack = stack_of(rt.alloc(), "dir /a, dir /b")?;
     let found = shared(rt.alloc(), &stack, &STEPS)?;
-    same("two workers", found.as_str(), "0/: a b; 0/b:; 0/a:; ")
+    same(
+        "two workers",
+        found.as_str(),
+        "0/: a b; 0/b:; 0/a:; = 0/: a b; 0/a:; 0/b:; ",
+    )
 }
 
 #[test]

@@ -4,7 +4,7 @@ use Rattle.std.specs.Option.{option_map}
 use Rattle.std.specs.List.{cons_option}
 use Rattle.ovl_inode.specs.declared.inodes.Kind.TheVariants.{Symlink, Char}
 use Rattle.ovl_inode.proofs.OnLiterals.{inode_on_literals}
-use Rattle.ovl_manifest.specs.Layers.{Entries}
+use Rattle.ovl_layer.specs.Layers.{Entries}
 use Rattle.ovl_lookup.specs.Stacks.{StackView}
 use Rattle.ovl_lookup.specs.ShownInodes.{shown_inodes}
 use Rattle.ovl_lookup.proofs.Notation.{plain_inode, directory, opaque, file_a, metacopy, path, layer_of}

@@ -3,7 +3,7 @@ use Rattle.std.specs.Prelude.{◌≡◌, ◌<◌, true, length, nat_le}
 use Rattle.std.specs.List.{All, list_all}
 use Rattle.ovl_names.specs.Order.{ascends}
 use Rattle.ovl_names.specs.Paths.{PathNames}
-use Rattle.ovl_manifest.specs.Layers.{Entries, IsLayer, entry_cmp, is_within_limits, entry_limit}
+use Rattle.ovl_layer.specs.Layers.{Entries, IsLayer, entry_cmp, is_within_limits, entry_limit}
 use Rattle.ovl_lookup.specs.Stacks.{StackView}
 use Rattle.ovl_lookup.specs.Merged.{look}
 use Rattle.ovl_lookup.specs.Sound.{IsSoundStack}

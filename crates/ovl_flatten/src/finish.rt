@@ -1,5 +1,5 @@
 ghost use Rattle.std.specs.Prelude.{◌≡◌, Err, IfOk};
-ghost use Rattle.ovl_manifest.specs.Layers.{IsLayer};
+ghost use Rattle.ovl_layer.specs.Layers.{IsLayer};
 ghost use Rattle.ovl_lookup.specs.Stacks.{StackView};
 ghost use Rattle.ovl_lookup.specs.Sound.{IsSoundStack};
 ghost use Rattle.ovl_board.specs.Parcels.{parcel_views};
@@ -13,7 +13,7 @@ ghost use Rattle.ovl_flatten.specs.Limits.{PassesLimit};
 use crate::works::FlattenWork;
 use ovl_board::Parcel;
 use ovl_inode::{Inode, visible};
-use ovl_manifest::Layer;
+use ovl_layer::Layer;
 use ovl_names::Name;
 use ovl_rewrite::{RewriteFault, layer_told};
 use std::alloc::{AllocError, Global};

@@ -1,5 +1,5 @@
 -- Bytes and texts whose types say what they hold, and attributes in order.
-use Rattle.std.proofs.Common.{◌≡◌, ℕ, zero, suc, ◌<◌, ◌≤◌, List, [], ◌∷◌, true, false, IsTrue, refl, sym, ap, subst, ◌∙◌, le-ltb, Fits, w8, length, get_or, take, arith, Option, Some, None, set}
+use Rattle.std.proofs.Common.{◌≡◌, ℕ, zero, suc, ◌<◌, ◌≤◌, List, [], ◌∷◌, ◌++◌, true, false, IsTrue, refl, sym, ap, subst, ◌∙◌, le-ltb, Fits, w8, length, get_or, take, arith, Option, Some, None, set}
 use Rattle.std.specs.Prelude.{◌==◌, unwrap_or, IfSome, slice_get, not, insert}
 use Rattle.std.specs.List.{list_all, list_any}
 use Rattle.std.specs.Str.{IsUtf8}
@@ -198,3 +198,9 @@ put_at attrs name value place own found v at =
 
 pub put_between : (attrs : Attributes) (name value : List ℕ) (place : ℕ) → Belongs attrs name place → with_attribute attrs name value ≡ insert attrs place (name, value)
 put_between attrs name value place belongs = with_attribute-inserted attrs place name value belongs.2 belongs.1 belongs.0
+
+pub put-last : (done : Attributes) (name value : List ℕ) → list_all (λ attr. is_lt (attribute_cmp attr (name, value))) done ≡ true → with_attribute done name value ≡ done ++ (name, value) ∷ []
+put-last [] name value before = refl
+put-last (first ∷ done) name value before =
+    let parts = both {a = is_lt (attribute_cmp first (name, value))} {b = list_all (λ attr. is_lt (attribute_cmp attr (name, value))) done} before in
+    rw (reversed nat_list_cmp_total first.0 name parts.0) (ap (λ (rest : Attributes). first ∷ rest) (put-last done name value parts.1))

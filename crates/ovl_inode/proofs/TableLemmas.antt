@@ -1,20 +1,23 @@
 -- Places in bytes that grow: what they held they hold.
-use Rattle.std.proofs.Common.{◌≡◌, ◌∙◌, ℕ, zero, suc, ◌+◌, ◌-◌, ◌<◌, ◌≤◌, List, [], ◌∷◌, ◌++◌, refl, sym, ap, ap₂, arith, length, take, drop, map, Bool, true, false, ltb-true, Some, Ok, Err, set}
-use Rattle.std.specs.Prelude.{Result, OnErr}
+use Rattle.std.proofs.Common.{◌≡◌, ◌∙◌, ℕ, zero, suc, ◌+◌, ◌-◌, ◌<◌, ◌≤◌, List, [], ◌∷◌, ◌++◌, refl, sym, ap, ap₂, arith, length, take, drop, map, Bool, true, false, ltb-true, inl, inr, Some, None, set, get_or, append-nil, append_assoc}
 use Rattle.std.specs.Prelude.{nat_lt}
 use Rattle.std.specs.Option.{option_map}
+use Rattle.std.proofs.lemmas.Bool.{eq-eqb}
+use Rattle.std.proofs.lemmas.Bool.Decides.{eqb_tells}
+use Rattle.std.proofs.lemmas.List.Edits.{insert_end}
+use Rattle.std.proofs.lemmas.Option.{slice_get-get_or}
 use Rattle.std.proofs.lemmas.Bool.Decides.{nat_tests}
-use Rattle.std.specs.Prelude.{insert, slice_get}
+use Rattle.std.specs.Prelude.{insert, slice_get, unwrap_or, ◌==◌, if◌then◌else◌}
 use Rattle.std.specs.Str.{IsUtf8, IsCharBoundary}
-use Rattle.std.proofs.lemmas.List.{length-append, take-append-le, drop-append-le, get_or_append_left, length-drop, map-set}
-use Rattle.std.proofs.lemmas.Option.{slice_get-map}
+use Rattle.std.proofs.lemmas.List.{length-append, take-append-le, drop-append-le, get_or_append_left, length-drop}
+use Rattle.std.proofs.lemmas.List.Sums.{sum_by-insert}
 use Rattle.std.proofs.lemmas.List.Elements.{All-cons, All-head, All-tail, All-append, All-take, All-drop, All-weaker}
 use Rattle.std.proofs.lemmas.Str.{IsCharBoundary-at_seam, IsCharBoundary-end}
 use Rattle.std.proofs.Math.Seq.{drop-append_seam, take-length}
 use Rattle.ovl_inode.specs.declared.tables.Part.{Part}
-use Rattle.ovl_inode.specs.declared.tables.Place.{Place}
+use Rattle.ovl_inode.specs.declared.tables.AttributePlace.{AttributePlace}
 use Rattle.ovl_inode.specs.Attributes.{Attributes}
-use Rattle.ovl_inode.specs.Tables.{bytes_of, attribute_of, attributes_of, IsPart, IsTextPart, IsPlace, ArePlaces}
+use Rattle.ovl_inode.specs.Tables.{bytes_of, attribute_of, attributes_of, name_bytes, value_bytes, IsPart, IsTextPart, IsAttributePlace, ArePlaces, IsFull}
 
 -- a part of bytes, with more behind them
 bytes_of-onto : (bytes more : List ℕ) (part : Part) → part.start ≤ part.end → part.end ≤ length bytes → bytes_of (bytes ++ more) part ≡ bytes_of bytes part
@@ -53,27 +56,22 @@ part-onto : (bytes more : List ℕ) (part : Part) → IsPart bytes part → IsPa
 part-onto bytes more part is = record { order = is.order; inside = omega (arith, is.inside, length-append bytes more) }
 
 -- places in texts and values that have grown
-pub places-grown : (names values name value : List ℕ) (places : List Place) (more_names more_values : List ℕ) → more_names ≡ names ++ name → more_values ≡ values ++ value → IsUtf8 name → ArePlaces names values places → ArePlaces more_names more_values places
+pub places-grown : (names values name value : List ℕ) (places : List AttributePlace) (more_names more_values : List ℕ) → more_names ≡ names ++ name → more_values ≡ values ++ value → IsUtf8 name → ArePlaces names values places → ArePlaces more_names more_values places
 places-grown names values name value places more_names more_values texts bytes utf8 are =
-    rw (texts, bytes) (All-weaker (IsPlace names values) (IsPlace (names ++ name) (values ++ value))
+    rw (texts, bytes) (All-weaker (IsAttributePlace names values) (IsAttributePlace (names ++ name) (values ++ value))
     (λ place is. record { name = text_part-onto names name place.name utf8 is.name; value = part-onto values value place.value is.value }) places are)
 
-attributes_of-onto : (names values name value : List ℕ) (places : List Place) → ArePlaces names values places → attributes_of (names ++ name) (values ++ value) places ≡ attributes_of names values places
+attributes_of-onto : (names values name value : List ℕ) (places : List AttributePlace) → ArePlaces names values places → attributes_of (names ++ name) (values ++ value) places ≡ attributes_of names values places
 attributes_of-onto names values name value [] are = refl
 attributes_of-onto names values name value (place ∷ places) are =
-    let is : IsPlace names values place = All-head (IsPlace names values) place places are in
+    let is : IsAttributePlace names values place = All-head (IsAttributePlace names values) place places are in
     ap₂ (λ (attr : List ℕ × List ℕ) (rest : List (List ℕ × List ℕ)). attr ∷ rest)
     (ap₂ (λ (n v : List ℕ). (n, v)) (bytes_of-onto names name place.name is.name.order is.name.last.0) (bytes_of-onto values value place.value is.value.order is.value.inside))
-    (attributes_of-onto names values name value places (All-tail (IsPlace names values) place places are))
+    (attributes_of-onto names values name value places (All-tail (IsAttributePlace names values) place places are))
 
-pub attributes_of-grown : (names values name value : List ℕ) (places : List Place) (more_names more_values : List ℕ) → more_names ≡ names ++ name → more_values ≡ values ++ value → ArePlaces names values places → attributes_of more_names more_values places ≡ attributes_of names values places
+pub attributes_of-grown : (names values name value : List ℕ) (places : List AttributePlace) (more_names more_values : List ℕ) → more_names ≡ names ++ name → more_values ≡ values ++ value → ArePlaces names values places → attributes_of more_names more_values places ≡ attributes_of names values places
 attributes_of-grown names values name value places more_names more_values texts bytes are =
     rw (texts, bytes) (attributes_of-onto names values name value places are)
-
--- a fact that holds at any answer
-pub on_err : {T E P : Type 0} (r : Result T E) → P → OnErr r P
-on_err (Ok x) holds = tt
-on_err (Err fault) holds = holds
 
 -- the part of a text that is behind it, and that of bytes
 pub text_part-behind : (text more : List ℕ) (part : Part) → IsUtf8 more → part.start ≡ length text → part.end ≡ length text + length more → IsTextPart (text ++ more) part
@@ -87,21 +85,89 @@ pub part-behind : (bytes more : List ℕ) (part : Part) → part.start ≡ lengt
 part-behind bytes more part start end = record { order = omega (arith, start, end); inside = omega (arith, end, length-append bytes more) }
 
 -- a place put between others
-pub places-insert : (names values : List ℕ) (places : List Place) (i : ℕ) (place : Place) → ArePlaces names values places → IsPlace names values place → ArePlaces names values (insert places i place)
+pub places-insert : (names values : List ℕ) (places : List AttributePlace) (i : ℕ) (place : AttributePlace) → ArePlaces names values places → IsAttributePlace names values place → ArePlaces names values (insert places i place)
 places-insert names values places i place are is =
-    All-append (IsPlace names values) (take i places) (place ∷ drop i places) (All-take (IsPlace names values) i places are)
-    (All-cons (IsPlace names values) place (drop i places) is (All-drop (IsPlace names values) i places are))
-
--- the attribute at a place with another value
-pub attributes_of-set : (names values more_values value : List ℕ) (places : List Place) (i : ℕ) (old new : Place) → slice_get places i ≡ Some old → new.name ≡ old.name → bytes_of more_values new.value ≡ value → attributes_of names more_values places ≡ attributes_of names values places
-    → option_map (λ own. set (attributes_of names values places) i (own.0, value)) (slice_get (attributes_of names values places) i) ≡ Some (attributes_of names more_values (set places i new))
-attributes_of-set names values more_values value places i old new at name bytes grown =
-    rw (slice_get-map (attribute_of names values) places i) (rw at
-    (ap Some (sym (map-set (attribute_of names more_values) places i new
-    ∙ ap₂ (λ (all : Attributes) (attr : List ℕ × List ℕ). set all i attr) grown (ap₂ (λ (n v : List ℕ). (n, v)) (ap (bytes_of names) name) bytes)))))
+    All-append (IsAttributePlace names values) (take i places) (place ∷ drop i places) (All-take (IsAttributePlace names values) i places are)
+    (All-cons (IsAttributePlace names values) place (drop i places) is (All-drop (IsAttributePlace names values) i places are))
 
 pub map-insert : {X Y : Type 0} (f : X → Y) (xs : List X) (i : ℕ) (x : X) → map f (insert xs i x) ≡ insert (map f xs) i (f x)
 map-insert f [] zero x = refl
 map-insert f [] (suc i) x = refl
 map-insert f (own ∷ xs) zero x = refl
 map-insert f (own ∷ xs) (suc i) x = ap (λ rest. f own ∷ rest) (map-insert f xs i x)
+
+-- a part that is behind others, and is so long
+pub record IsBehind (bytes more : List ℕ) (part : Part) : Type 0 where
+  pub start : part.start ≡ length bytes
+  pub end : part.end ≡ length bytes + length more
+
+-- an attribute whose name and value are put behind all others
+pub insert-full : (names values name value more_names more_values : List ℕ) (places more_places : List AttributePlace) (i : ℕ) (own : AttributePlace) → IsUtf8 name → IsBehind names name own.name → IsBehind values value own.value
+    → more_names ≡ names ++ name → more_values ≡ values ++ value → more_places ≡ insert places i own → IsFull names values places
+    → IsFull more_names more_values more_places × (attributes_of more_names more_values more_places ≡ insert (attributes_of names values places) i (name, value))
+insert-full names values name value more_names more_values places more_places i own utf8 named valued texts bytes put is = (
+  record {
+    are = rw (texts, bytes, put) (places-insert (names ++ name) (values ++ value) places i own
+        (places-grown names values name value places (names ++ name) (values ++ value) refl refl utf8 is.are)
+        (record {
+          name = text_part-behind names name own.name utf8 named.start named.end;
+          value = part-behind values value own.value valued.start valued.end;
+        }));
+    named = ap name_bytes given ∙ (sum_by-insert (λ (attr : List ℕ × List ℕ). length attr.0) before i (name, value)
+        ∙ (ap (λ n. n + length name) is.named ∙ (sym (length-append names name) ∙ ap length (sym texts))));
+    valued = ap value_bytes given ∙ (sum_by-insert (λ (attr : List ℕ × List ℕ). length attr.1) before i (name, value)
+        ∙ (ap (λ n. n + length value) is.valued ∙ (sym (length-append values value) ∙ ap length (sym bytes))));
+  },
+  given,
+)
+  where
+    before : Attributes
+    before = attributes_of names values places
+
+    pair : attribute_of more_names more_values own ≡ (name, value)
+    pair = rw (texts, bytes) (ap₂ (λ (n v : List ℕ). (n, v)) (bytes_of-behind names name own.name named.start named.end) (bytes_of-behind values value own.value valued.start valued.end))
+
+    given : attributes_of more_names more_values more_places ≡ insert before i (name, value)
+    given =
+        ap (attributes_of more_names more_values) put
+        ∙ (map-insert (attribute_of more_names more_values) places i own
+        ∙ ap₂ (λ (all : Attributes) (attr : List ℕ × List ℕ). insert all i attr) (attributes_of-grown names values name value places more_names more_values texts bytes is.are) pair)
+
+-- attributes with this value in place of the one at a place, of which as many come before these as a number says
+abbrev pub set_from : ℕ → ℕ → List ℕ → Attributes → Attributes
+set_from number place value [] = []
+set_from number place value (attr ∷ attrs) = (if number == place then (attr.0, value) else attr) ∷ set_from (suc number) place value attrs
+
+pub differ : (a b : ℕ) → (a ≡ b → ⊥) → (a == b) ≡ false
+differ a b apart = elim (eqb_tells a b) [ inl same ↦ absurd (apart same.1) | inr other ↦ other.0 ]
+
+-- one attribute more is put behind the others
+pub set-step : (table more old rest all : Attributes) (place number : ℕ) (value : List ℕ) (attr put : List ℕ × List ℕ) → number ≡ length table → more ≡ insert table number put → old ≡ attr ∷ rest → put ≡ (if number == place then (attr.0, value) else attr)
+    → table ++ set_from (length table) place value old ≡ all → more ++ set_from (length more) place value rest ≡ all
+set-step table more old rest all place number value attr put end grown first is kept =
+    let behind : more ≡ table ++ put ∷ [] = grown ∙ (ap (λ (n : ℕ). insert table n put) end ∙ insert_end table put) in
+    let longer : length more ≡ suc (length table) = omega (arith, ap length behind, length-append table (put ∷ [])) in
+    rw (longer, behind) (append_assoc table (put ∷ []) (set_from (suc (length table)) place value rest)
+    ∙ (ap (λ (p : List ℕ × List ℕ). table ++ p ∷ set_from (suc (length table)) place value rest) (is ∙ ap (λ (n : ℕ). if n == place then (attr.0, value) else attr) end)
+    ∙ (ap (λ (attrs : Attributes). table ++ set_from (length table) place value attrs) (sym first) ∙ kept)))
+
+-- none of the attributes is at the place
+set_from-past : (number place : ℕ) (value : List ℕ) (attrs : Attributes) → place < number → set_from number place value attrs ≡ attrs
+set_from-past number place value [] past = refl
+set_from-past number place value (attr ∷ attrs) past =
+    rw (differ number place (λ e. omega (arith, past, e))) (ap (λ (rest : Attributes). attr ∷ rest) (set_from-past (suc number) place value attrs (omega (arith, past))))
+
+set_from-at : (number at place : ℕ) (value : List ℕ) (attrs : Attributes) (own : List ℕ × List ℕ) → at ≡ number + place → slice_get attrs place ≡ Some own → set_from number at value attrs ≡ set attrs place (own.0, value)
+set_from-at number at place value [] own e is = let bad : None ≡ Some own = is in cc
+set_from-at number at zero value (attr ∷ attrs) own e is =
+    let here : number ≡ at = omega (arith, e) in
+    rw (eq-eqb number at here) (ap₂ (λ (first : List ℕ × List ℕ) (rest : Attributes). (first.0, value) ∷ rest) (ap (λ o. unwrap_or o attr) is) (set_from-past (suc number) at value attrs (omega (arith, here))))
+set_from-at number at (suc place) value (attr ∷ attrs) own e is =
+    rw (differ number at (λ same. omega (arith, e, same))) (ap (λ (rest : Attributes). attr ∷ rest) (set_from-at (suc number) at place value attrs own (omega (arith, e)) is))
+
+pub set-whole : (attrs table rest : Attributes) (place : ℕ) (value : List ℕ) → place < length attrs → rest ≡ [] → table ++ set_from (length table) place value rest ≡ set_from 0 place value attrs
+    → option_map (λ own. set attrs place (own.0, value)) (slice_get attrs place) ≡ Some table
+set-whole attrs table rest place value inside none all =
+    let at = slice_get-get_or attrs place ([], []) inside in
+    let whole : table ≡ set_from 0 place value attrs = sym (append-nil table) ∙ (ap (λ (r : Attributes). table ++ set_from (length table) place value r) (sym none) ∙ all) in
+    rw at (ap Some (sym (set_from-at 0 place place value attrs (get_or attrs place ([], [])) (omega arith) at) ∙ sym whole))

@@ -13,10 +13,13 @@ use Rattle.ovl_inode.specs.Attributes.{Attributes}
 -- the same sort, with the same size and blob, target, or numbers
 abbrev pub kind_eq : Kind → Kind → Bool
 kind_eq Dir Dir = true
-kind_eq (File size blob) (File other_size other_blob) = size == other_size && option_eq bytes_eq blob other_blob
+kind_eq (File size blob) (File other_size other_blob) =
+    size == other_size && option_eq bytes_eq blob other_blob
 kind_eq (Symlink target) (Symlink other) = bytes_eq target other
-kind_eq (Char major minor) (Char other_major other_minor) = major == other_major && minor == other_minor
-kind_eq (Block major minor) (Block other_major other_minor) = major == other_major && minor == other_minor
+kind_eq (Char major minor) (Char other_major other_minor) =
+    major == other_major && minor == other_minor
+kind_eq (Block major minor) (Block other_major other_minor) =
+    major == other_major && minor == other_minor
 kind_eq Fifo Fifo = true
 kind_eq Socket Socket = true
 kind_eq _ _ = false

@@ -40,12 +40,16 @@ kind_eq-same : (one other : Kind) → kind_eq one other ≡ true → one ≡ oth
 kind_eq-same Dir Dir e = refl
 kind_eq-same (File size blob) (File other_size other_blob) e =
     let parts = both {a = size == other_size} {b = option_eq bytes_eq blob other_blob} e in
-    (λ j. File ((unsigned_Decides size other_size).0 parts.0 j) (blob_eq-same blob other_blob parts.1 j))
-kind_eq-same (Symlink target) (Symlink other) e = ap (λ (t : List ℕ). Symlink t) ((bytes_decides target other).0 e)
+    (λ j. File ((unsigned_Decides size other_size).0 parts.0 j)
+    (blob_eq-same blob other_blob parts.1 j))
+kind_eq-same (Symlink target) (Symlink other) e =
+    ap (λ (t : List ℕ). Symlink t) ((bytes_decides target other).0 e)
 kind_eq-same (Char major minor) (Char other_major other_minor) e =
-    let parts = numbers-same major other_major minor other_minor e in (λ j. Char (parts.0 j) (parts.1 j))
+    let parts = numbers-same major other_major minor other_minor e
+    in (λ j. Char (parts.0 j) (parts.1 j))
 kind_eq-same (Block major minor) (Block other_major other_minor) e =
-    let parts = numbers-same major other_major minor other_minor e in (λ j. Block (parts.0 j) (parts.1 j))
+    let parts = numbers-same major other_major minor other_minor e
+    in (λ j. Block (parts.0 j) (parts.1 j))
 kind_eq-same Fifo Fifo e = refl
 kind_eq-same Socket Socket e = refl
 kind_eq-same _ _ e = let bad : false ≡ true = e in cc
@@ -60,12 +64,20 @@ kind_eq-itself Fifo = refl
 kind_eq-itself Socket = refl
 
 pub kind_eq_equiv : IsEquivalence kind_eq
-kind_eq_equiv = decided kind_eq (λ one other. (kind_eq-same one other, λ e. ap (kind_eq one) (sym e) ∙ kind_eq-itself one))
+kind_eq_equiv =
+    decided kind_eq
+    (λ one other. (kind_eq-same one other, λ e. ap (kind_eq one) (sym e) ∙ kind_eq-itself one))
 
-attribute-same : (one other : List ℕ × List ℕ) → Decides (name_eq one.0 other.0 && bytes_eq one.1 other.1) (one ≡ other)
+attribute-same : (one other : List ℕ × List ℕ)
+    → Decides (name_eq one.0 other.0 && bytes_eq one.1 other.1) (one ≡ other)
 attribute-same one other = (
-  (λ e. let parts = both {a = name_eq one.0 other.0} {b = bytes_eq one.1 other.1} e in (λ j. ((bytes_decides one.0 other.0).0 parts.0 j, (bytes_decides one.1 other.1).0 parts.1 j))),
-  (λ e. (λ j. (bytes_decides one.0 other.0).1 (ap (λ (p : List ℕ × List ℕ). p.0) e) j && (bytes_decides one.1 other.1).1 (ap (λ (p : List ℕ × List ℕ). p.1) e) j)),
+  (λ e. let parts = both {a = name_eq one.0 other.0} {b = bytes_eq one.1 other.1} e
+      in (λ j. (
+        (bytes_decides one.0 other.0).0 parts.0 j,
+        (bytes_decides one.1 other.1).0 parts.1 j,
+      ))),
+  (λ e. (λ j. (bytes_decides one.0 other.0).1 (ap (λ (p : List ℕ × List ℕ). p.0) e) j
+      && (bytes_decides one.1 other.1).1 (ap (λ (p : List ℕ × List ℕ). p.1) e) j)),
 )
 
 attributes_eq-decides : (one other : Attributes) → Decides (attributes_eq one other) (one ≡ other)
@@ -76,11 +88,22 @@ attributes_eq_equiv = decided attributes_eq attributes_eq-decides
 
 pub inode_eq-same : (one other : Inode) → inode_eq one other ≡ true → one ≡ other
 inode_eq-same one other e =
-    let attrs = both {a = kind_eq one.kind other.kind && one.mode == other.mode && one.uid == other.uid && one.gid == other.gid && int_eq one.mtime other.mtime && one.nsec == other.nsec} {b = attributes_eq one.attrs other.attrs} e in
-    let nsecs = both {a = kind_eq one.kind other.kind && one.mode == other.mode && one.uid == other.uid && one.gid == other.gid && int_eq one.mtime other.mtime} {b = one.nsec == other.nsec} attrs.0 in
-    let times = both {a = kind_eq one.kind other.kind && one.mode == other.mode && one.uid == other.uid && one.gid == other.gid} {b = int_eq one.mtime other.mtime} nsecs.0 in
-    let gids = both {a = kind_eq one.kind other.kind && one.mode == other.mode && one.uid == other.uid} {b = one.gid == other.gid} times.0 in
-    let uids = both {a = kind_eq one.kind other.kind && one.mode == other.mode} {b = one.uid == other.uid} gids.0 in
+    let attrs = both
+    {a = kind_eq one.kind other.kind && one.mode == other.mode && one.uid == other.uid
+    && one.gid == other.gid && int_eq one.mtime other.mtime && one.nsec == other.nsec}
+    {b = attributes_eq one.attrs other.attrs} e in
+    let nsecs = both
+    {a = kind_eq one.kind other.kind && one.mode == other.mode && one.uid == other.uid
+    && one.gid == other.gid && int_eq one.mtime other.mtime}
+    {b = one.nsec == other.nsec} attrs.0 in
+    let times = both
+    {a = kind_eq one.kind other.kind && one.mode == other.mode && one.uid == other.uid
+    && one.gid == other.gid} {b = int_eq one.mtime other.mtime} nsecs.0 in
+    let gids = both
+    {a = kind_eq one.kind other.kind && one.mode == other.mode && one.uid == other.uid}
+    {b = one.gid == other.gid} times.0 in
+    let uids = both {a = kind_eq one.kind other.kind && one.mode == other.mode}
+    {b = one.uid == other.uid} gids.0 in
     let modes = both {a = kind_eq one.kind other.kind} {b = one.mode == other.mode} uids.0 in
     (λ j. record {
       kind = kind_eq-same one.kind other.kind modes.0 j;
@@ -103,4 +126,6 @@ inode_eq-itself inode =
     && (attributes_eq-decides inode.attrs inode.attrs).1 refl j)
 
 pub inode_eq_equiv : IsEquivalence inode_eq
-inode_eq_equiv = decided inode_eq (λ one other. (inode_eq-same one other, λ e. ap (inode_eq one) (sym e) ∙ inode_eq-itself one))
+inode_eq_equiv =
+    decided inode_eq
+    (λ one other. (inode_eq-same one other, λ e. ap (inode_eq one) (sym e) ∙ inode_eq-itself one))

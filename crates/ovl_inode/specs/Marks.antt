@@ -1,13 +1,13 @@
--- What an inode means to the overlay: the first case that holds is its mark.
--- overlayfs.rst, "whiteouts and opaque directories", "renaming directories" and "Metadata only copy up".
+-- What an inode means to the overlay: the first case that holds is its mark. overlayfs.rst,
+-- "whiteouts and opaque directories", "renaming directories" and "Metadata only copy up".
 use Rattle.std.specs.Prelude.{ℕ, Bool, true, false, ◌&&◌, ◌==◌, not, if◌then◌else◌, Some, None, List, is_some, codes}
 use Rattle.ovl_names.specs.Names.{name_eq}
 use Rattle.ovl_inode.specs.declared.inodes.Inode.{Inode}
 use Rattle.ovl_inode.specs.declared.inodes.Kind.TheVariants.{Dir, File, Char}
 use Rattle.ovl_inode.specs.declared.marks.Mark.{Mark}
 use Rattle.ovl_inode.specs.declared.marks.Mark.TheVariants.{Whiteout, DirOpaque, DirMoved, DirBad, DirPlain, Meta, MetaBad, Leaf}
-use Rattle.ovl_inode.specs.declared.marks.Reading.{Reading}
-use Rattle.ovl_inode.specs.declared.marks.Reading.TheVariants.{Absent, Malformed, Says}
+use Rattle.ovl_inode.specs.declared.marks.RedirectReading.{RedirectReading}
+use Rattle.ovl_inode.specs.declared.marks.RedirectReading.TheVariants.{Absent, Malformed, Says}
 use Rattle.ovl_inode.specs.Attributes.{attribute, opaque_name, redirect_name, metacopy_name, whiteout_name}
 use Rattle.ovl_inode.specs.Redirects.{read_redirect}
 
@@ -17,7 +17,8 @@ has_attribute inode name = is_some (attribute inode.attrs name)
 
 -- the attribute is there, of this value
 abbrev pub attribute_is : Inode → List ℕ → List ℕ → Bool
-attribute_is inode name value = elim (attribute inode.attrs name) [ Some found ↦ name_eq found value | None ↦ false ]
+attribute_is inode name value =
+    elim (attribute inode.attrs name) [ Some found ↦ name_eq found value | None ↦ false ]
 
 abbrev pub is_directory : Inode → Bool
 is_directory inode = elim inode.kind [ Dir ↦ true | _ ↦ false ]
@@ -46,7 +47,7 @@ abbrev pub has_opaque : Inode → Bool
 has_opaque inode = attribute_is inode opaque_name (codes "y")
 
 -- how `redirect` reads: absent, malformed, or what it says
-abbrev pub redirect_reading : Inode → Reading
+abbrev pub redirect_reading : Inode → RedirectReading
 redirect_reading inode =
     elim (attribute inode.attrs redirect_name) [
       | Some value ↦ elim (read_redirect value) [ Some redirect ↦ Says redirect | None ↦ Malformed ]
@@ -54,12 +55,12 @@ redirect_reading inode =
     ]
 
 -- the mark of a directory, and that of a metacopy file, with this reading of `redirect`
-abbrev pub directory_mark : Reading → Mark
+abbrev pub directory_mark : RedirectReading → Mark
 directory_mark Absent = DirPlain
 directory_mark Malformed = DirBad
 directory_mark (Says redirect) = DirMoved redirect
 
-abbrev pub metacopy_mark : Reading → Mark
+abbrev pub metacopy_mark : RedirectReading → Mark
 metacopy_mark Absent = Meta None
 metacopy_mark Malformed = MetaBad
 metacopy_mark (Says redirect) = Meta (Some redirect)

@@ -1,5 +1,6 @@
--- What the value of a `redirect` says: a path from the overlay's root, or a name beside the directory.
--- overlayfs.rst, "renaming directories"; a name beside the directory, and which values are malformed, is this profile's.
+-- What the value of a `redirect` says: a path from the overlay's root, or a name beside the
+-- directory. overlayfs.rst, "renaming directories"; a name beside the directory, and which values
+-- are malformed, is this profile's.
 use Rattle.std.specs.Prelude.{ℕ, Bool, false, not, ◌||◌, ◌==◌, if◌then◌else◌, Option, Some, None, List, [], ◌∷◌, length, nat_lt, drop}
 use Rattle.std.specs.List.{list_any}
 use Rattle.std.specs.Str.{is_utf8}
@@ -15,7 +16,8 @@ abbrev pub is_absolute : List ℕ → Bool
 is_absolute [] = false
 is_absolute (byte ∷ bytes) = byte == slash
 
--- the names that a value spells: what stands between its separators, after the first of an absolute one
+-- the names that a value spells: what stands between its separators, after the first of an absolute
+-- one
 abbrev pub redirect_parts : List ℕ → List (List ℕ)
 redirect_parts value = parts_between (if is_absolute value then drop 1 value else value)
 
@@ -52,4 +54,5 @@ redirect_of value = if is_absolute value then To (redirect_parts value) else Bes
 
 -- what a value of `redirect` says, if it is well formed
 abbrev pub read_redirect : List ℕ → Option Redirect
-read_redirect value = elim (redirect_fault value) [ Some fault ↦ None | None ↦ Some (redirect_of value) ]
+read_redirect value =
+    elim (redirect_fault value) [ Some fault ↦ None | None ↦ Some (redirect_of value) ]

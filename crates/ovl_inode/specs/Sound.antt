@@ -10,7 +10,8 @@ use Rattle.ovl_inode.specs.Bytes.{is_digest}
 use Rattle.ovl_inode.specs.Attributes.{are_attributes}
 use Rattle.ovl_inode.specs.Marks.{has_metacopy}
 
--- the limits of a mode, of the nanoseconds of a time, of a file's size, and of a symlink's target in bytes
+-- the limits of a mode, of the nanoseconds of a time, of a file's size, and of a symlink's target
+-- in bytes
 abbrev pub mode_limit : ℕ
 mode_limit = 4095
 
@@ -34,7 +35,8 @@ is_seconds (negsuc seconds) = nat_lt seconds (2 ^ 63)
 -- a symlink's target is text of 1 to 4,095 bytes without NUL
 abbrev pub is_target : List ℕ → Bool
 is_target text =
-    nat_lt 0 (length text) && nat_le (length text) target_limit && not (list_any (λ byte. byte == 0) text) && is_utf8 text
+    nat_lt 0 (length text) && nat_le (length text) target_limit
+    && not (list_any (λ byte. byte == 0) text) && is_utf8 text
 
 -- a file has a blob exactly where its size is over 0 and it has no `metacopy`
 abbrev pub has_sound_blob : ℕ → Option Digest → Bool → Bool
@@ -42,7 +44,8 @@ has_sound_blob size (Some blob) metacopy = nat_lt 0 size && not metacopy && is_d
 has_sound_blob size None metacopy = not (nat_lt 0 size && not metacopy)
 
 abbrev pub is_sound_kind : Kind → Bool → Bool
-is_sound_kind (File size blob) metacopy = nat_le size size_limit && has_sound_blob size blob metacopy
+is_sound_kind (File size blob) metacopy =
+    nat_le size size_limit && has_sound_blob size blob metacopy
 is_sound_kind (Symlink target) metacopy = is_target target
 is_sound_kind (Char major minor) metacopy = is_word major && is_word minor
 is_sound_kind (Block major minor) metacopy = is_word major && is_word minor

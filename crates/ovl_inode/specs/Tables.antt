@@ -1,9 +1,9 @@
 -- Attributes as places in the bytes of all their names and values.
-use Rattle.std.specs.Prelude.{ℕ, ◌≤◌, ◌-◌, List, length, take, drop, map}
-use Rattle.std.specs.List.{All}
+use Rattle.std.specs.Prelude.{◌≡◌, ℕ, ◌≤◌, ◌-◌, List, length, take, drop, map}
+use Rattle.std.specs.List.{All, sum_by}
 use Rattle.std.specs.Str.{IsCharBoundary}
 use Rattle.ovl_inode.specs.declared.tables.Part.{Part}
-use Rattle.ovl_inode.specs.declared.tables.Place.{Place}
+use Rattle.ovl_inode.specs.declared.tables.AttributePlace.{AttributePlace}
 use Rattle.ovl_inode.specs.Attributes.{Attributes}
 
 -- the bytes of a part
@@ -11,10 +11,10 @@ abbrev pub bytes_of : List ℕ → Part → List ℕ
 bytes_of bytes part = take (part.end - part.start) (drop part.start bytes)
 
 -- the attribute at a place
-abbrev pub attribute_of : List ℕ → List ℕ → Place → List ℕ × List ℕ
+abbrev pub attribute_of : List ℕ → List ℕ → AttributePlace → List ℕ × List ℕ
 attribute_of names values place = (bytes_of names place.name, bytes_of values place.value)
 
-abbrev pub attributes_of : List ℕ → List ℕ → List Place → Attributes
+abbrev pub attributes_of : List ℕ → List ℕ → List AttributePlace → Attributes
 attributes_of names values places = map (attribute_of names values) places
 
 -- the part is one of bytes, and of a text
@@ -27,9 +27,22 @@ pub record IsTextPart (text : List ℕ) (part : Part) : Type 0 where
   pub first : IsCharBoundary text part.start
   pub last : IsCharBoundary text part.end
 
-pub record IsPlace (names values : List ℕ) (place : Place) : Type 0 where
+pub record IsAttributePlace (names values : List ℕ) (place : AttributePlace) : Type 0 where
   pub name : IsTextPart names place.name
   pub value : IsPart values place.value
 
-abbrev pub ArePlaces : List ℕ → List ℕ → List Place → Type 0
-ArePlaces names values places = All (IsPlace names values) places
+abbrev pub ArePlaces : List ℕ → List ℕ → List AttributePlace → Type 0
+ArePlaces names values places = All (IsAttributePlace names values) places
+
+-- how many bytes the names of attributes come to, and their values
+abbrev pub name_bytes : Attributes → ℕ
+name_bytes attrs = sum_by (λ (attr : List ℕ × List ℕ). length attr.0) attrs
+
+abbrev pub value_bytes : Attributes → ℕ
+value_bytes attrs = sum_by (λ (attr : List ℕ × List ℕ). length attr.1) attrs
+
+-- the places are of attributes that come to as many bytes as there are
+pub record IsFull (names values : List ℕ) (places : List AttributePlace) : Type 0 where
+  pub are : ArePlaces names values places
+  pub named : name_bytes (attributes_of names values places) ≡ length names
+  pub valued : value_bytes (attributes_of names values places) ≡ length values

@@ -59,7 +59,8 @@ impl Model for Attrs {
 
     ghost view = { λ a. unwrap_or (option_map (λ table. table.value) a.table) [] };
 
-    ghost invariant = { λ a. IsTrue (are_attributes (unwrap_or (option_map (λ table. table.value) a.table) [])) };
+    ghost invariant = { λ a. IsTrue
+        (are_attributes (unwrap_or (option_map (λ table. table.value) a.table) [])) };
 }
 
 impl Attrs {
@@ -82,16 +83,19 @@ impl Attrs {
         None
     }
 
-    /// Sets the value of the attribute `name`; the other names stay as they are.
-    /// Refused, with nothing changed, where the name has not 1 to 255 bytes without NUL, and where memory runs out.
+    /// Sets the value of the attribute `name`; the other names stay as they are. Refused, with
+    /// nothing changed, where the name has not 1 to 255 bytes without NUL, and where memory runs
+    /// out.
     pub fn put(&mut self, name: &str, value: &[u8]) -> Result<(), AttrFault>
         ensures { MatchResult result
-            (λ _. (self.new ≡ with_attribute self.old name.now value.now) × IsTrue (is_attribute_name name.now))
-            (λ fault. (self.new ≡ self.old) × (attribute_fault name.now ≡ attribute_refusal fault)) }
+            (λ _. (self.new ≡ with_attribute self.old name.now value.now)
+            × IsTrue (is_attribute_name name.now))
+            (λ fault. (self.new ≡ self.old)
+            × (attribute_fault name.now ≡ attribute_refusal fault)) }
     {
         check_name(name)?;
         match &mut self.table {
-            Some(table) => put_in(table, name, value)?,
+            Some(table) => put_in(self.alloc, table, name, value)?,
             None => {
                 let mut table = Table::new(self.alloc);
                 table.insert(0, name, value)?;
@@ -122,8 +126,8 @@ impl Attrs {
         }
     }
 
-    /// The attributes that the merged tree shows: those whose name doesn't begin with `trusted.overlay.`.
-    /// Fails only when out of memory.
+    /// The attributes that the merged tree shows: those whose name doesn't begin with
+    /// `trusted.overlay.`. Fails only when out of memory.
     pub fn visible(&self, alloc: Global) -> Result<Attrs, AllocError>
         ensures { IfOk result (λ attrs. attrs ≡ visible_attributes self.now) }
     {
@@ -175,13 +179,13 @@ impl Eq for Attrs {
 }
 
 // Puts an attribute into a table of attributes.
-fn put_in(table: &mut Table, name: &str, value: &[u8]) -> Result<(), AllocError>
+fn put_in(alloc: Global, table: &mut Table, name: &str, value: &[u8]) -> Result<(), AllocError>
     requires { IsTrue (are_attributes table.old) }
     ensures done { OnOk result (table.new ≡ with_attribute table.old name.now value.now) }
     ensures kept { OnErr result (table.new ≡ table.old) }
 {
     match table.search(name) {
-        Ok(place) => table.set_value(place, value),
+        Ok(place) => table.set_value(alloc, place, value),
         Err(place) => table.insert(place, name, value),
     }
 }

@@ -38,7 +38,8 @@ impl Model for Digest {
 }
 
 impl Digest {
-    /// The digest that 64 lower-case hexadecimal digits spell, or the first fault in the order of [`DigestFault`].
+    /// The digest that 64 lower-case hexadecimal digits spell, or the first fault in the order of
+    /// [`DigestFault`].
     pub fn parse(text: &str) -> Result<Digest, DigestFault>
         ensures { MatchResult result
             (λ digest. digest_of_text text.now ≡ Some digest)

@@ -86,7 +86,7 @@ fn pair_block(first: u8x16, second: u8x16) -> u8x16
     values(high) * u8x16::splat(16) + values(low)
 }
 
-// The 32 bytes that 64 digits spell.
+/// The 32 bytes that 64 digits spell.
 pub(crate) fn bytes_of_digits(digits: &[u8]) -> [u8; 32]
     requires count { length digits.now ≡ 64 }
     requires lower { list_all lower_digit_test digits.now ≡ true }
@@ -117,7 +117,7 @@ fn digits(values: u8x32) -> u8x32
             .select(u8x32::splat(b'0'), u8x32::splat(b'a' - 10))
 }
 
-// The 64 digits of 32 bytes.
+/// The 64 digits of 32 bytes.
 pub(crate) fn digits_of_bytes(bytes: &[u8; 32]) -> [u8; 64]
     ensures { result ≡ encode_lower bytes.now }
 {

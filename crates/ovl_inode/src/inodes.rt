@@ -180,20 +180,24 @@ impl Eq for Kind {
     ghost laws = { kind_eq_equiv };
 }
 
-/// The inode of an entry: its kind, permission bits, owner, modification time and extended attributes.
+/// The inode of an entry: its kind, permission bits, owner, modification time and extended
+/// attributes.
 #[derive(Debug, Drop)]
 pub struct Inode {
     /// What it is.
     pub kind: Kind,
-    /// Permission bits, set-user-ID, set-group-ID and sticky bit; at most [`MODE_LIMIT`] where it is sound.
+    /// Permission bits, set-user-ID, set-group-ID and sticky bit; at most [`MODE_LIMIT`] where it
+    /// is sound.
     pub mode: u16,
     /// The owner's number.
     pub uid: u32,
     /// The owning group's number.
     pub gid: u32,
-    /// The nanoseconds of the modification time past its second; at most [`NSEC_LIMIT`] where it is sound.
+    /// The nanoseconds of the modification time past its second; at most [`NSEC_LIMIT`] where it is
+    /// sound.
     pub nsec: u32,
-    /// The time of the last modification, in whole seconds from the start of 1970 in UTC, rounded down.
+    /// The time of the last modification, in whole seconds from the start of 1970 in UTC, rounded
+    /// down.
     pub mtime: i64,
     /// The extended attributes.
     pub attrs: Attrs,
@@ -263,17 +267,18 @@ pub fn blob_of(inode: &Inode) -> Option<Digest>
     }
 }
 
-/// The inode as the merged tree shows it: without the attributes whose name begins with `trusted.overlay.`.
-/// Fails only when out of memory.
+/// The inode as the merged tree shows it: without the attributes whose name begins with
+/// `trusted.overlay.`. Fails only when out of memory.
 pub fn visible(alloc: Global, inode: &Inode) -> Result<Inode, AllocError>
     ensures { IfOk result (λ shown. shown ≡ visible_inode inode.now) }
 {
     Ok(inode.with(inode.kind.copy(alloc)?, inode.attrs.visible(alloc)?))
 }
 
-/// Whether a manifest can state the inode: a mode of at most 4,095; at most 999,999,999 nanoseconds; a file of at most
-/// 2^63 - 1 bytes, with a blob exactly where it has a size over 0 and no attribute `metacopy`; a symlink's target of 1
-/// to 4,095 bytes without NUL. The types keep the other limits.
+/// Whether a manifest can state the inode: a mode of at most 4,095; at most 999,999,999
+/// nanoseconds; a file of at most 2^63 - 1 bytes, with a blob exactly where it has a size over 0
+/// and no attribute `metacopy`; a symlink's target of 1 to 4,095 bytes without NUL. The types keep
+/// the other limits.
 pub fn sound(inode: &Inode) -> bool
     ensures { result ≡ is_sound_inode inode.now }
 {

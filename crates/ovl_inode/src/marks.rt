@@ -49,8 +49,8 @@ impl From<AllocError> for RedirectFault {
     }
 }
 
-/// What an inode means to the overlay: the first of these that holds.
-/// overlayfs.rst: "whiteouts and opaque directories", "renaming directories", "Metadata only copy up".
+/// What an inode means to the overlay: the first of these that holds. overlayfs.rst: "whiteouts and
+/// opaque directories", "renaming directories", "Metadata only copy up".
 #[derive(Debug, Drop)]
 pub enum Mark {
     /// A char device 0:0, or an empty regular file with the attribute `whiteout`.
@@ -71,11 +71,11 @@ pub enum Mark {
     Leaf,
 }
 
-/// What the value of a `redirect` says: one that begins with `/` is a path from the root of the overlay, every other
-/// a name in the same directory. Otherwise the first fault in the order of [`RedirectFault`], each looked for in the
-/// whole value before the next. A path may have any number of names.
-/// overlayfs.rst: "renaming directories"; that a name lies beside the directory, and which values are malformed, is
-/// this profile's.
+/// What the value of a `redirect` says: one that begins with `/` is a path from the root of the
+/// overlay, every other a name in the same directory. Otherwise the first fault in the order of
+/// [`RedirectFault`], each looked for in the whole value before the next. A path may have any
+/// number of names. overlayfs.rst: "renaming directories"; that a name lies beside the directory,
+/// and which values are malformed, is this profile's.
 pub fn read_redirect(alloc: Global, value: &[u8]) -> Result<Redirect, RedirectFault>
     ensures { MatchResult result
         (λ redirect. (redirect ≡ redirect_of value.now) × (redirect_fault value.now ≡ None))
@@ -168,8 +168,9 @@ pub fn mark_of(alloc: Global, inode: &Inode) -> Result<Mark, AllocError>
     }
 }
 
-/// Whether the inode hides what lower layers have at its path: a char device 0:0, or a regular file of size 0 with
-/// the attribute `trusted.overlay.whiteout` of any value. overlayfs.rst: "whiteouts and opaque directories".
+/// Whether the inode hides what lower layers have at its path: a char device 0:0, or a regular file
+/// of size 0 with the attribute `trusted.overlay.whiteout` of any value. overlayfs.rst: "whiteouts
+/// and opaque directories".
 pub fn is_whiteout(inode: &Inode) -> bool
     ensures { result ≡ the_whiteout inode.now }
 {
@@ -187,8 +188,8 @@ pub fn is_directory(inode: &Inode) -> bool
     matches!(&inode.kind, Kind::Dir)
 }
 
-/// Whether the inode is a regular file without the attribute `metacopy`, whose contents are its own.
-/// overlayfs.rst: "Metadata only copy up".
+/// Whether the inode is a regular file without the attribute `metacopy`, whose contents are its
+/// own. overlayfs.rst: "Metadata only copy up".
 pub fn is_data(inode: &Inode) -> bool
     ensures { result ≡ data_test inode.now }
 {
@@ -203,9 +204,9 @@ fn directory_mark(alloc: Global, inode: &Inode) -> Result<Mark, AllocError>
         return Ok(Mark::DirOpaque);
     }
     Ok(match redirect_reading(alloc, inode)? {
-        Reading::Absent => Mark::DirPlain,
-        Reading::Malformed => Mark::DirBad,
-        Reading::Says(redirect) => Mark::DirMoved(redirect),
+        RedirectReading::Absent => Mark::DirPlain,
+        RedirectReading::Malformed => Mark::DirBad,
+        RedirectReading::Says(redirect) => Mark::DirMoved(redirect),
     })
 }
 
@@ -218,31 +219,31 @@ fn file_mark(alloc: Global, inode: &Inode) -> Result<Mark, AllocError>
         return Ok(Mark::Leaf);
     }
     Ok(match redirect_reading(alloc, inode)? {
-        Reading::Absent => Mark::Meta(None),
-        Reading::Malformed => Mark::MetaBad,
-        Reading::Says(redirect) => Mark::Meta(Some(redirect)),
+        RedirectReading::Absent => Mark::Meta(None),
+        RedirectReading::Malformed => Mark::MetaBad,
+        RedirectReading::Says(redirect) => Mark::Meta(Some(redirect)),
     })
 }
 
 // How the attribute `redirect` of an inode reads.
 #[derive(Drop)]
-enum Reading {
+enum RedirectReading {
     Absent,
     Malformed,
     Says(Redirect),
 }
 
-fn redirect_reading(alloc: Global, inode: &Inode) -> Result<Reading, AllocError>
+fn redirect_reading(alloc: Global, inode: &Inode) -> Result<RedirectReading, AllocError>
     ensures { IfOk result (λ reading. reading ≡ the_reading inode.now) }
 {
     let Some(value) = inode.attrs.get(overlay::REDIRECT) else {
-        return Ok(Reading::Absent);
+        return Ok(RedirectReading::Absent);
     };
     match read_redirect(alloc, value) {
-        Ok(redirect) => Ok(Reading::Says(redirect)),
+        Ok(redirect) => Ok(RedirectReading::Says(redirect)),
         Err(RedirectFault::Memory) => Err(AllocError),
         Err(
             RedirectFault::Empty | RedirectFault::Text | RedirectFault::Slash | RedirectFault::Part,
-        ) => Ok(Reading::Malformed),
+        ) => Ok(RedirectReading::Malformed),
     }
 }

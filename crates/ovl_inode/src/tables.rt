@@ -5,7 +5,7 @@ ghost use Rattle.ovl_names.specs.Names.{name_cmp};
 ghost use Rattle.ovl_inode.specs.Attributes.{all_before, are_attributes};
 ghost use Rattle.std.specs.Option.{option_map};
 ghost use Rattle.std.specs.Str.{IsCharBoundary};
-ghost use Rattle.ovl_inode.specs.Tables.{IsPlace, bytes_of, attribute_of};
+ghost use Rattle.ovl_inode.specs.Tables.{IsAttributePlace, bytes_of, attribute_of};
 
 use std::alloc::{AllocError, Global};
 use std::cmp::Ordering;
@@ -50,29 +50,30 @@ impl Part {
 
 /// Where the name and the value of an attribute are.
 #[derive(Clone, Copy, Debug)]
-pub(crate) struct Place {
+pub(crate) struct AttributePlace {
     name: Part,
     value: Part,
 }
 
-/// Attributes as places in the bytes of all their names and of all their values, in any order there.
+/// Attributes as places in the bytes of all their names and of all their values, in any order
+/// there. No other byte is kept.
 #[derive(Debug, Drop)]
 pub(crate) struct Table {
     names: String,
     values: Vec<u8>,
-    places: Vec<Place>,
+    places: Vec<AttributePlace>,
 }
 
 impl Model for Table {
     ghost use Rattle.std.specs.Prelude.{string_bytes};
     ghost use Rattle.ovl_inode.specs.Attributes.{Attributes};
-    ghost use Rattle.ovl_inode.specs.Tables.{ArePlaces, attributes_of};
+    ghost use Rattle.ovl_inode.specs.Tables.{IsFull, attributes_of};
 
     ghost Value = { Attributes };
 
     ghost view = { λ a. attributes_of (string_bytes a.names) a.values.items a.places.items };
 
-    ghost invariant = { λ a. ArePlaces (string_bytes a.names) a.values.items a.places.items };
+    ghost invariant = { λ a. IsFull (string_bytes a.names) a.values.items a.places.items };
 }
 
 /// Attributes in their order, each its name and its value, from the front or from the back.
@@ -80,7 +81,7 @@ impl Model for Table {
 pub struct Pairs<'a> {
     names: &'a str,
     values: &'a [u8],
-    places: &'a [Place],
+    places: &'a [AttributePlace],
 }
 
 impl<'a> Model for Pairs<'a> {
@@ -142,29 +143,42 @@ impl Table {
         ensures done { OnOk result (self.new ≡ insert self.old place (name.now, value.now)) }
         ensures kept { OnErr result (self.new ≡ self.old) }
     {
-        let own = Place {
+        let own = AttributePlace {
             name: Part::behind(self.names.len(), name.len())?,
             value: Part::behind(self.values.len(), value.len())?,
         };
+        self.names.reserve(name.len())?;
+        self.values.reserve(value.len())?;
+        self.places.insert(place, own)?;
         self.names.push_str(name)?;
         self.values.extend_from_slice(value)?;
-        self.places.insert(place, own)?;
         Ok(())
     }
 
     /// Sets the value of the attribute at a place; where a growth is refused, all stays as it was.
-    pub(crate) fn set_value(&mut self, place: usize, value: &[u8]) -> Result<(), AllocError>
+    /// The attributes are put anew, so that nothing is kept of the value that was there.
+    pub(crate) fn set_value(
+        &mut self,
+        alloc: Global,
+        place: usize,
+        value: &[u8],
+    ) -> Result<(), AllocError>
         requires { place < length self.old }
         ensures done { OnOk result
-            (option_map (λ own. set self.old place (own.0, value.now)) (slice_get self.old place) ≡ Some self.new) }
+            (option_map (λ own. set self.old place (own.0, value.now)) (slice_get self.old place)
+            ≡ Some self.new) }
         ensures kept { OnErr result (self.new ≡ self.old) }
     {
-        let own = Place {
-            name: self.places[place].name,
-            value: Part::behind(self.values.len(), value.len())?,
-        };
-        self.values.extend_from_slice(value)?;
-        self.places[place] = own;
+        let mut table = Table::new(alloc);
+        for (name, own) in self.pairs() {
+            let number = table.len();
+            if number == place {
+                table.insert(number, name, value)?;
+            } else {
+                table.insert(number, name, own)?;
+            }
+        }
+        *self = table;
         Ok(())
     }
 
@@ -253,8 +267,8 @@ impl<'a> DoubleEndedIterator for Pairs<'a> {
 }
 
 // The attribute at a place, its name and its value.
-fn attribute_at<'a>(names: &'a str, values: &'a [u8], place: Place) -> (&'a str, &'a [u8])
-    requires { IsPlace names.now values.now place }
+fn attribute_at<'a>(names: &'a str, values: &'a [u8], place: AttributePlace) -> (&'a str, &'a [u8])
+    requires { IsAttributePlace names.now values.now place }
     ensures { (result.0.now, result.1.now) ≡ attribute_of names.now values.now place }
 {
     (place.name.of_text(names), place.value.of_bytes(values))

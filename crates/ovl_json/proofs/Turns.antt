@@ -194,12 +194,12 @@ pub deep_object : (depth : ℕ) (ts : List Token) → is_some (read_value depth 
 deep_object zero ts some = let bad : false ≡ true = rw (too_deep ts).1 at some in cc
 deep_object (suc depth) ts some = omega arith
 
--- ---- what was passed
+-- ---- what was skipped
 
--- a list that is read ends where it was passed
-pub passed : {A B : Type 0} (f : A → Option B) (o : Option (A × List Token)) (r : List Token) → left o ≡ Some r → is_some (converted f o) ≡ true → IsSomeAnd (converted f o) (λ read. read.1 ≡ r)
-passed {B = B} f None r e some = let bad : false ≡ true = some in cc
-passed {B = B} f (Some q) r e some = by (f q.0) refl
+-- a list that is read ends where it was skipped
+pub end_of_skipped : {A B : Type 0} (f : A → Option B) (o : Option (A × List Token)) (r : List Token) → left o ≡ Some r → is_some (converted f o) ≡ true → IsSomeAnd (converted f o) (λ read. read.1 ≡ r)
+end_of_skipped {B = B} f None r e some = let bad : false ≡ true = some in cc
+end_of_skipped {B = B} f (Some q) r e some = by (f q.0) refl
   where
     same : q.1 ≡ r
     same = let is : Some q.1 ≡ Some r = e in cc

@@ -17,7 +17,7 @@ use Rattle.ovl_json.specs.Kept.{text_kept, texts_kept, kept, members_kept, objec
 use Rattle.ovl_json.specs.Reading.{read_members}
 use Rattle.ovl_json.specs.Views.{text_view, texts_view, member_view, members_view}
 use Rattle.ovl_json.specs.declared.objects.Member.{Member}
-use Rattle.ovl_json.proofs.Turns.{passed}
+use Rattle.ovl_json.proofs.Turns.{end_of_skipped}
 
 abbrev pub text_cmp : Bor (List ℕ) → Bor (List ℕ) → Ordering
 text_cmp one other = slice_cmp nat_cmp one.now other.now
@@ -135,7 +135,7 @@ read-grows depth found ts = by (json.members (json.value depth) (length ts) ts)
 pub too_many : (depth : ℕ) (found : Members) (ts r : List Token) → member_limit < members_len found → is_some (read_members depth found ts) ≡ true → skip_members depth ts ≡ Some r
     → IsSomeAnd (read_members depth found ts) (λ read. (read.1 ≡ r) × (None ≡ object_kept (object read.0)))
 too_many depth found ts r many some skipped =
-    both (read_members depth found ts) (passed (λ js. of_members js found) (json.members (json.value depth) (length ts) ts) r skipped some) (read-grows depth found ts)
+    both (read_members depth found ts) (end_of_skipped (λ js. of_members js found) (json.members (json.value depth) (length ts) ts) r skipped some) (read-grows depth found ts)
   where
     past : (n : ℕ) → members_len found ≤ n → nat_le n member_limit ≡ false
     past n h = grind (arith, nat_tests, many)

@@ -13,6 +13,10 @@ use Rattle.ovl_json.specs.declared.beginnings.Beginning.TheVariants.{Text, Numbe
 abbrev pub Begins : ℕ → List Token → Beginning → List Token → Type 0
 Begins depth old (Text text) new = read_value depth old ≡ Some (string text.now, new)
 Begins depth old (Number n) new = read_value depth old ≡ Some (number (number_view n), new)
-Begins depth old Plain new = (value : Data) × (read_value depth old ≡ Some (value, new)) × (kept value ≡ null)
-Begins depth old Array new = (0 < depth) × (read_value depth old ≡ parse_map array (read_items (depth - 1) new))
-Begins depth old Object new = (0 < depth) × (read_value depth old ≡ parse_map object (read_members (depth - 1) no_members new))
+Begins depth old Plain new =
+    (value : Data) × (read_value depth old ≡ Some (value, new)) × (kept value ≡ null)
+Begins depth old Array new =
+    (0 < depth) × (read_value depth old ≡ parse_map array (read_items (depth - 1) new))
+Begins depth old Object new =
+    (0 < depth)
+    × (read_value depth old ≡ parse_map object (read_members (depth - 1) no_members new))

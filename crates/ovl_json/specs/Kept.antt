@@ -30,5 +30,6 @@ members_kept (member name value members) = member name (kept value) (members_kep
 
 -- of a value that is an object of few enough names: its members, as much as is kept of each
 abbrev pub object_kept : Data → Option Data
-object_kept (object members) = if nat_le (members_len members) member_limit then Some (object (members_kept members)) else None
+object_kept (object members) =
+    if nat_le (members_len members) member_limit then Some (object (members_kept members)) else None
 object_kept _ = None

@@ -14,10 +14,11 @@ alone read = option_and_then (λ p. if_last p.0 p.1) read
 abbrev pub read_value : ℕ → List Token → Option (Data × List Token)
 read_value depth ts = converted of_json (json.value depth ts)
 
--- the items of an array whose bracket was passed, and the tokens after the bracket that closes it
+-- the items of an array whose bracket was read, and the tokens after the bracket that closes it
 abbrev pub read_items : ℕ → List Token → Option (Items × List Token)
 read_items depth ts = converted of_items (json.items (json.value depth) (length ts) ts)
 
--- the members of an object whose brace was passed, put among those that were found before
+-- the members of an object whose brace was read, put among those that were found before
 abbrev pub read_members : ℕ → Members → List Token → Option (Members × List Token)
-read_members depth found ts = converted (λ ms. of_members ms found) (json.members (json.value depth) (length ts) ts)
+read_members depth found ts =
+    converted (λ ms. of_members ms found) (json.members (json.value depth) (length ts) ts)

@@ -3,11 +3,11 @@ ghost use Rattle.ovl_json.specs.Reading.{read_value};
 ghost use Rattle.ovl_json.specs.Beginnings.{Begins};
 
 use crate::numbers::read_number;
-use crate::passing::Unread;
+use crate::skipping::Unread;
 use json::{Reader, Token};
 use serde_json::Number;
 
-/// How a value begins. Of an array and an object the bracket is passed, and nothing more.
+/// How a value begins. Of an array and an object the bracket is read, and nothing more.
 #[derive(Drop)]
 pub enum Beginning<'a> {
     /// A text, which is the whole value.
@@ -22,7 +22,8 @@ pub enum Beginning<'a> {
     Object,
 }
 
-/// How the value begins that stands next and nests at most `depth` deep. It can't fail where there is one.
+/// How the value begins that stands next and nests at most `depth` deep. It can't fail where there
+/// is one.
 pub fn begin<'a>(reader: &mut Reader<'a>, depth: usize) -> Result<Beginning<'a>, Unread>
     requires { is_some (read_value depth reader.old) ≡ true }
     ensures { IfOk result (λ beginning. Begins depth reader.old beginning reader.new) }

@@ -4,10 +4,10 @@
 mod beginnings;
 mod numbers;
 mod objects;
-mod passing;
+mod skipping;
 mod texts;
 
 pub use beginnings::{Beginning, begin};
 pub use objects::{MEMBER_LIMIT, Member, Object, Texts, read_object};
-pub use passing::{Unread, pass_items, pass_members};
+pub use skipping::{Unread, skip_items, skip_members};
 pub use texts::{MAX_DEPTH, is_json};

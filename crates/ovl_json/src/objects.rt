@@ -9,7 +9,7 @@ ghost use Rattle.ovl_json.specs.Reading.{read_value, read_members as members_rea
 ghost use Rattle.ovl_json.specs.Views.{text_view, texts_view, member_view, object_view};
 
 use crate::beginnings::{Beginning, begin};
-use crate::passing::{Unread, pass_items, pass_members};
+use crate::skipping::{Unread, skip_items, skip_members};
 use json::Reader;
 use serde_json::Number;
 use std::alloc::Global;
@@ -59,7 +59,8 @@ impl<'a> Member<'a> {
 
     /// The texts of the object, where it is one.
     pub fn as_object(&self) -> Option<&Texts<'a>>
-        ensures { option_map (λ texts. texts_view texts.now.entries) result ≡ as_object (member_view self.now) }
+        ensures { option_map (λ texts. texts_view texts.now.entries) result
+            ≡ as_object (member_view self.now) }
     {
         match self {
             Member::Object(texts) => Some(texts),
@@ -84,7 +85,8 @@ pub struct Object<'a> {
 impl<'a> Object<'a> {
     /// The member of that name.
     pub fn get(&self, name: &str) -> Option<&Member<'a>>
-        ensures { option_map (λ own. member_view own.now) result ≡ get name.now (object_view self.now) }
+        ensures { option_map (λ own. member_view own.now) result
+            ≡ get name.now (object_view self.now) }
     {
         self.members.get(name)
     }
@@ -97,8 +99,9 @@ impl<'a> Object<'a> {
     }
 }
 
-/// What is kept of the value that stands next and nests at most `depth` deep; `None` where it is no object, or has more
-/// than [`MEMBER_LIMIT`] names. Fails only when out of memory where there is a value.
+/// What is kept of the value that stands next and nests at most `depth` deep; `None` where it is no
+/// object, or has more than [`MEMBER_LIMIT`] names. Fails only when out of memory where there is a
+/// value.
 pub fn read_object<'a>(
     alloc: Global,
     reader: &mut Reader<'a>,
@@ -112,14 +115,14 @@ pub fn read_object<'a>(
     match begin(reader, depth)? {
         Beginning::Object => read_members(alloc, reader, depth - 1),
         Beginning::Array => {
-            pass_items(reader, depth - 1)?;
+            skip_items(reader, depth - 1)?;
             Ok(None)
         }
         _ => Ok(None),
     }
 }
 
-// What is kept of an object whose brace was passed.
+// What is kept of an object whose brace was read.
 fn read_members<'a>(
     alloc: Global,
     reader: &mut Reader<'a>,
@@ -135,7 +138,7 @@ fn read_members<'a>(
         let member = read_member(alloc, reader, depth)?;
         members.insert(name, member)?;
         if members.len() > MEMBER_LIMIT {
-            pass_members(reader, depth)?;
+            skip_members(reader, depth)?;
             return Ok(None);
         }
     }
@@ -157,14 +160,14 @@ fn read_member<'a>(
         Beginning::Number(number) => Ok(Member::Number(number)),
         Beginning::Plain => Ok(Member::Other),
         Beginning::Array => {
-            pass_items(reader, depth - 1)?;
+            skip_items(reader, depth - 1)?;
             Ok(Member::Array)
         }
         Beginning::Object => Ok(Member::Object(read_texts(alloc, reader, depth - 1)?)),
     }
 }
 
-// The texts of an object whose brace was passed.
+// The texts of an object whose brace was read.
 fn read_texts<'a>(alloc: Global, reader: &mut Reader<'a>, depth: usize) -> Result<Texts<'a>, Unread>
     requires { is_some (members_read depth no_members reader.old) ≡ true }
     ensures { IfOk result (λ own. IsSomeAnd (members_read depth no_members reader.old) (λ read.
@@ -188,11 +191,11 @@ fn read_text<'a>(reader: &mut Reader<'a>, depth: usize) -> Result<Option<&'a str
         Beginning::Text(text) => Ok(Some(text)),
         Beginning::Number(_) | Beginning::Plain => Ok(None),
         Beginning::Array => {
-            pass_items(reader, depth - 1)?;
+            skip_items(reader, depth - 1)?;
             Ok(None)
         }
         Beginning::Object => {
-            pass_members(reader, depth - 1)?;
+            skip_members(reader, depth - 1)?;
             Ok(None)
         }
     }

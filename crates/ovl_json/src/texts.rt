@@ -14,8 +14,9 @@ use std::alloc::{AllocError, Global};
 /// How deep arrays and objects may nest.
 pub const MAX_DEPTH: usize = 127;
 
-/// Whether a text is JSON (RFC 8259) that `serde_json` reads: nested at most [`MAX_DEPTH`] deep, with numbers that a
-/// float of 64 bits can hold. It takes as much memory as the text, whatever the text holds; fails only when out of memory.
+/// Whether a text is JSON (RFC 8259) that `serde_json` reads: nested at most [`MAX_DEPTH`] deep,
+/// with numbers that a float of 64 bits can hold. It takes as much memory as the text, whatever the
+/// text holds; fails only when out of memory.
 pub fn is_json(alloc: Global, text: &str) -> Result<bool, AllocError>
     ensures { IfOk result (λ is. is ≡ is_some (read text.now)) }
 {

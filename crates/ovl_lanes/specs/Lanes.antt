@@ -18,7 +18,9 @@ IsSettled a left = (p : Piece) → times p a.pushed ≡ times p (a.taken ++ left
 
 -- as many pieces were pushed as the lane has slots or more, or as many as can be counted
 abbrev pub IsUsedUp : Lane → Type 0
-IsUsedUp lane = (worker_capacity lane.deque ≤ length (account_of lane).pushed) ⊎ (length (account_of lane).pushed + 1 ≡ 2 ^ 64)
+IsUsedUp lane =
+    (worker_capacity lane.deque ≤ length (account_of lane).pushed)
+    ⊎ (length (account_of lane).pushed + 1 ≡ 2 ^ 64)
 
 -- every pass that was split from the lane is joined again
 abbrev pub IsWhole : Lane → Type 0

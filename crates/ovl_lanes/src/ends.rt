@@ -21,8 +21,8 @@ pub struct Lane {
     ghost reached: { worker_index deque ≤ pushed },
 }
 
-/// The leave of one worker to steal from one lane. It is split from the lane, and joined to it again before the lane
-/// is closed.
+/// The leave of one worker to steal from one lane. It is split from the lane, and joined to it
+/// again before the lane is closed.
 #[derive(Drop)]
 pub struct Pass {
     account: View<Piece, Account>,
@@ -45,7 +45,8 @@ impl Lane {
 
     /// A lane with nothing in it, and its thief.
     pub(crate) fn new(alloc: Global) -> Result<(Lane, Thief), AllocError>
-        ensures { IfOk result (λ ends. (account_of ends.0 ≡ owned 0 0 [] []) × IsOneLane ends.0 ends.1) }
+        ensures { IfOk result
+            (λ ends. (account_of ends.0 ≡ owned 0 0 [] []) × IsOneLane ends.0 ends.1) }
     {
         let deque = Worker::<Piece, Global, Account, Fair>::fifo_as(alloc, FIRST_SLOTS)?;
         let thief = Thief {
@@ -64,19 +65,23 @@ impl Lane {
     /// How many pieces are left in a whole lane.
     pub(crate) fn left(&mut self) -> u64
         requires { IsWhole self.old }
-        ensures left { (left : List Piece) × ((length left ≡ result) × IsSettled (account_of self.old) left
+        ensures left { (left : List Piece)
+            × ((length left ≡ result) × IsSettled (account_of self.old) left
             × (length (account_of self.old).pushed ≡ length (account_of self.old).taken + result)) }
         ensures same { account_of self.new ≡ account_of self.old }
     {
         self.deque.len_as::<Left>() as u64
     }
 
-    /// Adds a piece at the back of the lane. Gives it back, with nothing changed, when out of memory, where the deque is at
-    /// its own end, or 2^64 - 1 pieces were pushed already; never while a slot of the lane wasn't used yet.
+    /// Adds a piece at the back of the lane. Gives it back, with nothing changed, when out of
+    /// memory, where the deque is at its own end, or 2^64 - 1 pieces were pushed already; never
+    /// while a slot of the lane wasn't used yet.
     pub fn push(&mut self, piece: Piece) -> Result<(), Piece>
         ensures same { IsSameLane self.old self.new }
         ensures counted { MatchResult result
-            (λ _. account_of self.new ≡ record (account_of self.old) { pushed = (account_of self.old).pushed ++ piece ∷ [] })
+            (λ _. account_of self.new
+            ≡ record (account_of self.old)
+            { pushed = (account_of self.old).pushed ++ piece ∷ [] })
             (λ back. (back ≡ piece) × (account_of self.new ≡ account_of self.old)) }
         ensures refused { IfErr result (λ _. IsUsedUp self.old) }
     {
@@ -88,15 +93,22 @@ impl Lane {
         Ok(())
     }
 
-    /// Takes the first piece of the lane, one that was pushed and wasn't taken before; `None` where it was empty at one
-    /// moment. With no pass out, it gives a piece exactly where there is one left.
+    /// Takes the first piece of the lane, one that was pushed and wasn't taken before; `None` where
+    /// it was empty at one moment. With no pass out, it gives a piece exactly where there is one
+    /// left.
     pub fn pop(&mut self) -> Option<Piece>
         ensures same { IsSameLane self.old self.new }
         ensures counted { MatchOption result
             (account_of self.new ≡ account_of self.old)
-            (λ piece. account_of self.new ≡ record (account_of self.old) { taken = (account_of self.old).taken ++ piece ∷ [] }) }
-        ensures pushed { IfSome result (λ piece. (p : Piece) → times p ((account_of self.old).taken ++ piece ∷ []) ≤ times p (account_of self.old).pushed) }
-        ensures empty { MatchOption result (IsWhole self.old → IsSettled (account_of self.old) []) (λ _. Unit {0}) }
+            (λ piece. account_of self.new
+            ≡ record (account_of self.old)
+            { taken = (account_of self.old).taken ++ piece ∷ [] }) }
+        ensures pushed { IfSome result
+            (λ piece. (p : Piece)
+            → times p ((account_of self.old).taken ++ piece ∷ [])
+            ≤ times p (account_of self.old).pushed) }
+        ensures empty { MatchOption result (IsWhole self.old → IsSettled (account_of self.old) [])
+            (λ _. Unit {0}) }
     {
         self.deque.pop_as::<Takes>()
     }
@@ -105,7 +117,8 @@ impl Lane {
     pub fn split_pass(&mut self) -> Pass
         ensures same { IsSameLane self.old self.new }
         ensures pass { IsOfLane self.new result × (stolen_by result ≡ []) }
-        ensures counted { account_of self.new ≡ record (account_of self.old) { split = (account_of self.old).split + 1 } }
+        ensures counted { account_of self.new
+            ≡ record (account_of self.old) { split = (account_of self.old).split + 1 } }
     {
         Pass {
             account: self.deque.another::<Lends>(),
@@ -130,8 +143,8 @@ impl Thief {
     ghost use Rattle.std.specs.Prelude.{◌≡◌, [], ◌∷◌, ◌++◌, MatchOption};
     ghost use Rattle.ovl_lanes.specs.Lanes.{stolen_by, IsOfThief};
 
-    /// One try to take the first piece of the lane, by a pass that was split from it; `None` where the lane was empty at
-    /// one moment, or where another worker was quicker.
+    /// One try to take the first piece of the lane, by a pass that was split from it; `None` where
+    /// the lane was empty at one moment, or where another worker was quicker.
     pub fn steal(&self, pass: &mut Pass) -> Option<Piece>
         requires { IsOfThief self.now pass.old }
         ensures same { IsOfThief self.now pass.new }

@@ -1,7 +1,7 @@
 ghost use Rattle.std.specs.Prelude.{◌≡◌, ◌+◌};
 
-/// How many pieces were pushed to a lane, were taken from it and are left in it: those pushed are those taken with
-/// those left.
+/// How many pieces were pushed to a lane, were taken from it and are left in it: those pushed are
+/// those taken with those left.
 #[derive(Drop)]
 pub struct Gathered {
     /// How many pieces were pushed.

@@ -1,5 +1,6 @@
-//! Lanes of pieces, one for each worker: its owner pushes and takes, and the other workers steal. Each lane is a deque
-//! under a rule, by which each piece that was pushed is one that was taken or is left.
+//! Lanes of pieces, one for each worker: its owner pushes and takes, and the other workers steal.
+//! Each lane is a deque under a rule, by which each piece that was pushed is one that was taken or
+//! is left.
 #![tactic(auto)]
 
 mod accounts;

@@ -2,8 +2,9 @@ use crate::accounts::Account;
 use crossbeam_deque::protocol::{Join, Lesson, Outcome, Protocol, Split};
 use ovl_board::Piece;
 
-/// The rule of a lane, which each step keeps: its pieces, with those that the owner and all passes took, are those that
-/// the owner pushed, and each pass that was split off is joined again or still out.
+/// The rule of a lane, which each step keeps: its pieces, with those that the owner and all passes
+/// took, are those that the owner pushed, and each pass that was split off is joined again or still
+/// out.
 pub struct Fair;
 
 impl Protocol<Piece, Account> for Fair {
@@ -48,8 +49,8 @@ impl Outcome<Piece, Account> for Puts {
     ghost then = { λ v xs w. w ≡ owned v.split v.joined (v.pushed ++ xs) v.taken };
 }
 
-/// The owner takes pieces: ones that it pushed and that weren't taken before. Where it finds none and no pass is out, all
-/// that it pushed was taken.
+/// The owner takes pieces: ones that it pushed and that weren't taken before. Where it finds none
+/// and no pass is out, all that it pushed was taken.
 pub(crate) struct Takes;
 
 impl Outcome<Piece, Account> for Takes {
@@ -58,9 +59,11 @@ impl Outcome<Piece, Account> for Takes {
     ghost use Rattle.ovl_board.specs.declared.pieces.Piece.{Piece};
     ghost use Rattle.ovl_lanes.specs.Accounts.{owned};
 
-    ghost then = { λ v xs w. (w ≡ owned v.split v.joined v.pushed (v.taken ++ xs)) × ((h : Piece → ℕ) → sum_by h (v.taken ++ xs) ≤ sum_by h v.pushed) };
+    ghost then = { λ v xs w. (w ≡ owned v.split v.joined v.pushed (v.taken ++ xs))
+        × ((h : Piece → ℕ) → sum_by h (v.taken ++ xs) ≤ sum_by h v.pushed) };
 
-    ghost empty = { λ v. v.split ≡ v.joined → (h : Piece → ℕ) → sum_by h v.pushed ≡ sum_by h v.taken };
+    ghost empty = { λ v. v.split ≡ v.joined → (h : Piece → ℕ)
+        → sum_by h v.pushed ≡ sum_by h v.taken };
 }
 
 /// A pass takes pieces.
@@ -73,7 +76,8 @@ impl Outcome<Piece, Account> for Steals {
     ghost then = { λ v xs w. w ≡ lent 1 (v.taken ++ xs) };
 }
 
-/// Where no pass is out, what was pushed is what the owner's account has as taken with what the lane holds.
+/// Where no pass is out, what was pushed is what the owner's account has as taken with what the
+/// lane holds.
 pub(crate) struct Left;
 
 impl Lesson<Piece, Account> for Left {
@@ -81,5 +85,6 @@ impl Lesson<Piece, Account> for Left {
     ghost use Rattle.std.specs.List.{sum_by};
     ghost use Rattle.ovl_board.specs.declared.pieces.Piece.{Piece};
 
-    ghost fact = { λ v items. (h : Piece → ℕ) → sum_by h v.pushed ≡ sum_by h v.taken + sum_by h items };
+    ghost fact = { λ v items. (h : Piece → ℕ)
+        → sum_by h v.pushed ≡ sum_by h v.taken + sum_by h items };
 }

@@ -20,11 +20,13 @@ pub struct Seat {
     pub thief: Thief,
 }
 
-/// Ends a lane to which all its passes were joined again: how many pieces were pushed, were taken and are left. Piece by
-/// piece, those taken with those left are those pushed. The pieces that are left go with the lane.
+/// Ends a lane to which all its passes were joined again: how many pieces were pushed, were taken
+/// and are left. Piece by piece, those taken with those left are those pushed. The pieces that are
+/// left go with the lane.
 pub fn close(seat: Seat) -> Gathered
     requires { IsWhole seat.lane }
-    ensures left { (left : List Piece) × ((length left ≡ result.left) × IsSettled (account_of seat.lane) left) }
+    ensures left { (left : List Piece)
+        × ((length left ≡ result.left) × IsSettled (account_of seat.lane) left) }
     ensures pushed { length (account_of seat.lane).pushed ≡ result.pushed }
     ensures taken { length (account_of seat.lane).taken ≡ result.taken }
 {
@@ -63,8 +65,8 @@ impl<T: Drop> From<AllocFailed<T>> for LaneFault {
     }
 }
 
-/// Empty lanes, `n` of them, one for each worker. Refuses every number outside 1 to [`WORKER_LIMIT`], and fails otherwise
-/// only when out of memory.
+/// Empty lanes, `n` of them, one for each worker. Refuses every number outside 1 to
+/// [`WORKER_LIMIT`], and fails otherwise only when out of memory.
 pub fn lanes(alloc: Global, n: usize) -> Result<Vec<Seat>, LaneFault>
     ensures refused { (result ≡ Err Count) ↔ ((n < 1) ⊎ (worker_limit < n)) }
     ensures one_each { IfOk result (λ seats. vec_len seats ≡ n) }

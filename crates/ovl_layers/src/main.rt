@@ -1,4 +1,5 @@
-//! Offline tools for stacks of overlay layers: what layers show, what is wrong with them, and new layers that show the same.
+//! Offline tools for stacks of overlay layers: what layers show, what is wrong with them, and new
+//! layers that show the same.
 #![tactic(auto)]
 
 use std::process::ExitCode;

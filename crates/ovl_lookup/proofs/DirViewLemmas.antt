@@ -13,8 +13,8 @@ use Rattle.ovl_inode.specs.Marks.{mark_of, is_directory}
 use Rattle.ovl_inode.specs.declared.marks.Mark.{Mark}
 use Rattle.ovl_inode.specs.declared.marks.Mark.TheVariants.{Whiteout, DirOpaque, DirMoved, DirBad, DirPlain, Meta, MetaBad, Leaf}
 use Rattle.ovl_inode.specs.declared.marks.Redirect.TheVariants.{To, Beside}
-use Rattle.ovl_manifest.specs.Layers.{Entries, entry_at}
-use Rattle.ovl_manifest.specs.Sheets.{path_at}
+use Rattle.ovl_layer.specs.Layers.{Entries, entry_at}
+use Rattle.ovl_layer.specs.Sheets.{path_at}
 use Rattle.ovl_lookup.specs.declared.steps.Step.{Step}
 use Rattle.ovl_lookup.specs.declared.views.DirPlace.{DirPlace}
 use Rattle.ovl_lookup.specs.declared.views.PlaceEntry.{PlaceEntry}

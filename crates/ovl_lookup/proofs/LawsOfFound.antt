@@ -10,7 +10,7 @@ use Rattle.ovl_names.specs.Names.{PathName, name_eq}
 use Rattle.ovl_inode.specs.declared.inodes.Inode.{Inode}
 use Rattle.ovl_inode.specs.Marks.{mark_of, is_metacopy, is_directory, is_regular, is_whiteout, has_metacopy, is_data}
 use Rattle.ovl_inode.specs.Inodes.{visible}
-use Rattle.ovl_manifest.specs.Layers.{Entries, entry_at, Entry, IsLayer, is_directory_at, names_below}
+use Rattle.ovl_layer.specs.Layers.{Entries, entry_at, Entry, IsLayer, is_directory_at, names_below}
 use Rattle.ovl_lookup.specs.declared.steps.Step.{Step}
 use Rattle.ovl_lookup.specs.Walk.{walk, nothing_found, turn, is_shut}
 use Rattle.ovl_lookup.specs.Trace.{walks, things_found, leading_files, leading_directories, hits_of}

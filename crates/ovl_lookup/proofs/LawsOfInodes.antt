@@ -24,7 +24,7 @@ use Rattle.ovl_inode.specs.Inodes.{visible}
 use Rattle.ovl_inode.specs.Sound.{is_sound_inode, is_sound_kind}
 use Rattle.ovl_inode.proofs.AttributeLemmas.{are_attributes-visible}
 use Rattle.ovl_inode.proofs.SoundLaws.{sound_values, sound-with, kind-full}
-use Rattle.ovl_manifest.proofs.NodeLemmas.{name_eq-same, name_eq-cmp}
+use Rattle.ovl_layer.proofs.NodeLemmas.{name_eq-same, name_eq-cmp}
 use Rattle.ovl_lookup.specs.Sound.{is_malformed, is_meta}
 use Rattle.ovl_lookup.proofs.LawsOfPaths.{filter-all}
 

@@ -19,10 +19,10 @@ use Rattle.ovl_names.specs.Order.{ascends}
 use Rattle.ovl_names.specs.Paths.{PathNames, child_path, path_cmp, path_eq, depth_limit}
 use Rattle.ovl_names.proofs.Ascending.{both, list_all-before, ascends-filter, is_lt-Less}
 use Rattle.ovl_inode.specs.declared.inodes.Inode.{Inode}
-use Rattle.ovl_manifest.specs.Layers.{Entry, Entries, entry_cmp, name_below, names_below, IsLayer, entry_at}
-use Rattle.ovl_manifest.specs.Sheets.{path_at}
-use Rattle.ovl_manifest.proofs.SheetLemmas.{path_cmp-beside}
-use Rattle.ovl_manifest.proofs.NodeLemmas.{name_eq-cmp}
+use Rattle.ovl_layer.specs.Layers.{Entry, Entries, entry_cmp, name_below, names_below, IsLayer, entry_at}
+use Rattle.ovl_layer.specs.Sheets.{path_at}
+use Rattle.ovl_layer.proofs.SheetLemmas.{path_cmp-beside}
+use Rattle.ovl_layer.proofs.NodeLemmas.{name_eq-cmp}
 use Rattle.ovl_lookup.specs.declared.steps.Step.{Step}
 use Rattle.ovl_lookup.specs.declared.looks.Look.{Look}
 use Rattle.ovl_lookup.specs.declared.looks.Look.TheVariants.{Shown, Broken, Nothing}

@@ -19,7 +19,7 @@ use Rattle.ovl_inode.specs.declared.inodes.Kind.{Kind}
 use Rattle.ovl_inode.specs.declared.inodes.Kind.TheVariants.{Dir, File, Char}
 use Rattle.ovl_inode.specs.Attributes.{attribute, visible_attributes, is_overlay_name, whiteout_name, has_escaped_name}
 use Rattle.ovl_inode.specs.Sound.{is_sound_inode}
-use Rattle.ovl_manifest.specs.Layers.{Entry, Entries, IsLayer, entry_at, is_directory_at, name_below, names_below, entry_cmp}
+use Rattle.ovl_layer.specs.Layers.{Entry, Entries, IsLayer, entry_at, is_directory_at, name_below, names_below, entry_cmp}
 use Rattle.ovl_lookup.specs.declared.steps.Step.{Step}
 use Rattle.ovl_lookup.specs.declared.looks.Look.{Look}
 use Rattle.ovl_lookup.specs.declared.looks.Look.TheVariants.{Shown, Broken, Nothing}

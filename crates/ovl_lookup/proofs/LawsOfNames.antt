@@ -24,7 +24,7 @@ use Rattle.ovl_inode.specs.declared.marks.RedirectFault.TheVariants.{Empty as No
 use Rattle.ovl_inode.specs.Attributes.{attribute, redirect_name}
 use Rattle.ovl_inode.specs.Marks.{mark_of, is_whiteout, is_directory, is_regular, has_opaque, has_metacopy, redirect_reading, directory_mark, metacopy_mark}
 use Rattle.ovl_inode.specs.Redirects.{read_redirect, redirect_fault, redirect_of, redirect_parts, is_bad_part, has_bad_slash}
-use Rattle.ovl_manifest.specs.Layers.{Entries, entry_at, is_directory_at}
+use Rattle.ovl_layer.specs.Layers.{Entries, entry_at, is_directory_at}
 use Rattle.ovl_lookup.specs.Walk.{walk, walk_from, walk_beyond, walk_to_file, nothing_found, turn, is_shut, mark_at, origin_path, name_in_lower}
 use Rattle.ovl_lookup.specs.Merged.{last_of, last_place, place_of_data}
 use Rattle.ovl_lookup.proofs.Longest.{longest-rest}

@@ -1,20 +1,21 @@
 -- Laws of paths and of lists of entries.
 use Rattle.std.proofs.Common.{◌≡◌, ℕ, Bool, true, false, cond, Some, None, List, [], ◌∷◌, refl, sym, ap, ◌∙◌, zero, suc, ◌≤◌, length, drop, Option, arith, ◌-◌, ◌++◌, take, subst, append_assoc, length-append, inl, inr, ◌⊎◌}
-use Rattle.std.specs.Prelude.{not, filter, ◌&&◌, ◌||◌}
+use Rattle.std.specs.Prelude.{not, filter, ◌&&◌, ◌||◌, reverse}
 use Rattle.std.specs.Ordering.{is_lt, ordering_reverse}
 use Rattle.std.specs.Cmp.Lexicographic.{bytes_decides, pointwise_decides}
 use Rattle.std.specs.List.{list_all, list_any, All}
 use Rattle.std.specs.Map.{lookup}
 use Rattle.std.proofs.Math.Seq.{take-append_seam}
-use Rattle.std.proofs.lemmas.List.{append-nil, take-append-drop}
+use Rattle.std.proofs.lemmas.List.{append-nil, take-append-drop, reverse-reverse}
 use Rattle.ovl_names.specs.Names.{PathName}
 use Rattle.ovl_names.specs.Paths.{PathNames, path_eq, child_path, parent_path, is_root, path_cmp}
 use Rattle.ovl_names.proofs.Ascending.{both, is_lt-Less}
 use Rattle.ovl_names.specs.Order.{ascends}
 use Rattle.ovl_inode.specs.declared.inodes.Inode.{Inode}
-use Rattle.ovl_manifest.specs.Layers.{Entries, entry_at, Entry, entry_cmp}
-use Rattle.ovl_manifest.proofs.LayerLemmas.{path_cmp-same, path_order}
+use Rattle.ovl_layer.specs.Layers.{Entries, entry_at, Entry, entry_cmp}
+use Rattle.ovl_layer.proofs.LayerLemmas.{path_cmp-same, path_order}
 use Rattle.ovl_lookup.specs.Words.{is_at_or_under}
+use Rattle.ovl_lookup.specs.Trails.{trail_eq}
 
 -- what passes a test passes one that it implies, before or after
 pub filter-filter : {X : Type 0} (one other : X → Bool) (xs : List X) → ((x : X) → one x ≡ true → other x ≡ true) → filter one (filter other xs) ≡ filter one xs
@@ -220,3 +221,18 @@ entries-unique (entry ∷ one) (first ∷ other) up above same =
     by (inl e) _ later = whole ((pointwise_decides bytes_decides entry.0 first.0).0 e) later
     by (inr e) (inl f) later = whole (sym ((pointwise_decides bytes_decides first.0 entry.0).0 f)) later
     by (inr e) (inr f) later = let bad : false ≡ true = not_both first.0 entry.0 e f in cc
+
+-- trails are equal exactly where their paths are
+pub trail_eq-path : (one other : PathNames) → trail_eq one other ≡ path_eq one other
+trail_eq-path one other = by (trail_eq one other) refl (path_eq one other) refl
+  where
+    by : (b : Bool) → trail_eq one other ≡ b → (c : Bool) → path_eq one other ≡ c → b ≡ c
+    by true e true f = refl
+    by false e false f = refl
+    by true e false f =
+        let ends : reverse one ≡ reverse other = (pointwise_decides bytes_decides (reverse one) (reverse other)).0 e in
+        let same : one ≡ other = sym (reverse-reverse one) ∙ (ap reverse ends ∙ reverse-reverse other) in
+        let bad : false ≡ true = sym f ∙ (pointwise_decides bytes_decides one other).1 same in cc
+    by false e true f =
+        let ends : reverse one ≡ reverse other = ap reverse ((pointwise_decides bytes_decides one other).0 f) in
+        let bad : false ≡ true = sym e ∙ (pointwise_decides bytes_decides (reverse one) (reverse other)).1 ends in cc

@@ -16,10 +16,10 @@ use Rattle.ovl_inode.specs.declared.marks.Mark.{Mark}
 use Rattle.ovl_inode.specs.Marks.{mark_of, is_directory, is_whiteout, is_metacopy, is_metacopy_mark, is_regular, has_opaque, has_metacopy, redirect_reading, directory_mark, metacopy_mark}
 use Rattle.ovl_inode.specs.declared.marks.Mark.TheVariants.{Whiteout, DirOpaque, DirMoved, DirBad, DirPlain, Meta, MetaBad, Leaf}
 use Rattle.ovl_inode.specs.declared.marks.Redirect.TheVariants.{To, Beside}
-use Rattle.ovl_manifest.specs.Layers.{Entries, entry_at, is_directory_at, IsLayer, has_parent, Entry, name_below, names_below, is_within_limits}
-use Rattle.ovl_manifest.proofs.NodeLemmas.{name_eq-same}
-use Rattle.ovl_manifest.specs.Sheets.{path_at, path_of}
-use Rattle.ovl_manifest.proofs.SheetLemmas.{none-past, entry_at-number}
+use Rattle.ovl_layer.specs.Layers.{Entries, entry_at, is_directory_at, IsLayer, has_parent, Entry, name_below, names_below, is_within_limits}
+use Rattle.ovl_layer.proofs.NodeLemmas.{name_eq-same}
+use Rattle.ovl_layer.specs.Sheets.{path_at, path_of}
+use Rattle.ovl_layer.proofs.SheetLemmas.{none-past, entry_at-number}
 use Rattle.ovl_lookup.specs.Walk.{mark_at, origin_path, name_in_lower, is_closing, nothing_found, turn, is_shut, walk, walk_from, walk_beyond, natural_path, walk_to_file}
 use Rattle.ovl_lookup.specs.Onwards.{next_on, closed_on}
 use Rattle.ovl_lookup.specs.Passes.{IsPast, entered_path, entered_closed}

@@ -11,6 +11,7 @@ pub mod Longest
 pub mod Turns
 pub mod WalkFacts
 pub mod FoundLemmas
+mod SightLemmas
 pub mod ListLemmas
 pub mod Notation
 pub mod RowLemmas

@@ -5,7 +5,7 @@ use Rattle.ovl_inode.specs.declared.inodes.Kind.{Kind}
 use Rattle.ovl_inode.specs.declared.inodes.Kind.TheVariants.{Dir, File, Char}
 use Rattle.ovl_inode.specs.Attributes.{Attributes, opaque_name, redirect_name, metacopy_name, whiteout_name}
 use Rattle.ovl_names.specs.Paths.{PathNames, text_parts}
-use Rattle.ovl_manifest.specs.Layers.{Entries}
+use Rattle.ovl_layer.specs.Layers.{Entries}
 
 -- an inode of this kind, mode and attributes; the rest is 0
 abbrev pub plain_inode : Kind → ℕ → Attributes → Inode

@@ -1,6 +1,6 @@
 -- What is found from a place on, by what stands at a name there; the place is read from a list by its number.
 use Rattle.std.proofs.Common.{◌≡◌, ℕ, ◌+◌, ◌<◌, length, true, false, Some, None, List, [], drop}
-use Rattle.std.specs.Prelude.{slice_get, not}
+use Rattle.std.specs.Prelude.{slice_get}
 use Rattle.ovl_names.specs.Names.{PathName}
 use Rattle.ovl_inode.specs.declared.inodes.Inode.{Inode}
 use Rattle.ovl_inode.specs.Marks.{is_directory, is_whiteout, is_data, is_metacopy_mark}
@@ -9,13 +9,14 @@ use Rattle.ovl_lookup.specs.declared.views.DirPlace.{DirPlace}
 use Rattle.ovl_lookup.specs.declared.views.PlaceEntry.{PlaceEntry}
 use Rattle.ovl_lookup.specs.Stacks.{StackView}
 use Rattle.ovl_lookup.specs.Trace.{things_found}
-use Rattle.ovl_lookup.specs.Merged.{shown_of, is_nothing, place_of_data}
+use Rattle.ovl_lookup.specs.Merged.{shown_of, place_of_data}
+use Rattle.ovl_lookup.specs.Sights.{sight_of, sight_of_kind}
 use Rattle.ovl_lookup.specs.Passes.{data_below}
 use Rattle.ovl_lookup.specs.Views.{Reached, entry_in, below_entry, found_below, reached_below}
 use Rattle.ovl_lookup.specs.DirViews.{IsEntryIn, place_in, places_in}
 use Rattle.ovl_lookup.proofs.ViewSteps.{below-none, below-file, found-none}
 use Rattle.ovl_lookup.proofs.DirViewLemmas.{place_read, place-read}
-use Rattle.ovl_lookup.proofs.ViewLookLemmas.{whiteout-shows, entry-shows, whiteout-data, own-data, other-data, onward-data}
+use Rattle.ovl_lookup.proofs.ViewLookLemmas.{whiteout-shows, entry-sight, whiteout-data, own-data, other-data, onward-data}
 
 module _ (stack : StackView) (name : PathName) (places : List DirPlace) (k : ℕ) (inside : k < length places) where
   abbrev own : DirPlace
@@ -45,8 +46,8 @@ module _ (stack : StackView) (name : PathName) (places : List DirPlace) (k : ℕ
     pub whiteout-shown : is_whiteout entry.inode.now ≡ true → shown_of stack.data_only (found_from k) ≡ Nothing
     whiteout-shown white = whiteout-shows stack.data_only stack.layers name (places_in stack places) k (place_in stack own) at entry.inode.now entry.mark.now is.inode is.mark white
 
-    pub entry-shown : is_whiteout entry.inode.now ≡ false → not (is_nothing (shown_of stack.data_only (found_from k))) ≡ true
-    entry-shown white = entry-shows stack.data_only stack.layers name (places_in stack places) k (place_in stack own) at entry.inode.now entry.mark.now is.inode is.mark white
+    pub entry-seen : is_whiteout entry.inode.now ≡ false → sight_of (shown_of stack.data_only (found_from k)) ≡ sight_of_kind entry.inode.now.kind
+    entry-seen white = entry-sight stack.data_only stack.layers name (places_in stack places) k (place_in stack own) at entry.inode.now entry.mark.now is.inode is.mark white
 
     -- the data
     pub whiteout-holds : is_whiteout entry.inode.now ≡ true → data_below stack.data_only None (found_from k) ≡ None

@@ -5,10 +5,10 @@ use Rattle.std.proofs.lemmas.List.{length_push}
 use Rattle.std.proofs.lemmas.Option.{slice_get_within}
 use Rattle.ovl_names.specs.Names.{PathName}
 use Rattle.ovl_names.specs.Paths.{PathNames, child_path, parent_path}
-use Rattle.ovl_manifest.specs.declared.sheets.SheetRow.{SheetRow}
-use Rattle.ovl_manifest.specs.Layers.{Entry, Entries}
-use Rattle.ovl_manifest.specs.Sheets.{last_name, path_of, path_at, IsRowOf}
-use Rattle.ovl_manifest.proofs.SheetLemmas.{last_name-child}
+use Rattle.ovl_layer.specs.declared.sheets.SheetRow.{SheetRow}
+use Rattle.ovl_layer.specs.Layers.{Entry, Entries}
+use Rattle.ovl_layer.specs.Sheets.{last_name, path_of, path_at, IsRowOf}
+use Rattle.ovl_layer.proofs.SheetLemmas.{last_name-child}
 use Rattle.ovl_lookup.proofs.LawsOfPaths.{last-name, parent_path-child}
 
 some-name : (found : Option Entry) (name : Option PathName) → IsSomeAnd found (λ entry. name ≡ last_name entry.0) → name ≡ last_name (path_of found)

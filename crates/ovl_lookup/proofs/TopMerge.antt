@@ -12,7 +12,7 @@ use Rattle.std.specs.declared.cmp.Ordering.TheVariants.{Less, Equal, Greater}
 use Rattle.ovl_names.specs.Names.{PathName, name_eq, name_cmp}
 use Rattle.ovl_names.specs.Order.{ascends}
 use Rattle.ovl_names.proofs.Ascending.{both, is_lt-Less, list_all-before, reversed}
-use Rattle.ovl_manifest.proofs.NodeLemmas.{name_eq-cmp}
+use Rattle.ovl_layer.proofs.NodeLemmas.{name_eq-cmp}
 use Rattle.ovl_lookup.specs.declared.tops.Top.{Top}
 use Rattle.ovl_lookup.specs.ViewPasses.{First, AreInOrder, AreMerged, top_told, tops_told}
 use Rattle.ovl_lookup.proofs.LawsOfPaths.{drop_past}

@@ -8,7 +8,7 @@ use Rattle.std.proofs.Math.Bool.{or-false}
 use Rattle.std.proofs.Math.Seq.{drop-append_seam}
 use Rattle.ovl_names.specs.Names.{PathName}
 use Rattle.ovl_names.specs.Paths.{PathNames, child_path}
-use Rattle.ovl_manifest.specs.Layers.{Entries}
+use Rattle.ovl_layer.specs.Layers.{Entries}
 use Rattle.ovl_lookup.specs.Walk.{mark_at, origin_path, name_in_lower, is_closing, last_jump, steps_from, steps_after_jump, turn, is_shut}
 use Rattle.ovl_lookup.proofs.Longest.{longest-rest, longest-child}
 

@@ -12,9 +12,9 @@ use Rattle.ovl_inode.specs.declared.marks.Mark.TheVariants.{Whiteout, DirOpaque,
 use Rattle.ovl_inode.specs.declared.marks.Redirect.TheVariants.{To, Beside}
 use Rattle.ovl_inode.specs.Inodes.{visible}
 use Rattle.ovl_inode.specs.Marks.{mark_of, is_whiteout, is_data, is_metacopy, is_metacopy_mark, is_regular, has_metacopy}
-use Rattle.ovl_manifest.specs.Layers.{Entries, entry_at, names_below}
-use Rattle.ovl_manifest.specs.Sheets.{last_name, path_at}
-use Rattle.ovl_manifest.proofs.SheetLemmas.{last_name-child}
+use Rattle.ovl_layer.specs.Layers.{Entries, entry_at, names_below}
+use Rattle.ovl_layer.specs.Sheets.{last_name, path_at}
+use Rattle.ovl_layer.proofs.SheetLemmas.{last_name-child}
 use Rattle.ovl_lookup.specs.declared.looks.Look.{Look}
 use Rattle.ovl_lookup.specs.declared.looks.Look.TheVariants.{Nothing, Shown, Broken}
 use Rattle.ovl_lookup.specs.declared.tops.Top.{Top}
@@ -23,12 +23,14 @@ use Rattle.ovl_lookup.specs.Stacks.{StackView}
 use Rattle.ovl_lookup.specs.Trace.{things_found}
 use Rattle.ovl_lookup.specs.Merged.{data_of, shown_of, is_nothing, without_blob, place_of_data}
 use Rattle.ovl_lookup.specs.Passes.{data_below, shown_with}
+use Rattle.ovl_lookup.specs.Sights.{sight_of, sight_of_kind}
 use Rattle.ovl_lookup.specs.Views.{Reached, entry_in, below_entry, found_below}
 use Rattle.ovl_lookup.specs.ViewPasses.{First, AreTops, top_told, tops_told, look_from_top, looks_from_tops}
 use Rattle.ovl_lookup.specs.Onwards.{path_on}
 use Rattle.ovl_lookup.specs.DirViews.{place_in, places_in}
 use Rattle.ovl_lookup.proofs.LawsOfInodes.{bare_file}
 use Rattle.ovl_lookup.proofs.LawsOfFound.{data_of-metacopy, data_of-bad, data_below-metacopy, data_below-data, data_below-other, shown_of-full, any_found, shown-any}
+use Rattle.ovl_lookup.proofs.SightLemmas.{sight-first}
 use Rattle.ovl_lookup.proofs.WalkFacts.{take-rest}
 use Rattle.ovl_lookup.proofs.ViewSteps.{found-whiteout, found-entry, looks-next}
 use Rattle.ovl_lookup.proofs.TopMerge.{names_of}
@@ -87,6 +89,9 @@ module _ (data_only layers : List Entries) (name : PathName) (places : List Reac
 
   pub entry-shows : is_whiteout inode ≡ false → not (is_nothing (shown_of data_only left)) ≡ true
   entry-shows w = shown-any data_only left ∙ ap any_found (found-here w)
+
+  pub entry-sight : is_whiteout inode ≡ false → sight_of (shown_of data_only left) ≡ sight_of_kind inode.kind
+  entry-sight w = ap (λ (found : List Inode). sight_of (shown_of data_only found)) (found-here w) ∙ sight-first data_only inode onward
 
   -- the data there
   pub whiteout-data : is_whiteout inode ≡ true → data_below data_only None left ≡ None

@@ -4,7 +4,7 @@ use Rattle.std.specs.List.{All}
 use Rattle.ovl_names.specs.Names.{PathName}
 use Rattle.ovl_names.specs.Paths.{PathNames, child_path}
 use Rattle.ovl_inode.specs.Marks.{mark_of}
-use Rattle.ovl_manifest.specs.Sheets.{path_at}
+use Rattle.ovl_layer.specs.Sheets.{path_at}
 use Rattle.ovl_lookup.specs.declared.views.DirPlace.{DirPlace}
 use Rattle.ovl_lookup.specs.declared.views.PlaceEntry.{PlaceEntry}
 use Rattle.ovl_lookup.specs.declared.views.DirView.{DirView}

@@ -5,6 +5,7 @@ pub mod Trails
 pub mod Merged
 pub mod Passes
 pub mod ShownInodes
+pub mod Sights
 pub mod Sound
 pub mod Words
 pub mod Unmarked

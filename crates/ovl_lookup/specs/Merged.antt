@@ -14,7 +14,7 @@ use Rattle.ovl_inode.specs.declared.marks.Mark.TheVariants.{Meta}
 use Rattle.ovl_inode.specs.declared.marks.Redirect.TheVariants.{To}
 use Rattle.ovl_inode.specs.Marks.{mark_of, is_regular, is_directory, is_whiteout, has_metacopy, is_metacopy, is_data}
 use Rattle.ovl_inode.specs.Inodes.{visible}
-use Rattle.ovl_manifest.specs.Layers.{Entries, entry_at}
+use Rattle.ovl_layer.specs.Layers.{Entries, entry_at}
 use Rattle.ovl_lookup.specs.declared.looks.Look.{Look}
 use Rattle.ovl_lookup.specs.declared.looks.Look.TheVariants.{Nothing, Shown, Broken}
 use Rattle.ovl_lookup.specs.Stacks.{StackView}

@@ -1,6 +1,6 @@
 -- Stacks of layers.
 use Rattle.std.specs.Prelude.{ℕ, ◌-◌, List, ◌++◌, length, take, drop}
-use Rattle.ovl_manifest.specs.Layers.{Entries}
+use Rattle.ovl_layer.specs.Layers.{Entries}
 
 -- a stack: its layers, the topmost first, and the data-only layers under them; overlayfs.rst, "Multiple lower layers" and
 -- "Data-only lower layers"

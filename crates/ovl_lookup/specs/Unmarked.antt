@@ -4,7 +4,7 @@ use Rattle.ovl_names.specs.Paths.{PathNames}
 use Rattle.ovl_inode.specs.declared.inodes.Inode.{Inode}
 use Rattle.ovl_inode.specs.Attributes.{visible_attributes}
 use Rattle.ovl_inode.specs.Marks.{is_whiteout}
-use Rattle.ovl_manifest.specs.Layers.{Entries, entry_at}
+use Rattle.ovl_layer.specs.Layers.{Entries, entry_at}
 use Rattle.ovl_lookup.specs.Stacks.{StackView}
 
 -- the stack of this layer alone

@@ -8,7 +8,7 @@ use Rattle.ovl_inode.specs.declared.marks.Mark.{Mark}
 use Rattle.ovl_inode.specs.declared.marks.Mark.TheVariants.{Whiteout, DirOpaque, DirMoved, DirBad, DirPlain, Meta, MetaBad, Leaf}
 use Rattle.ovl_inode.specs.declared.marks.Redirect.TheVariants.{To, Beside}
 use Rattle.ovl_inode.specs.Marks.{mark_of, is_whiteout}
-use Rattle.ovl_manifest.specs.Layers.{Entries, entry_at, is_directory_at}
+use Rattle.ovl_layer.specs.Layers.{Entries, entry_at, is_directory_at}
 use Rattle.ovl_lookup.specs.declared.steps.Step.{Step}
 
 -- the mark of the entry at a path; the root counts as a plain directory

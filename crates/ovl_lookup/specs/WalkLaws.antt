@@ -4,7 +4,7 @@ use Rattle.ovl_names.specs.Names.{PathName}
 use Rattle.ovl_names.specs.Paths.{PathNames, child_path, is_root, has_names}
 use Rattle.ovl_inode.specs.declared.inodes.Inode.{Inode}
 use Rattle.ovl_inode.specs.Marks.{mark_of, is_directory, is_metacopy}
-use Rattle.ovl_manifest.specs.Layers.{Entries, IsLayer, entry_at, is_directory_at}
+use Rattle.ovl_layer.specs.Layers.{Entries, IsLayer, entry_at, is_directory_at}
 use Rattle.ovl_lookup.specs.Walk.{walk, walk_beyond, nothing_found}
 use Rattle.ovl_lookup.specs.Passes.{entered_path, entered_closed}
 

@@ -1,4 +1,4 @@
-ghost use Rattle.std.specs.Prelude.{◌≡◌, ◌<◌, ◌≤◌, ◌∷◌, ◌&&◌, true, length, drop, slice_get, IfOk, IfSome};
+ghost use Rattle.std.specs.Prelude.{◌≡◌, ◌<◌, ◌≤◌, [], ◌∷◌, ◌&&◌, true, length, drop, slice_get, IfOk, IfSome, MatchOption};
 ghost use Rattle.std.specs.Option.{option_map};
 ghost use Rattle.std.specs.Cmp.{partial_equiv_from_equiv};
 ghost use Rattle.ovl_inode.specs.Marks.{mark_of as the_mark, is_metacopy_mark, is_regular, has_metacopy};
@@ -7,17 +7,18 @@ ghost use Rattle.ovl_lookup.specs.Trace.{things_found};
 ghost use Rattle.ovl_lookup.specs.Merged.{look as the_look, shown_of, data_of as the_data, place_of_data as the_place, place_told as the_place_told, data_at_place, is_full_file as full_file_test, full_file_in as the_file, is_nothing as nothing_test, is_shown_directory as directory_test, without_blob as kind_without_blob};
 ghost use Rattle.ovl_lookup.specs.Walk.{walk as the_walk};
 ghost use Rattle.ovl_lookup.specs.ShownInodes.{inode_shown};
-ghost use Rattle.ovl_lookup.specs.Passes.{IsMarked, step_of, found_on, shown_with, data_below};
+ghost use Rattle.ovl_lookup.specs.Passes.{IsMarked, IsHit, step_of, found_on, shown_with, data_below};
+ghost use Rattle.ovl_lookup.specs.Sights.{sight_of};
 ghost use Rattle.ovl_lookup.specs.Equal.{look_eq};
 ghost use Rattle.ovl_lookup.specs.EqualLaws.{look_eq_equiv};
 
-use crate::Stack;
 use crate::steps::{Found, TrailStep, follow};
 use crate::trails::Trail;
+use crate::{Sight, Stack};
 use ovl_inode::{
     Inode, Kind, Mark, Redirect, is_data, is_directory, is_whiteout, overlay, visible,
 };
-use ovl_manifest::Sheet;
+use ovl_layer::Sheet;
 use ovl_names::Path;
 use std::alloc::{AllocError, Global};
 
@@ -80,6 +81,16 @@ impl Look {
     }
 }
 
+// The first thing that the walks of a path find, and how they go on, unless they are closed, in the layers from `below`
+// on.
+#[derive(Drop)]
+pub(crate) struct Hit<'a> {
+    found: Found<'a>,
+    below: usize,
+    next: Trail<'a>,
+    closed: bool,
+}
+
 impl Stack {
     /// What the layers with index `from` and up show at a path, over the data-only ones; `from` is at most the number of
     /// the others. Fails only when out of memory. overlayfs.rst: "Directories", "Multiple lower layers", "Metadata only
@@ -88,22 +99,62 @@ impl Stack {
         requires { from ≤ length self.now.layers }
         ensures { IfOk result (λ look. look ≡ the_look (from_layer from self.now) path.now) }
     {
-        let mut next = Trail::of(alloc, &path.names())?;
+        let trail = Trail::of(alloc, &path.names())?;
+        match self.first_hit(alloc, from, trail)? {
+            Some(hit) => self.shown(alloc, hit),
+            None => Ok(Look::Nothing),
+        }
+    }
+
+    /// Of what kind that is, with nothing copied. Fails only when out of memory.
+    pub fn sight<'a>(
+        &'a self,
+        alloc: Global,
+        from: usize,
+        path: Trail<'a>,
+    ) -> Result<Sight, AllocError>
+        requires { from ≤ length self.now.layers }
+        ensures { IfOk result (λ sight. sight ≡ sight_of (the_look (from_layer from self.now) path.entry)) }
+    {
+        match self.first_hit(alloc, from, path)? {
+            Some(hit) => Ok(Sight::of(hit.found.inode)),
+            None => Ok(Sight::Nothing),
+        }
+    }
+
+    // The first thing that the layers from `from` on find at a path, if they find any.
+    fn first_hit<'a>(
+        &'a self,
+        alloc: Global,
+        from: usize,
+        path: Trail<'a>,
+    ) -> Result<Option<Hit<'a>>, AllocError>
+        requires { from ≤ length self.now.layers }
+        ensures { IfOk result (λ hit. MatchOption hit
+            (things_found (drop from self.now.layers) path.entry ≡ [])
+            (IsHit self.now (things_found (drop from self.now.layers) path.entry))) }
+    {
+        let mut next = path;
         for i in from..self.ordinary() {
             let TrailStep {
                 found,
-                next: below,
+                next: onward,
                 closed,
             } = self.followed(alloc, i, next)?;
             if let Some(found) = found {
-                return self.shown(alloc, found, i + 1, below, closed);
+                return Ok(Some(Hit {
+                    found,
+                    below: i + 1,
+                    next: onward,
+                    closed,
+                }));
             }
             if closed {
-                return Ok(Look::Nothing);
+                return Ok(None);
             }
-            next = below;
+            next = onward;
         }
-        Ok(Look::Nothing)
+        Ok(None)
     }
 
     // The walk of a trail in layer `i`.
@@ -120,24 +171,23 @@ impl Stack {
         follow(alloc, &self.layers[i], trail)
     }
 
-    // What is shown where this is the first thing found, and the walks go on, unless closed, at `next` in layer `i`.
-    fn shown<'a>(
-        &'a self,
-        alloc: Global,
-        found: Found<'a>,
-        i: usize,
-        next: Trail<'a>,
-        closed: bool,
-    ) -> Result<Look, AllocError>
-        requires layers { i ≤ length self.now.layers }
-        requires marked { found.mark.now ≡ the_mark found.inode.now }
-        ensures { IfOk result (λ look. look ≡ shown_of self.now.data_only (found.entry.inode.now ∷ found_on self.now i next.entry closed)) }
+    // What is shown where this is the first thing found.
+    fn shown<'a>(&'a self, alloc: Global, hit: Hit<'a>) -> Result<Look, AllocError>
+        requires layers { hit.below ≤ length self.now.layers }
+        requires marked { hit.found.mark.now ≡ the_mark hit.found.inode.now }
+        ensures { IfOk result (λ look. look
+            ≡ shown_of self.now.data_only (hit.entry.found.inode.now ∷ found_on self.now hit.entry.below hit.entry.next hit.entry.closed)) }
     {
-        let Found { inode, mark } = found;
+        let Hit {
+            found: Found { inode, mark },
+            below,
+            next,
+            closed,
+        } = hit;
         if !lacks_contents(inode) {
             return Ok(Look::Shown(visible(alloc, inode)?));
         }
-        let contents = self.data_of(alloc, inode, mark, i, next, closed)?;
+        let contents = self.data_of(alloc, inode, mark, below, next, closed)?;
         metacopy_shown(alloc, inode, contents)
     }
 
@@ -150,33 +200,35 @@ impl Stack {
         i: usize,
         next: Trail<'a>,
         closed: bool,
-    ) -> Result<Option<Inode>, AllocError>
+    ) -> Result<Option<&'a Inode>, AllocError>
         requires layers { i ≤ length self.now.layers }
         requires marked { mark.now ≡ the_mark _inode.now }
         requires bare { (is_regular _inode.now && has_metacopy _inode.now) ≡ true }
-        ensures { IfOk result (λ found. found ≡ the_data self.now.data_only (_inode.now ∷ found_on self.now i next.entry closed)) }
+        ensures { IfOk result (λ found. option_map (λ inode. inode.now) found
+            ≡ the_data self.now.data_only (_inode.now ∷ found_on self.now i next.entry closed)) }
     {
         if !is_well_formed_metacopy(mark) {
             return Ok(None);
         }
         let origin = place_of_data(mark);
         if closed {
-            return self.data_at(alloc, origin);
+            return Ok(self.data_at(origin));
         }
         self.data(alloc, i, next, origin)
     }
 
-    // The data that the layers from `from` on have at a path, below metacopy files, of which the last says where data-only
-    // layers have it.
-    pub(crate) fn data<'a>(
+    /// The data that the layers with index `from` and up have at a path, below metacopy files, of which the last says where
+    /// data-only layers have it; before the first, that is `place_told`. `from` is at most the number of layers that aren't
+    /// data-only. Fails only when out of memory. overlayfs.rst: "Metadata only copy up", "Data-only lower layers".
+    pub fn data<'a>(
         &'a self,
         alloc: Global,
         from: usize,
         path: Trail<'a>,
         place_told: Option<&'a Path>,
-    ) -> Result<Option<Inode>, AllocError>
+    ) -> Result<Option<&'a Inode>, AllocError>
         requires { from ≤ length self.now.layers }
-        ensures { IfOk result (λ found. found
+        ensures { IfOk result (λ found. option_map (λ inode. inode.now) found
             ≡ data_below self.now.data_only (option_map (λ told. told.now) place_told.entry) (things_found (drop from self.now.layers) path.entry)) }
     {
         let mut next = path;
@@ -189,7 +241,7 @@ impl Stack {
             } = self.followed(alloc, place, next)?;
             if let Some(found) = found {
                 if is_data(found.inode) {
-                    return Ok(Some(found.inode.copy(alloc)?));
+                    return Ok(Some(found.inode));
                 }
                 if !is_well_formed_metacopy(found.mark) {
                     return Ok(None);
@@ -197,11 +249,11 @@ impl Stack {
                 origin = place_of_data(found.mark);
             }
             if closed {
-                return self.data_at(alloc, origin);
+                return Ok(self.data_at(origin));
             }
             next = lower;
         }
-        self.data_at(alloc, origin)
+        Ok(self.data_at(origin))
     }
 
     /// Where data-only layers have the data of what is found at a path, if that is metacopy files alone: where the last of
@@ -232,19 +284,12 @@ impl Stack {
     }
 
     // The first full file that data-only layers have where the last metacopy file says so.
-    pub(crate) fn data_at(
-        &self,
-        alloc: Global,
-        origin: Option<&Path>,
-    ) -> Result<Option<Inode>, AllocError>
-        ensures { IfOk result (λ found. found ≡ data_at_place self.now.data_only (option_map (λ path. path.now) origin.entry)) }
+    fn data_at(&self, origin: Option<&Path>) -> Option<&Inode>
+        ensures { option_map (λ inode. inode.now) result ≡ data_at_place self.now.data_only (option_map (λ path. path.now) origin.entry) }
     {
-        let Some(path) = origin else {
-            return Ok(None);
-        };
-        match self.full_file(path) {
-            Some(inode) => Ok(Some(inode.copy(alloc)?)),
-            None => Ok(None),
+        match origin {
+            Some(path) => self.full_file(path),
+            None => None,
         }
     }
 
@@ -302,9 +347,9 @@ pub(crate) fn place_of_data(mark: &Mark) -> Option<&Path>
 pub(crate) fn metacopy_shown(
     alloc: Global,
     inode: &Inode,
-    contents: Option<Inode>,
+    contents: Option<&Inode>,
 ) -> Result<Look, AllocError>
-    ensures { IfOk result (λ look. look ≡ shown_with inode.now contents) }
+    ensures { IfOk result (λ look. look ≡ shown_with inode.now (option_map (λ found. found.now) contents.entry)) }
 {
     let shown = visible(alloc, inode)?;
     Ok(match contents {

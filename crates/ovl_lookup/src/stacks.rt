@@ -1,17 +1,17 @@
 ghost use Rattle.std.specs.Prelude.{◌≡◌, ◌≢◌, ◌<◌, ◌≤◌, ◌+◌, ◌↔◌, ◌⊎◌, [], false, Some, Err, length, IsTrue, IfOk, MatchOption, MatchResult, slice_get, IfSome};
 ghost use Rattle.std.specs.Option.{option_map};
 ghost use Rattle.std.specs.List.{All};
-ghost use Rattle.ovl_manifest.specs.Layers.{IsLayer, entry_at, is_directory_at, names_below};
-ghost use Rattle.ovl_lookup.specs.Passes.{IsOwnDirectory};
+ghost use Rattle.ovl_layer.specs.Layers.{IsLayer, entry_at, is_directory_at, names_below};
+ghost use Rattle.ovl_lookup.specs.Passes.{IsMarked, IsOwnDirectory, step_of};
 ghost use Rattle.ovl_lookup.specs.Walk.{walk as the_walk};
 ghost use Rattle.ovl_lookup.specs.declared.stacks.StackFault.TheVariants.{Layers, Memory, DataCount};
 ghost use Rattle.ovl_lookup.specs.Stacks.{layer_limit, all_layers, stack_with};
 ghost use Rattle.ovl_lookup.specs.Words.{top_layer};
 
 use crate::steps::directory_in;
-use crate::{OwnDirectory, Step, walk};
+use crate::{OwnDirectory, Trail, TrailStep, follow};
 use ovl_inode::Inode;
-use ovl_manifest::{Layer, Sheet};
+use ovl_layer::{Layer, Sheet};
 use ovl_names::{Name, Path};
 use std::alloc::{AllocError, Global};
 use std::marker::Model;
@@ -52,7 +52,7 @@ pub struct Stack {
 impl Model for Stack {
     ghost use Rattle.std.specs.Prelude.{◌<◌, ◌≤◌, ◌+◌, length};
     ghost use Rattle.std.specs.List.{All};
-    ghost use Rattle.ovl_manifest.specs.Layers.{IsLayer};
+    ghost use Rattle.ovl_layer.specs.Layers.{IsLayer};
     ghost use Rattle.ovl_lookup.specs.Stacks.{StackView, layer_limit};
 
     ghost Value = { StackView };
@@ -192,12 +192,18 @@ impl Stack {
         self.any_sheet(i).children(alloc, path)
     }
 
-    /// The walk of a path in layer `i`, see [`walk`]; `i` is below the number of layers. Fails only when out of memory.
-    pub fn own_walk(&self, alloc: Global, i: usize, path: &Path) -> Result<Step, AllocError>
+    /// The walk of a trail in layer `i`, see [`follow`]; `i` is below the number of layers. Fails only when out of memory.
+    pub fn own_walk<'a>(
+        &'a self,
+        alloc: Global,
+        i: usize,
+        trail: Trail<'a>,
+    ) -> Result<TrailStep<'a>, AllocError>
         requires { i < length (all_layers self.now) }
-        ensures { IfSome (slice_get (all_layers self.now) i) (λ layer. IfOk result (λ step. step ≡ the_walk layer path.now)) }
+        ensures value { IfSome (slice_get (all_layers self.now) i) (λ layer. IfOk result (λ step. step_of step ≡ the_walk layer trail.entry)) }
+        ensures marked { IfOk result IsMarked }
     {
-        walk(alloc, self.any_sheet(i), path)
+        follow(alloc, self.any_sheet(i), trail)
     }
 
     /// The directory that layer `i` has at a path, with how its walk goes on, and `None` where it has none; `i` is below

@@ -2,15 +2,15 @@ ghost use Rattle.std.specs.Prelude.{◌≡◌, ◌<◌, ◌++◌, [], false, Som
 ghost use Rattle.ovl_names.specs.Names.{PathName};
 ghost use Rattle.ovl_names.specs.Paths.{PathNames, child_path};
 ghost use Rattle.ovl_inode.specs.Marks.{mark_of as the_mark};
-ghost use Rattle.ovl_manifest.specs.Layers.{entry_at, is_directory_at};
-ghost use Rattle.ovl_manifest.specs.Sheets.{path_at};
+ghost use Rattle.ovl_layer.specs.Layers.{entry_at, is_directory_at};
+ghost use Rattle.ovl_layer.specs.Sheets.{path_at};
 ghost use Rattle.ovl_lookup.specs.Onwards.{next_on, closed_on};
 ghost use Rattle.ovl_lookup.specs.Passes.{IsDescent, IsArrival, IsOwnDirectory, IsOwnEntry, IsMarked, step_of};
 ghost use Rattle.ovl_lookup.specs.Walk.{walk as the_walk};
 
 use crate::trails::Trail;
 use ovl_inode::{Inode, Mark, Redirect, is_directory, is_whiteout};
-use ovl_manifest::{Sheet, SheetRow};
+use ovl_layer::{Sheet, SheetRow};
 use ovl_names::{Name, Path};
 use std::alloc::{AllocError, Global};
 
@@ -36,12 +36,15 @@ pub fn walk(alloc: Global, sheet: &Sheet, path: &Path) -> Result<Step, AllocErro
     step.copied(alloc)
 }
 
-// What a walk in one layer found, and where it goes on, with nothing copied.
-#[derive(Drop)]
-pub(crate) struct TrailStep<'a> {
-    pub(crate) found: Option<Found<'a>>,
-    pub(crate) next: Trail<'a>,
-    pub(crate) closed: bool,
+/// What a walk in one layer found, and where it goes on, with nothing copied.
+#[derive(Debug, Drop)]
+pub struct TrailStep<'a> {
+    /// What the layer has at the path; a whiteout isn't found.
+    pub found: Option<Found<'a>>,
+    /// The path by which the layer below knows this one.
+    pub next: Trail<'a>,
+    /// Whether the layers below are hidden there.
+    pub closed: bool,
 }
 
 /// An inode of a layer, with its mark, which the layer keeps beside it.
@@ -68,8 +71,8 @@ impl<'a> Found<'a> {
 }
 
 impl<'a> TrailStep<'a> {
-    // The same, in an inode and a path of its own.
-    pub(crate) fn copied(self, alloc: Global) -> Result<Step, AllocError>
+    /// The same, in an inode and a path of its own. Fails only when out of memory.
+    pub fn copied(self, alloc: Global) -> Result<Step, AllocError>
         ensures { IfOk result (λ step. step ≡ step_of self.entry) }
     {
         let TrailStep {
@@ -90,8 +93,8 @@ impl<'a> TrailStep<'a> {
     }
 }
 
-// The walk of a trail in one layer.
-pub(crate) fn follow<'a>(
+/// The walk of a trail in one layer, see [`walk`], with nothing copied. Fails only when out of memory.
+pub fn follow<'a>(
     alloc: Global,
     sheet: &'a Sheet,
     trail: Trail<'a>,

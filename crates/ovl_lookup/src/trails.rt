@@ -1,4 +1,4 @@
-ghost use Rattle.std.specs.Prelude.{◌≡◌, ◌<◌, ◌^◌, ◌++◌, [], Some, length, drop, reverse, IsTrue, IfOk};
+ghost use Rattle.std.specs.Prelude.{◌≡◌, ◌<◌, ◌^◌, ◌++◌, ◌↔◌, [], Some, length, drop, reverse, IsTrue, IfOk};
 ghost use Rattle.std.specs.Cmp.{partial_equiv_from_equiv, po};
 ghost use Rattle.std.specs.Cmp.Lexicographic.{nat_list_cmp_total, nat_list_eq_equiv, texts_ties, lists_total, lists_equiv, lists_ties};
 ghost use Rattle.std.proofs.Common.{refl};
@@ -72,6 +72,13 @@ impl<'a> Trail<'a> {
         ensures { IfOk result (λ trail. trail ≡ child_path self.entry name.now) }
     {
         self.with(&Names::one(name))
+    }
+
+    /// Whether it is that of the root.
+    pub fn is_root(&self) -> bool
+        ensures { IsTrue result ↔ (self.now ≡ []) }
+    {
+        self.len == 0
     }
 
     // The number of names.

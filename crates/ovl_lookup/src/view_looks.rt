@@ -1,9 +1,11 @@
-ghost use Rattle.std.specs.Prelude.{◌≡◌, ◌<◌, ◌++◌, [], ◌∷◌, if◌then◌else◌, None, Some, drop, length, not, slice_get, IfOk, IfSome, IsSomeAnd, OnOk};
+ghost use Rattle.std.specs.Prelude.{◌≡◌, ◌<◌, ◌++◌, [], ◌∷◌, if◌then◌else◌, None, Some, drop, length, not, slice_get, IfOk, IfSome, IsSomeAnd, OnErr, OnOk};
+ghost use Rattle.std.specs.Option.{option_map};
 ghost use Rattle.std.specs.List.{All};
 ghost use Rattle.ovl_names.specs.Paths.{child_path};
 ghost use Rattle.ovl_lookup.specs.Stacks.{from_layer};
 ghost use Rattle.ovl_lookup.specs.Trace.{things_found};
 ghost use Rattle.ovl_lookup.specs.Merged.{AreKids, look as the_look, shows as shows_there, shown_of, is_nothing as nothing_test};
+ghost use Rattle.ovl_lookup.specs.Sights.{sight_of};
 ghost use Rattle.ovl_lookup.specs.Passes.{data_below};
 ghost use Rattle.ovl_lookup.specs.Views.{entry_in, found_below};
 ghost use Rattle.ovl_lookup.specs.ViewPasses.{AreLooks};
@@ -13,12 +15,12 @@ use crate::looks::{is_well_formed_metacopy, lacks_contents, metacopy_shown};
 use crate::tops::tops_of;
 use crate::trails::Trail;
 use crate::views::DirPlace;
-use crate::{DirView, Look, Onward, Stack};
+use crate::{DirView, Look, Onward, Sight, Stack};
 use ovl_inode::{Inode, is_data, is_whiteout, visible};
 use ovl_names::{Name, Path};
 use std::alloc::{AllocError, Global};
 
-impl DirView {
+impl<'a> DirView<'a> {
     /// What is shown at a name in this directory. The name is sought in the directory of each layer; a layer is walked
     /// from its root only below an absolute redirect. Fails only when out of memory.
     pub fn look(&self, alloc: Global, stack: &Stack, name: &Name) -> Result<Look, AllocError>
@@ -33,14 +35,15 @@ impl DirView {
     /// asked for and kept for the others. Fails only when out of memory.
     pub fn look_kept(
         alloc: Global,
-        stack: &Stack,
-        view: &mut Option<DirView>,
-        dir: &Path,
+        stack: &'a Stack,
+        view: &mut Option<DirView<'a>>,
+        dir: &'a Path,
         name: &Name,
     ) -> Result<Look, AllocError>
         requires { IfSome view.old (IsViewOf stack.now 0 dir.now) }
         ensures look { IfOk result (λ look. look ≡ the_look stack.now (child_path dir.now name.now)) }
         ensures view { IfSome view.new (IsViewOf stack.now 0 dir.now) }
+        ensures kept { OnErr result (view.new ≡ view.old) }
     {
         // Each layer of a stack is one.
         let _layers = stack.ordinary();
@@ -55,26 +58,34 @@ impl DirView {
         Ok(look)
     }
 
+    /// Of what kind that is, with nothing copied; takes no memory.
+    pub fn sight(&self, stack: &Stack, name: &Name) -> Sight
+        requires { IsViewOver stack.now self.now }
+        ensures { result ≡ sight_of (the_look (from_layer self.now.from stack.now) (child_path self.now.path name.now)) }
+    {
+        let _ = &stack.layers;
+        sight_in(stack, &self.places, name)
+    }
+
     /// Whether something is shown at a name in this directory; takes no memory.
     pub fn shows(&self, stack: &Stack, name: &Name) -> bool
         requires { IsViewOver stack.now self.now }
         ensures { result ≡ shows_there (from_layer self.now.from stack.now) (child_path self.now.path name.now) }
     {
-        let _ = &stack.layers;
-        shows_in(stack, &self.places, name)
+        !self.sight(stack, name).is_nothing()
     }
 
     /// The data that there is at a name in this directory below a metacopy file that doesn't say itself where data-only
     /// layers have it. Fails only when out of memory.
     /// overlayfs.rst: "Metadata only copy up".
-    pub fn data(
+    pub fn data<'s>(
         &self,
         alloc: Global,
-        stack: &Stack,
-        name: &Name,
-    ) -> Result<Option<Inode>, AllocError>
+        stack: &'s Stack,
+        name: &'s Name,
+    ) -> Result<Option<&'s Inode>, AllocError>
         requires { IsViewOver stack.now self.now }
-        ensures { IfOk result (λ found. found
+        ensures { IfOk result (λ found. option_map (λ inode. inode.now) found
             ≡ data_below stack.now.data_only None (things_found (drop self.now.from stack.now.layers) (child_path self.now.path name.now))) }
     {
         let _ = &stack.layers;
@@ -123,17 +134,20 @@ impl DirView {
     }
 }
 
-// Whether something is shown at a name, by these places: where the first entry is no whiteout.
-fn shows_in(stack: &Stack, places: &[DirPlace], name: &Name) -> bool
+// Of what kind it is that is shown at a name, by these places: by the first entry, unless that is a whiteout.
+fn sight_in(stack: &Stack, places: &[DirPlace], name: &Name) -> Sight
     requires { All (IsPlaceOver stack.now) places.now }
-    ensures { result ≡ not (nothing_test (shown_of stack.now.data_only (found_below stack.now.layers name.now (places_in stack.now places.now)))) }
+    ensures { result ≡ sight_of (shown_of stack.now.data_only (found_below stack.now.layers name.now (places_in stack.now places.now))) }
 {
     for place in places {
         if let Some(entry) = place.entry(stack, name) {
-            return !is_whiteout(entry.inode);
+            if is_whiteout(entry.inode) {
+                return Sight::Nothing;
+            }
+            return Sight::of(entry.inode);
         }
     }
-    false
+    Sight::Nothing
 }
 
 // Adds a name with what is shown there, where something is.
@@ -195,14 +209,15 @@ fn look_in(
 }
 
 // The data at a name below metacopy files, by these places.
-fn data_in(
+fn data_in<'a>(
     alloc: Global,
-    stack: &Stack,
+    stack: &'a Stack,
     places: &[DirPlace],
-    name: &Name,
-) -> Result<Option<Inode>, AllocError>
+    name: &'a Name,
+) -> Result<Option<&'a Inode>, AllocError>
     requires { All (IsPlaceOver stack.now) places.now }
-    ensures { IfOk result (λ found. found ≡ data_below stack.now.data_only None (found_below stack.now.layers name.now (places_in stack.now places.now))) }
+    ensures { IfOk result (λ found. option_map (λ inode. inode.now) found
+        ≡ data_below stack.now.data_only None (found_below stack.now.layers name.now (places_in stack.now places.now))) }
 {
     let _ = &stack.layers;
     let mut own = name;
@@ -214,7 +229,7 @@ fn data_in(
             return Ok(None);
         }
         if is_data(entry.inode) {
-            return Ok(Some(entry.inode.copy(alloc)?));
+            return Ok(Some(entry.inode));
         }
         if !is_well_formed_metacopy(entry.mark) {
             return Ok(None);

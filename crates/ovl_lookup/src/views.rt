@@ -12,11 +12,11 @@ use ovl_names::{Name, Path};
 use std::alloc::{AllocError, Global};
 
 /// A directory of the merged tree of the layers from one on: where each of them has it that its walks come to. What it
-/// is asked is of the stack that it was made over.
+/// is asked is of the stack that it was made over. Of its path no name is copied.
 #[derive(Drop)]
-pub struct DirView {
+pub struct DirView<'a> {
     from: usize,
-    path: Path,
+    path: Trail<'a>,
     pub(crate) places: Vec<DirPlace>,
 }
 
@@ -55,33 +55,48 @@ impl DirPlace {
     }
 }
 
-impl DirView {
+impl<'a> DirView<'a> {
     /// The view of a path of the merged tree of the layers with index `from` and up, and `None` where they show no
     /// directory there; `from` is at most the number of layers that aren't data-only. Each of these is walked at most
     /// once. Fails only when out of memory.
     pub fn of(
         alloc: Global,
-        stack: &Stack,
+        stack: &'a Stack,
         from: usize,
-        path: &Path,
-    ) -> Result<Option<DirView>, AllocError>
+        path: &'a Path,
+    ) -> Result<Option<DirView<'a>>, AllocError>
         requires { from ≤ length stack.now.layers }
         ensures { IfOk result (λ found. MatchOption found
             (shows_directory (from_layer from stack.now) path.now ≡ false)
             (λ view. IsViewOf stack.now from path.now view)) }
     {
+        let trail = Trail::of(alloc, &path.names())?;
+        DirView::at(alloc, stack, from, trail)
+    }
+
+    /// The same of the path of a trail.
+    pub fn at(
+        alloc: Global,
+        stack: &'a Stack,
+        from: usize,
+        path: Trail<'a>,
+    ) -> Result<Option<DirView<'a>>, AllocError>
+        requires { from ≤ length stack.now.layers }
+        ensures { IfOk result (λ found. MatchOption found
+            (shows_directory (from_layer from stack.now) path.entry ≡ false)
+            (λ view. IsViewOf stack.now from path.entry view)) }
+    {
         let _ = &stack.layers;
         let mut places = Vec::new(alloc);
-        push_reached(alloc, stack, from, path, &mut places)?;
+        push_reached(alloc, stack, from, path.copy(alloc)?, &mut places)?;
         if places.is_empty() {
             return Ok(None);
         }
-        let path = path.copy(alloc)?;
         Ok(Some(DirView { from, path, places }))
     }
 
     /// The directory's path in the merged tree.
-    pub fn path(&self) -> &Path
+    pub fn path(&self) -> &Trail<'a>
         ensures { result.now ≡ self.now.path }
     {
         &self.path
@@ -93,8 +108,8 @@ impl DirView {
         &self,
         alloc: Global,
         stack: &Stack,
-        name: &Name,
-    ) -> Result<Option<DirView>, AllocError>
+        name: &'a Name,
+    ) -> Result<Option<DirView<'a>>, AllocError>
         requires { IsViewOver stack.now self.now }
         ensures { IfOk result (λ found. MatchOption found
             (shows_directory (from_layer self.now.from stack.now) (child_path self.now.path name.now) ≡ false)
@@ -106,7 +121,7 @@ impl DirView {
         if places.is_empty() {
             return Ok(None);
         }
-        let path = self.path.child(alloc, name)?;
+        let path = self.path.copy(alloc)?.child(name.as_str())?;
         Ok(Some(DirView {
             from: self.from,
             path,
@@ -120,13 +135,13 @@ fn push_reached<'a>(
     alloc: Global,
     stack: &'a Stack,
     from: usize,
-    path: &'a Path,
+    path: Trail<'a>,
     places: &mut Vec<DirPlace>,
 ) -> Result<(), AllocError>
     requires { from ≤ length stack.now.layers }
-    ensures { OnOk result (AddsPlaces stack.now places.old.items places.new.items (reached (drop from stack.now.layers) from path.now)) }
+    ensures { OnOk result (AddsPlaces stack.now places.old.items places.new.items (reached (drop from stack.now.layers) from path.entry)) }
 {
-    let mut trail = Trail::of(alloc, &path.names())?;
+    let mut trail = path;
     for layer in from..stack.ordinary() {
         let Arrival { row, next, closed } = Arrival::at(alloc, stack.sheet(layer), trail)?;
         if let Some(row) = row {
@@ -166,7 +181,8 @@ fn push_below(
         })?;
         match Onward::of(entry.mark, own) {
             Onward::At(origin) => {
-                return push_reached(alloc, stack, place.layer + 1, origin, below);
+                let trail = Trail::of(alloc, &origin.names())?;
+                return push_reached(alloc, stack, place.layer + 1, trail, below);
             }
             Onward::Beside(other) => own = other,
             Onward::Nowhere => return Ok(()),

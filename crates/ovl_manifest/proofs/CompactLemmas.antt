@@ -39,7 +39,7 @@ use Rattle.ovl_inode.specs.declared.inodes.Kind.TheVariants.{Dir, File, Symlink,
 use Rattle.ovl_inode.specs.Attributes.{Attributes, attribute_cmp, all_before, is_attribute_name, with_attribute}
 use Rattle.ovl_inode.specs.Hexadecimal.{is_lower_digit, bytes_of_digits, digest_of_text}
 use Rattle.ovl_inode.specs.Kinds.{kind_word}
-use Rattle.ovl_manifest.specs.Layers.{Entry, Entries, IsLayer}
+use Rattle.ovl_layer.specs.Layers.{Entry, Entries, IsLayer}
 use Rattle.ovl_manifest.specs.Manifest.{read_layer}
 use Rattle.ovl_manifest.specs.Versions.{version_number, is_stated_by}
 use Rattle.ovl_manifest.specs.declared.versions.Version.{Version}
@@ -51,7 +51,7 @@ use Rattle.ovl_manifest.proofs.ReadLemmas.{if-Some, text_read}
 use Rattle.ovl_manifest.proofs.TextLemmas.{attributes_in_turn, attribute_members-in_turn, layer-shallow}
 use Rattle.ovl_manifest.proofs.TailLemmas.{tokens-ended}
 use Rattle.ovl_manifest.proofs.WrittenBackLemmas.{layer_states, layer_numbers, outline-depth}
-use Rattle.ovl_manifest.proofs.BackLemmas.{layer-back}
+use Rattle.ovl_manifest.proofs.StatedLemmas.{layer-back}
 
 -- ---- whether something was taken
 

@@ -21,7 +21,7 @@ use Rattle.ovl_manifest.specs.Fields.{member_count, has_exactly, up_to, text_fie
 use Rattle.ovl_manifest.specs.Lists.{outline_of, outline}
 use Rattle.ovl_manifest.specs.declared.versions.Version.{Version}
 use Rattle.ovl_manifest.specs.declared.versions.Version.TheVariants.{One, Two}
-use Rattle.ovl_manifest.specs.declared.faults.LayerFault.TheVariants.{Shape}
+use Rattle.ovl_layer.specs.declared.faults.LayerFault.TheVariants.{Shape}
 
 -- ---- members
 

@@ -15,21 +15,23 @@ use Rattle.std.proofs.lemmas.Slice.Eq.{bytes_eq-Decides}
 use Rattle.ovl_json.specs.Reading.{read_value}
 use Rattle.ovl_json.proofs.Turns.{read_is}
 use Rattle.ovl_json.specs.Kept.{kept, object_kept}
-use Rattle.ovl_json.specs.declared.passing.Unread.{Unread}
-use Rattle.ovl_manifest.specs.Layers.{Entry, Entries, entry_limit}
+use Rattle.ovl_json.specs.declared.skipping.Unread.{Unread}
+use Rattle.ovl_layer.specs.Layers.{Entry, Entries, entry_limit}
 use Rattle.ovl_manifest.specs.Fields.{has_exactly, entry_of}
 use Rattle.ovl_manifest.specs.Versions.{version_of}
-use Rattle.ovl_manifest.specs.Manifest.{is_whole, entry_after, entries_after, layer_of_entries, stated_entries, is_statable, layer_of_fields, layer_of_value, read_layer, IsFaultOf}
-use Rattle.ovl_manifest.specs.Drafts.{draft_entries, IsDraft}
+use Rattle.ovl_manifest.specs.Manifest.{is_whole, stated_entries, layer_of_fields, layer_of_value, read_layer}
+use Rattle.ovl_layer.specs.Entries.{entry_after, entries_after, layer_of_entries, is_statable, IsFaultOf}
+use Rattle.ovl_layer.specs.Drafts.{draft_entries, IsDraft}
 use Rattle.ovl_manifest.specs.Lists.{listed, outline_of, outline, entry_on, entries_on, made, IsProgress, IsProgressOf, Tells}
 use Rattle.ovl_manifest.specs.declared.versions.Version.{Version}
-use Rattle.ovl_manifest.specs.declared.drafts.Draft.{Draft}
+use Rattle.ovl_layer.specs.declared.drafts.Draft.{Draft}
 use Rattle.ovl_manifest.specs.declared.lists.Progress.{Progress}
 use Rattle.ovl_manifest.specs.declared.lists.Progress.TheVariants.{Nothing, Made, Refused}
-use Rattle.ovl_manifest.specs.declared.faults.LayerFault.{LayerFault}
-use Rattle.ovl_manifest.specs.declared.faults.LayerFault.TheVariants.{NotJson, Shape, Version as WrongVersion, Count, Entry as WrongEntry, Order, NoParent, Root, Escaped, Memory}
-use Rattle.ovl_manifest.proofs.ReadLemmas.{counted, miscounted, one_more, text_read, is_told as is_told_of}
-use Rattle.ovl_manifest.proofs.EntryLemmas.{stated_statable}
+use Rattle.ovl_layer.specs.declared.faults.LayerFault.{LayerFault}
+use Rattle.ovl_layer.specs.declared.faults.LayerFault.TheVariants.{NotJson, Shape, Version as WrongVersion, Count, Entry as WrongEntry, Order, NoParent, Root, Escaped, Memory}
+use Rattle.ovl_layer.proofs.EntryLemmas.{counted, miscounted, one_more, is_told as is_told_of}
+use Rattle.ovl_manifest.proofs.ReadLemmas.{text_read}
+use Rattle.ovl_manifest.proofs.ReadLemmas.{stated_statable}
 use Rattle.ovl_manifest.proofs.KeptLemmas.{entry-of-kept, no-entry, outline-of-kept, no-outline}
 
 -- ---- one more item

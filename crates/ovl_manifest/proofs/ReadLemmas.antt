@@ -1,7 +1,7 @@
--- What a stated entry is, and what one more entry makes of a layer.
-use Rattle.std.proofs.Common.{◌≡◌, ℕ, ◌<◌, ◌≤◌, ◌+◌, ◌⊎◌, List, [], ◌∷◌, ◌++◌, Bool, true, false, Option, Some, None, Result, Ok, Err, refl, sym, ap, ◌∙◌, subst, length, length-append, drop, arith, le-leb, leb-true}
+-- What a stated entry is.
+use Rattle.std.proofs.Common.{◌≡◌, ℕ, ◌≤◌, List, [], ◌∷◌, Bool, true, false, Option, Some, None, Err, refl, sym, ap, ◌∙◌, subst, length, drop, arith, le-leb, leb-true}
 use Rattle.std.specs.Option.{option_and_then}
-use Rattle.std.specs.Prelude.{◌==◌, not, nat_eq, nat_lt, nat_le, is_some, is_none, if◌then◌else◌, flat_map, codes}
+use Rattle.std.specs.Prelude.{◌==◌, not, IfSome, IsTrue, nat_eq, nat_lt, nat_le, is_some, is_none, if◌then◌else◌, flat_map, codes}
 use Rattle.std.specs.List.{starts_with, list_any}
 use Rattle.std.proofs.lemmas.Bool.{eqb-true}
 use Rattle.std.proofs.lemmas.Bool.Decides.{nat_tests}
@@ -11,19 +11,18 @@ use Rattle.std.specs.Str.{IsUtf8, is_utf8}
 use Rattle.serde_json.specs.Data.{Data}
 use Rattle.serde_json.specs.Read.{read}
 use Rattle.ovl_names.specs.Names.{slash, name_fault}
-use Rattle.ovl_names.specs.Paths.{PathNames, parent_path, path_fault, path_text, text_parts, parts_between, depth_limit, text_limit}
+use Rattle.ovl_names.specs.Paths.{PathNames, path_fault, path_text, text_parts, parts_between, depth_limit, text_limit}
 use Rattle.ovl_names.specs.declared.paths.PathFault.{PathFault}
 use Rattle.ovl_names.specs.declared.paths.PathFault.TheVariants.{NotAbsolute, EmptyPart, BadPart, TooDeep, TooLong}
 use Rattle.ovl_names.proofs.Ascending.{both}
 use Rattle.ovl_inode.specs.Sound.{is_sound_inode}
-use Rattle.ovl_manifest.specs.Layers.{Entry, Entries, is_directory_at, is_within_limits, entry_limit}
+use Rattle.ovl_layer.specs.Layers.{Entry, is_within_limits}
 use Rattle.ovl_manifest.specs.Versions.{depth_of}
 use Rattle.ovl_manifest.specs.declared.versions.Version.{Version}
 use Rattle.ovl_manifest.specs.declared.versions.Version.TheVariants.{One, Two}
-use Rattle.ovl_manifest.specs.Manifest.{comes_after, fault_after, entry_fault, entry_after, entries_after, layer_of_entries, layer_of_value, read_layer, IsFaultOf}
-use Rattle.ovl_manifest.specs.declared.faults.LayerFault.{LayerFault}
-use Rattle.ovl_manifest.specs.declared.faults.LayerFault.TheVariants.{NotJson, Shape, Version as WrongVersion, Count, Entry as WrongEntry, Order, NoParent, Root, Escaped, Memory}
-use Rattle.ovl_inode.specs.Attributes.{has_escaped_name}
+use Rattle.ovl_layer.specs.Entries.{is_statable}
+use Rattle.ovl_manifest.specs.Manifest.{layer_of_value, read_layer}
+use Rattle.ovl_layer.specs.declared.faults.LayerFault.TheVariants.{NotJson}
 use Rattle.ovl_manifest.specs.Fields.{entry_of, entry_with, is_entry, inode_field, path_field, path_of_text, text_field}
 
 -- ---- a path that is read keeps the limits
@@ -106,62 +105,10 @@ stated version value entry is =
         by None e = e
         by (Some fault) e = let bad : false ≡ true = rw e at none in cc
 
--- ---- one more entry
-
--- it is taken where it has no fault
-pub entry-taken : (first : Entry) (before : Entries) (entry : Entry) → has_escaped_name entry.1.attrs ≡ false → comes_after (first ∷ before) entry.0 ≡ true → is_directory_at (first ∷ before) (parent_path entry.0) ≡ true → entry_after (first ∷ before) (Some entry) ≡ Ok ((first ∷ before) ++ entry ∷ [])
-entry-taken first before entry unescaped after parent = rw (none, entry_after) refl
-  where
-    others : Entries
-    others = first ∷ before
-
-    none : entry_fault others entry ≡ None
-    none =
-        ap (λ b. if b then Some (Escaped (length others)) else fault_after others entry) unescaped
-        ∙ (ap (λ b. if not b then Some (Order (length others)) else if not (is_directory_at others (parent_path entry.0)) then Some (NoParent (length others)) else None) after
-        ∙ ap (λ b. if not b then Some (NoParent (length others)) else None) parent)
-
-pub one_more : (before : Entries) (one : Option Entry) (entries : Entries) → entry_after before one ≡ Ok entries → length entries ≡ length before + 1
-one_more before None entries is = let bad : Err (WrongEntry (length before)) ≡ Ok entries = is in cc
-one_more before (Some entry) entries is = by (entry_fault before entry) refl
-  where
-    by : (o : Option LayerFault) → entry_fault before entry ≡ o → length entries ≡ length before + 1
-    by None e = let made : Ok (before ++ entry ∷ []) ≡ Ok entries = rw (e, entry_after) at is in let same : before ++ entry ∷ [] ≡ entries = cc in ap length (sym same) ∙ length-append before (entry ∷ [])
-    by (Some fault) e = let bad : Err fault ≡ Ok entries = rw (e, entry_after) at is in cc
-
--- the fault that is stated is told
-pub is_told : (stated : Result Entries LayerFault) (fault : LayerFault) → stated ≡ Err fault → IsFaultOf stated fault
-is_told stated NotJson is = is
-is_told stated Shape is = is
-is_told stated WrongVersion is = is
-is_told stated Count is = is
-is_told stated (WrongEntry n) is = is
-is_told stated (Order n) is = is
-is_told stated (NoParent n) is = is
-is_told stated Root is = is
-is_told stated (Escaped n) is = is
-is_told stated Memory is = tt
-
--- ---- how many entries there are
-
-pub counted : (stated : List (Option Entry)) → 1 ≤ length stated → length stated ≤ entry_limit → layer_of_entries stated ≡ entries_after [] stated
-counted stated some limit = rw (none, most) refl
-  where
-    none : (length stated == 0) ≡ false
-    none = grind (arith, nat_tests)
-
-    most : nat_lt entry_limit (length stated) ≡ false
-    most = grind (arith, nat_tests)
-
-pub miscounted : (stated : List (Option Entry)) → (length stated ≡ 0) ⊎ (entry_limit < length stated) → layer_of_entries stated ≡ Err Count
-miscounted stated count = by (length stated == 0) refl
-  where
-    by : (b : Bool) → (length stated == 0) ≡ b → layer_of_entries stated ≡ Err Count
-    by true e = rw e refl
-    by false e = rw (e, past) refl
-      where
-        past : nat_lt entry_limit (length stated) ≡ true
-        past = grind (arith, nat_tests, count)
+-- what a value states, a manifest can state
+pub stated_statable : (version : Version) (value : Data) (entry : Option Entry) → entry ≡ entry_of version value → IfSome entry (λ e. IsTrue (is_statable e))
+stated_statable version value None is = tt
+stated_statable version value (Some entry) is = let of = stated version value entry (sym is) in rw (of.1, of.0) refl
 
 -- ---- the text of a manifest
 

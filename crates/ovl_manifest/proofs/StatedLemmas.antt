@@ -1,12 +1,12 @@
 -- The value that is written of an entry states that entry.
-use Rattle.std.proofs.Common.{◌≡◌, ℕ, ◌-◌, ◌^◌, ◌∙◌, List, [], ◌∷◌, Bool, true, false, Option, Some, None, refl, ap, map}
+use Rattle.std.proofs.Common.{◌≡◌, ℕ, ◌-◌, ◌^◌, ◌∙◌, List, [], ◌∷◌, Bool, true, false, Option, Some, None, Ok, refl, ap, map}
 use Rattle.std.specs.Prelude.{◌&&◌, if◌then◌else◌, not, nat_le, nat_lt, length, codes, option_and_then}
 use Rattle.std.specs.Option.{option_map}
 use Rattle.std.specs.List.{list_all}
 use Rattle.serde_json.specs.Data.{Data, number, string, object}
 use Rattle.serde_json.specs.Find.{get, as_number, as_i64, as_u64, as_str, of_integer}
 use Rattle.hex.specs.Hex.{encode_lower}
-use Rattle.ovl_names.specs.Paths.{PathNames, path_text, has_names}
+use Rattle.ovl_names.specs.Paths.{PathNames, path_text, has_names, depth_limit, text_limit}
 use Rattle.ovl_names.proofs.Ascending.{both}
 use Rattle.ovl_inode.specs.declared.digests.Digest.{Digest}
 use Rattle.ovl_inode.specs.declared.inodes.Inode.{Inode}
@@ -17,13 +17,15 @@ use Rattle.ovl_inode.specs.Hexadecimal.{digest_of_text}
 use Rattle.ovl_inode.specs.Marks.{has_metacopy}
 use Rattle.ovl_inode.specs.Sound.{is_sound_inode, is_sound_kind, has_sound_blob, is_word, mode_limit, size_limit}
 use Rattle.ovl_inode.proofs.SoundLaws.{HasSoundValues, sound_values}
-use Rattle.ovl_manifest.specs.Layers.{Entry, Entries, is_within_limits}
+use Rattle.ovl_layer.specs.Layers.{Entry, Entries, IsLayer, is_within_limits}
+use Rattle.ovl_layer.specs.Entries.{layer_of_entries}
+use Rattle.ovl_layer.proofs.BackLemmas.{layer-counted}
 use Rattle.ovl_manifest.specs.Fields.{has_exactly, up_to, path_of_text, natural_field, attributes_of, attributes_field, kind_field, kind_members, inode_with, inode_field, path_field, entry_with, entry_of}
-use Rattle.ovl_manifest.specs.Versions.{depth_of, states_nsec, is_stated_by}
+use Rattle.ovl_manifest.specs.Versions.{depth_of, states_nsec, is_stated_by, written}
 use Rattle.ovl_manifest.specs.declared.versions.Version.{Version}
 use Rattle.ovl_manifest.specs.declared.versions.Version.TheVariants.{One, Two}
-use Rattle.ovl_manifest.specs.Manifest.{stated_entries}
-use Rattle.ovl_manifest.specs.Text.{whole, attribute_members, entry_value, entry_items}
+use Rattle.ovl_manifest.specs.Manifest.{stated_entries, layer_of_value}
+use Rattle.ovl_manifest.specs.Text.{whole, attribute_members, entry_value, entry_items, layer_value}
 use Rattle.ovl_manifest.proofs.ValueLemmas.{up_to-within, word-within, seconds-back, nsec_member, nsec-back, digest-back, path-back, attributes-back}
 
 -- what is read of the members that a kind has
@@ -150,3 +152,17 @@ entries-stated version (entry ∷ entries) named limited stated sound =
     let states = both {a = is_stated_by version entry} {b = list_all (is_stated_by version) entries} stated in
     let sounds = both {a = is_sound_inode entry.1} {b = list_all (λ e. is_sound_inode e.1) entries} sound in
     λ j. entry-stated version entry names.0 limits.0 states.0 sounds.0 j ∷ entries-stated version entries names.1 limits.1 states.1 sounds.1 j
+
+-- ---- the value of a layer
+
+pub layer-back : (version : Version) (layer : Entries) → IsLayer layer → list_all (is_stated_by version) layer ≡ true → layer_of_value (layer_value version layer) ≡ Ok layer
+layer-back One layer is stated = ap layer_of_entries (entries-stated One layer is.named is.limited stated is.sound) ∙ layer-counted layer is
+layer-back Two layer is stated = ap layer_of_entries (entries-stated Two layer is.named is.limited stated is.sound) ∙ layer-counted layer is
+
+-- what is written can state each layer
+pub written-states : (layer : Entries) → list_all (λ entry. is_within_limits entry.0) layer ≡ true → list_all (is_stated_by written) layer ≡ true
+written-states [] limited = refl
+written-states (entry ∷ entries) limited =
+    let limits = both {a = is_within_limits entry.0} {b = list_all (λ e. is_within_limits e.0) entries} limited in
+    let own = both {a = nat_le (length entry.0) depth_limit} {b = nat_le (length (path_text entry.0)) text_limit} limits.0 in
+    rw own.0 (written-states entries limits.1)

@@ -20,16 +20,17 @@ use Rattle.ovl_names.specs.declared.paths.PathFault.TheVariants.{NotAbsolute, Em
 use Rattle.ovl_names.proofs.Ascending.{both, reversed, ascends-across}
 use Rattle.ovl_names.proofs.NameLemmas.{text_parts-rest}
 use Rattle.ovl_inode.specs.Bytes.{are_bytes, is_digest}
+use Rattle.ovl_inode.proofs.AttributeLemmas.{put-last}
 use Rattle.ovl_inode.specs.Attributes.{Attributes, attribute_cmp, is_attribute, is_attribute_name, are_attributes, with_attribute}
 use Rattle.ovl_inode.specs.Hexadecimal.{is_lower_digit, bytes_of_digits, digest_of_text}
 use Rattle.ovl_inode.specs.Sound.{is_word, is_seconds, nsec_limit}
-use Rattle.ovl_manifest.specs.Layers.{is_within_limits}
+use Rattle.ovl_layer.specs.Layers.{is_within_limits}
 use Rattle.ovl_manifest.specs.Versions.{depth_of, states_nsec}
 use Rattle.ovl_manifest.specs.declared.versions.Version.{Version}
 use Rattle.ovl_manifest.specs.declared.versions.Version.TheVariants.{One, Two}
 use Rattle.ovl_manifest.specs.Fields.{up_to, nsec_field, path_of_text, attribute_after, attributes_after}
 use Rattle.ovl_manifest.specs.Text.{whole, hexadecimal, attribute_members}
-use Rattle.ovl_manifest.specs.TextPaths.{slashed}
+use Rattle.ovl_layer.specs.TextPaths.{slashed}
 use Rattle.ovl_manifest.proofs.FieldLemmas.{attributes_after-put}
 use Rattle.ovl_manifest.proofs.TextLemmas.{attributes_in_turn, attribute_members-in_turn, no_or, all-at}
 
@@ -175,12 +176,6 @@ path-back version path named limited deep =
     ap (λ (o : Option PathFault). if is_none o then Some (text_parts text) else None) none ∙ ap (λ (p : PathNames). Some p) parts
 
 -- ---- attributes
-
-pub put-last : (done : Attributes) (name value : List ℕ) → list_all (λ attr. is_lt (attribute_cmp attr (name, value))) done ≡ true → with_attribute done name value ≡ done ++ (name, value) ∷ []
-put-last [] name value before = refl
-put-last (first ∷ done) name value before =
-    let parts = both {a = is_lt (attribute_cmp first (name, value))} {b = list_all (λ attr. is_lt (attribute_cmp attr (name, value))) done} before in
-    rw (reversed nat_list_cmp_total first.0 name parts.0) (ap (λ (rest : Attributes). first ∷ rest) (put-last done name value parts.1))
 
 attributes-on : (done attrs : Attributes) → ascends attribute_cmp (done ++ attrs) ≡ true → list_all is_attribute attrs ≡ true → attributes_after done (attributes_in_turn attrs) ≡ Some (done ++ attrs)
 attributes-on done [] up all = ap (λ (own : Attributes). Some own) (sym (append-nil done))

@@ -29,7 +29,7 @@ use Rattle.ovl_inode.specs.Kinds.{kind_word}
 use Rattle.ovl_inode.specs.Marks.{has_metacopy}
 use Rattle.ovl_inode.specs.Sound.{is_sound_inode, is_sound_kind, is_word, is_seconds, has_sound_blob, mode_limit, nsec_limit, size_limit}
 use Rattle.ovl_inode.proofs.SoundLaws.{sound_values}
-use Rattle.ovl_manifest.specs.Layers.{Entries, IsLayer}
+use Rattle.ovl_layer.specs.Layers.{Entries, IsLayer}
 use Rattle.ovl_manifest.specs.Versions.{version_number}
 use Rattle.ovl_manifest.specs.declared.versions.Version.{Version}
 use Rattle.ovl_manifest.specs.declared.versions.Version.TheVariants.{One, Two}

@@ -9,7 +9,7 @@ use Rattle.ovl_inode.specs.declared.inodes.Kind.{Kind}
 use Rattle.ovl_inode.specs.declared.inodes.Kind.TheVariants.{File, Symlink, Char, Block}
 use Rattle.ovl_inode.specs.Attributes.{Attributes}
 use Rattle.ovl_inode.specs.Kinds.{kind_word}
-use Rattle.ovl_manifest.specs.Layers.{Entries}
+use Rattle.ovl_layer.specs.Layers.{Entries}
 use Rattle.ovl_manifest.specs.Text.{entry_value}
 use Rattle.ovl_manifest.specs.declared.versions.Version.{Version}
 use Rattle.ovl_manifest.specs.declared.versions.Version.TheVariants.{One, Two}
@@ -17,12 +17,14 @@ use Rattle.ovl_manifest.specs.declared.versions.Version.TheVariants.{One, Two}
 -- how an entry begins: its blob, if it has one, and its group
 abbrev pub group_text : Option Digest → ℕ → List ℕ
 group_text None gid = codes "{\"gid\":" ++ decimal gid
-group_text (Some blob) gid = codes "{\"blob\":" ++ (quoted (encode_lower blob) ++ (codes ",\"gid\":" ++ decimal gid))
+group_text (Some blob) gid =
+    codes "{\"blob\":" ++ (quoted (encode_lower blob) ++ (codes ",\"gid\":" ++ decimal gid))
 
 -- the members that a kind has between `kind` and `mode`
 abbrev pub device_text : Option (ℕ × ℕ) → List ℕ
 device_text None = []
-device_text (Some numbers) = codes ",\"major\":" ++ (decimal numbers.0 ++ (codes ",\"minor\":" ++ decimal numbers.1))
+device_text (Some numbers) =
+    codes ",\"major\":" ++ (decimal numbers.0 ++ (codes ",\"minor\":" ++ decimal numbers.1))
 
 -- the member that says the seconds of a time
 abbrev pub mtime_text : ℤ → List ℕ
@@ -49,7 +51,8 @@ device_of_kind (Block major minor) = Some (major, minor)
 device_of_kind _ = None
 
 -- the kind has this word, blob and numbers
-pub record IsKindOf (word : List ℕ) (blob : Option Digest) (device : Option (ℕ × ℕ)) (kind : Kind) : Type 0 where
+pub record IsKindOf (word : List ℕ) (blob : Option Digest) (device : Option (ℕ × ℕ))
+    (kind : Kind) : Type 0 where
   pub same_word : kind_word kind ≡ word
   pub same_blob : blob_of_kind kind ≡ blob
   pub same_device : device_of_kind kind ≡ device
@@ -60,10 +63,12 @@ attribute_text attr = quoted attr.0 ++ 58 ∷ quoted (encode_lower attr.1)
 
 abbrev pub attributes_text : Bool → Attributes → List ℕ
 attributes_text before [] = []
-attributes_text before (attr ∷ attrs) = comma_if before ++ (attribute_text attr ++ attributes_text true attrs)
+attributes_text before (attr ∷ attrs) =
+    comma_if before ++ (attribute_text attr ++ attributes_text true attrs)
 
 -- the text begins with an attribute, which is put behind the others
-pub record TakesAttribute (text : List ℕ) (attrs : Attributes) (rest : List ℕ) (more : Attributes) : Type 0 where
+pub record TakesAttribute (text : List ℕ) (attrs : Attributes) (rest : List ℕ)
+    (more : Attributes) : Type 0 where
   pub attr : List ℕ × List ℕ
   pub first : text ≡ attribute_text attr ++ rest
   pub behind : more ≡ attrs ++ attr ∷ []
@@ -71,4 +76,6 @@ pub record TakesAttribute (text : List ℕ) (attrs : Attributes) (rest : List �
 -- the same of entries
 abbrev pub entries_text : Version → Bool → Entries → List ℕ
 entries_text version before [] = []
-entries_text version before (entry ∷ entries) = comma_if before ++ (compact_text (entry_value version entry) ++ entries_text version true entries)
+entries_text version before (entry ∷ entries) =
+    comma_if before
+    ++ (compact_text (entry_value version entry) ++ entries_text version true entries)

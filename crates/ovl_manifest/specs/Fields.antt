@@ -14,7 +14,7 @@ use Rattle.ovl_inode.specs.Hexadecimal.{bytes_of_digits, digest_of_text}
 use Rattle.ovl_inode.specs.Sound.{is_sound_inode, mode_limit, nsec_limit, size_limit}
 use Rattle.ovl_manifest.specs.declared.versions.Version.{Version}
 use Rattle.ovl_manifest.specs.declared.versions.Version.TheVariants.{One, Two}
-use Rattle.ovl_manifest.specs.Layers.{Entry}
+use Rattle.ovl_layer.specs.Layers.{Entry}
 use Rattle.ovl_manifest.specs.Versions.{depth_of, common_members}
 
 abbrev pub member_count : Members → ℕ
@@ -27,7 +27,8 @@ has_count count (object members) = member_count members == count
 has_count count _ = false
 
 abbrev pub has_exactly : List (List ℕ) → Data → Bool
-has_exactly names value = has_count (length names) value && list_all (λ name. is_some (get name value)) names
+has_exactly names value =
+    has_count (length names) value && list_all (λ name. is_some (get name value)) names
 
 -- a text
 abbrev pub text_field : List ℕ → Data → Option (List ℕ)
@@ -38,7 +39,9 @@ abbrev pub up_to : ℕ → ℕ → Option ℕ
 up_to limit n = if nat_le n limit then Some n else None
 
 abbrev pub natural_field : List ℕ → ℕ → Data → Option ℕ
-natural_field name limit value = option_and_then (up_to limit) (option_and_then as_u64 (option_and_then as_number (get name value)))
+natural_field name limit value =
+    option_and_then (up_to limit)
+    (option_and_then as_u64 (option_and_then as_number (get name value)))
 
 -- whole seconds of 64 bits with a sign
 abbrev pub seconds_field : List ℕ → Data → Option ℤ
@@ -51,7 +54,8 @@ nsec_field Two value = natural_field (codes "mtime-nsec") nsec_limit value
 
 -- the path that a text spells
 abbrev pub path_of_text : Version → List ℕ → Option PathNames
-path_of_text version text = if is_none (path_fault (depth_of version) text) then Some (text_parts text) else None
+path_of_text version text =
+    if is_none (path_fault (depth_of version) text) then Some (text_parts text) else None
 
 abbrev pub path_field : Version → Data → Option PathNames
 path_field version value = option_and_then (path_of_text version) (text_field (codes "path") value)
@@ -59,7 +63,8 @@ path_field version value = option_and_then (path_of_text version) (text_field (c
 -- the attributes that an object states: for each name, a value in lower-case hexadecimal digits
 abbrev pub attribute_after : Attributes → List ℕ → Data → Option Attributes
 attribute_after attrs name value =
-    option_and_then (λ bytes. if is_attribute_name name then Some (with_attribute attrs name bytes) else None)
+    option_and_then
+    (λ bytes. if is_attribute_name name then Some (with_attribute attrs name bytes) else None)
     (option_and_then bytes_of_digits (as_str value))
 
 abbrev pub attributes_after : Attributes → Members → Option Attributes
@@ -83,18 +88,24 @@ blob_field value = elim (get (codes "blob") value) [ None ↦ Some None | Some b
 
 -- the kind that an object states
 abbrev pub file_kind : Data → Option Kind
-file_kind value = option_and_then (λ size. option_map (λ blob. File size blob) (blob_field value)) (natural_field (codes "size") size_limit value)
+file_kind value =
+    option_and_then
+    (λ size. option_map (λ blob. File size blob) (blob_field value))
+    (natural_field (codes "size") size_limit value)
 
 abbrev pub numbers_kind : (ℕ → ℕ → Kind) → Data → Option Kind
 numbers_kind made value =
-    option_and_then (λ major. option_map (λ minor. made major minor) (natural_field (codes "minor") (2 ^ 32 - 1) value))
+    option_and_then
+    (λ major.
+    option_map (λ minor. made major minor) (natural_field (codes "minor") (2 ^ 32 - 1) value))
     (natural_field (codes "major") (2 ^ 32 - 1) value)
 
 abbrev pub kind_named : Data → List ℕ → Option Kind
 kind_named value name =
     if bytes_eq name (codes "dir") then Some Dir
     else if bytes_eq name (codes "file") then file_kind value
-    else if bytes_eq name (codes "symlink") then option_map (λ target. Symlink target) (text_field (codes "target") value)
+    else if bytes_eq name (codes "symlink")
+    then option_map (λ target. Symlink target) (text_field (codes "target") value)
     else if bytes_eq name (codes "char") then numbers_kind (λ major minor. Char major minor) value
     else if bytes_eq name (codes "block") then numbers_kind (λ major minor. Block major minor) value
     else if bytes_eq name (codes "fifo") then Some Fifo
@@ -121,8 +132,17 @@ kind_members version kind = own_members kind ++ common_members version
 -- the inode that an object states
 abbrev pub inode_with : Version → Kind → Attributes → Data → Option Inode
 inode_with version kind attrs value =
-    option_and_then (λ mode. option_and_then (λ uid. option_and_then (λ gid. option_and_then (λ mtime. option_map (λ nsec.
-    record { kind = kind; mode = mode; uid = uid; gid = gid; mtime = mtime; nsec = nsec; attrs = attrs })
+    option_and_then (λ mode. option_and_then (λ uid. option_and_then (λ gid.
+    option_and_then (λ mtime. option_map (λ nsec.
+    record {
+      kind = kind;
+      mode = mode;
+      uid = uid;
+      gid = gid;
+      mtime = mtime;
+      nsec = nsec;
+      attrs = attrs;
+    })
     (nsec_field version value))
     (seconds_field (codes "mtime") value))
     (natural_field (codes "gid") (2 ^ 32 - 1) value))
@@ -131,16 +151,23 @@ inode_with version kind attrs value =
 
 abbrev pub inode_field : Version → Data → Option Inode
 inode_field version value =
-    option_and_then (λ kind. option_and_then (λ attrs. inode_with version kind attrs value) (attributes_field value)) (kind_field value)
+    option_and_then
+    (λ kind.
+    option_and_then (λ attrs. inode_with version kind attrs value) (attributes_field value))
+    (kind_field value)
 
 -- an entry's object has exactly the members of its kind, and its inode is sound
 abbrev pub is_entry : Version → Data → Inode → Bool
-is_entry version value inode = has_exactly (kind_members version inode.kind) value && is_sound_inode inode
+is_entry version value inode =
+    has_exactly (kind_members version inode.kind) value && is_sound_inode inode
 
 abbrev pub entry_with : Version → Data → PathNames → Inode → Option Entry
-entry_with version value path inode = if is_entry version value inode then Some (path, inode) else None
+entry_with version value path inode =
+    if is_entry version value inode then Some (path, inode) else None
 
 -- the entry that a value states
 abbrev pub entry_of : Version → Data → Option Entry
 entry_of version value =
-    option_and_then (λ path. option_and_then (entry_with version value path) (inode_field version value)) (path_field version value)
+    option_and_then
+    (λ path. option_and_then (entry_with version value path) (inode_field version value))
+    (path_field version value)

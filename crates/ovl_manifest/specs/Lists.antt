@@ -2,15 +2,16 @@
 use Rattle.std.specs.Prelude.{◌≡◌, ⊤, ℕ, ◌<◌, Option, Some, None, Result, Ok, Err, List, [], ◌∷◌, if◌then◌else◌, length, codes, option_and_then, IsSomeAnd}
 use Rattle.serde_json.specs.Data.{Num, Data, Items}
 use Rattle.serde_json.specs.Find.{get, as_number, as_u64, as_array}
-use Rattle.ovl_manifest.specs.Layers.{Entry, Entries}
+use Rattle.ovl_layer.specs.Layers.{Entry, Entries}
 use Rattle.ovl_manifest.specs.Fields.{has_exactly}
 use Rattle.ovl_manifest.specs.Versions.{version_of}
-use Rattle.ovl_manifest.specs.Manifest.{is_whole, entry_after, entries_after, layer_of_entries, stated_entries}
-use Rattle.ovl_manifest.specs.Drafts.{draft_entries, IsDraft}
+use Rattle.ovl_manifest.specs.Manifest.{is_whole, stated_entries}
+use Rattle.ovl_layer.specs.Entries.{entry_after, entries_after, layer_of_entries}
+use Rattle.ovl_layer.specs.Drafts.{draft_entries, IsDraft}
 use Rattle.ovl_manifest.specs.declared.versions.Version.{Version}
-use Rattle.ovl_manifest.specs.declared.drafts.Draft.{Draft}
-use Rattle.ovl_manifest.specs.declared.faults.LayerFault.{LayerFault}
-use Rattle.ovl_manifest.specs.declared.faults.LayerFault.TheVariants.{Shape, Version as WrongVersion, Memory}
+use Rattle.ovl_layer.specs.declared.drafts.Draft.{Draft}
+use Rattle.ovl_layer.specs.declared.faults.LayerFault.{LayerFault}
+use Rattle.ovl_layer.specs.declared.faults.LayerFault.TheVariants.{Shape, Version as WrongVersion, Memory}
 use Rattle.ovl_manifest.specs.declared.lists.Progress.{Progress}
 use Rattle.ovl_manifest.specs.declared.lists.Progress.TheVariants.{Nothing, Made, Refused}
 
@@ -28,7 +29,10 @@ listed value = option_and_then as_array (get (codes "entries") value)
 -- the version of a manifest that is an object of a whole number that names one, and of a list
 abbrev pub outline_of : Option Num → Option Items → Result Version LayerFault
 outline_of (Some n) (Some items) =
-    if is_whole n then elim (option_and_then version_of (as_u64 n)) [ Some version ↦ Ok version | None ↦ Err WrongVersion ] else Err Shape
+    if is_whole n then
+    elim (option_and_then version_of (as_u64 n))
+    [ Some version ↦ Ok version | None ↦ Err WrongVersion ]
+    else Err Shape
 outline_of _ _ = Err Shape
 
 abbrev pub outline : Data → Result Version LayerFault
@@ -71,4 +75,5 @@ Tells (Err fault) result = result ≡ Err fault
 -- the same of a list, where there is one
 abbrev pub TellsLast : Version → Option Items → Option (Result Draft LayerFault) → Type 0
 TellsLast version None told = ⊤
-TellsLast version (Some items) told = IsSomeAnd told (λ own. Tells own (layer_of_entries (stated_entries version items)))
+TellsLast version (Some items) told =
+    IsSomeAnd told (λ own. Tells own (layer_of_entries (stated_entries version items)))

@@ -1,4 +1,5 @@
--- The text of a layer as a manifest: compact JSON whose objects have their members in the order of their names.
+-- The text of a layer as a manifest: compact JSON whose objects have their members in the order of
+-- their names.
 use Rattle.std.specs.Prelude.{ℕ, Option, Some, None, List, [], ◌∷◌, ◌++◌, codes}
 use Rattle.hex.specs.Hex.{encode_lower}
 use Rattle.serde_json.specs.Data.{Data, number, string, array, object, unsigned, Items, no_items, item, Members, no_members, put}
@@ -10,7 +11,7 @@ use Rattle.ovl_inode.specs.declared.inodes.Kind.{Kind}
 use Rattle.ovl_inode.specs.declared.inodes.Kind.TheVariants.{Dir, File, Symlink, Char, Block, Fifo, Socket}
 use Rattle.ovl_inode.specs.Attributes.{Attributes}
 use Rattle.ovl_inode.specs.Kinds.{kind_word}
-use Rattle.ovl_manifest.specs.Layers.{Entry, Entries}
+use Rattle.ovl_layer.specs.Layers.{Entry, Entries}
 use Rattle.ovl_manifest.specs.Versions.{version_number, written}
 use Rattle.ovl_manifest.specs.declared.versions.Version.{Version}
 use Rattle.ovl_manifest.specs.declared.versions.Version.TheVariants.{One, Two}
@@ -28,7 +29,8 @@ with_blob None members = members
 with_blob (Some blob) members = put (codes "blob") (hexadecimal blob) members
 
 abbrev pub with_numbers : ℕ → ℕ → Members → Members
-with_numbers major minor members = put (codes "minor") (whole minor) (put (codes "major") (whole major) members)
+with_numbers major minor members =
+    put (codes "minor") (whole minor) (put (codes "major") (whole major) members)
 
 abbrev pub with_kind : Kind → Members → Members
 with_kind Dir members = members
@@ -68,11 +70,13 @@ entry_value version entry = object (with_kind entry.1.kind (common_members versi
 
 abbrev pub entry_items : Version → Entries → Items
 entry_items version [] = no_items
-entry_items version (entry ∷ entries) = item (entry_value version entry) (entry_items version entries)
+entry_items version (entry ∷ entries) =
+    item (entry_value version entry) (entry_items version entries)
 
 abbrev pub layer_value : Version → Entries → Data
 layer_value version layer =
-    object (put (codes "overlay-layer") (whole (version_number version)) (put (codes "entries") (array (entry_items version layer)) no_members))
+    object (put (codes "overlay-layer") (whole (version_number version))
+    (put (codes "entries") (array (entry_items version layer)) no_members))
 
 -- the text that is written of a layer: that of its value, and a newline
 abbrev pub manifest_text : Entries → List ℕ

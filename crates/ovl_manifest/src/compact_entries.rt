@@ -24,7 +24,8 @@ pub(crate) fn read_entry<'a>(
     version: Version,
     rest: &mut Rest<'a>,
 ) -> Option<(CowStr<'a, Global>, Inode)>
-    ensures text { IfSome result (λ entry. (path : PathNames) → path_text path ≡ cow_str_bytes entry.0
+    ensures text { IfSome result
+        (λ entry. (path : PathNames) → path_text path ≡ cow_str_bytes entry.0
         → rest.old ≡ compact_text (entry_value version (path, entry.1)) ++ rest.new) }
     ensures stated { IfSome result (λ entry. states_nsec version entry.1.nsec ≡ true) }
     ensures sound { IfSome result (λ entry. is_sound_inode entry.1 ≡ true) }
@@ -91,7 +92,8 @@ fn take_word<'a>(rest: &mut Rest<'a>) -> Option<&'a str>
 
 // The time of the last change: its seconds, and the nanoseconds past them.
 fn read_time(version: Version, rest: &mut Rest<'_>) -> Option<(i64, u32)>
-    ensures text { IfSome result (λ time. rest.old ≡ mtime_text time.0 ++ (nsec_text version time.1 ++ rest.new)) }
+    ensures text { IfSome result
+        (λ time. rest.old ≡ mtime_text time.0 ++ (nsec_text version time.1 ++ rest.new)) }
     ensures stated { IfSome result (λ time. states_nsec version time.1 ≡ true) }
 {
     rest.take(",\"mtime\":")?;
@@ -167,7 +169,8 @@ fn read_kind(
 
 // The attributes, in the order of their names.
 fn read_attributes(alloc: Global, rest: &mut Rest<'_>) -> Option<Attrs>
-    ensures { IfSome result (λ attrs. rest.old ≡ compact_text (object (attribute_members attrs)) ++ rest.new) }
+    ensures { IfSome result
+        (λ attrs. rest.old ≡ compact_text (object (attribute_members attrs)) ++ rest.new) }
 {
     let mut attrs = Attrs::new(alloc);
     if rest.take("{}").is_some() {

@@ -5,33 +5,32 @@ ghost use Rattle.std.specs.Str.{IsUtf8};
 ghost use Rattle.serde_json.specs.Written.{compact_text, items_text};
 ghost use Rattle.ovl_names.specs.Paths.{path_text};
 ghost use Rattle.ovl_inode.specs.Sound.{is_sound_inode};
-ghost use Rattle.ovl_manifest.specs.Layers.{IsLayer, entry_limit};
+ghost use Rattle.ovl_layer.specs.Layers.{IsLayer, entry_limit};
 ghost use Rattle.ovl_manifest.specs.Manifest.{read_layer as layer_stated};
 ghost use Rattle.ovl_manifest.specs.Text.{entry_items, layer_value};
 ghost use Rattle.ovl_manifest.specs.Versions.{depth_of, is_stated_by};
-ghost use Rattle.ovl_manifest.specs.TextPaths.{slashed, AreEnds};
-ghost use Rattle.ovl_manifest.specs.SheetDrafts.{drafted, last_path, IsSheetDraft};
+ghost use Rattle.ovl_layer.specs.TextPaths.{slashed, AreEnds};
+ghost use Rattle.ovl_layer.specs.SheetDrafts.{drafted, last_path, IsSheetDraft};
 
 use crate::compact_entries::read_entry;
 use crate::compact_texts::Rest;
-use crate::entries::{ENTRY_LIMIT, has_escaped_name};
-use crate::sheet_drafts::SheetDraft;
-use crate::sheets::Sheet;
 use crate::text_paths::{go_on, place_beside};
 use crate::versions::Version;
 use ovl_inode::{Inode, is_directory};
+use ovl_layer::{ENTRY_LIMIT, Sheet, SheetDraft, has_escaped_name};
 use ovl_names::{Name, TEXT_LIMIT};
 use simdutf8::compat::from_utf8;
 use std::alloc::Global;
 use std::borrow::CowStr;
 
-// Fewer bytes than most entries have in a manifest, so that a list with room for one in so many bytes of the text seldom
-// grows. Room that no entry takes is never touched.
+// Fewer bytes than most entries have in a manifest, so that a list with room for one in so many
+// bytes of the text seldom grows. Room that no entry takes is never touched.
 const ENTRY_TEXT: usize = 96;
 
-/// The sheet of the layer whose manifest these bytes are, byte for byte as [`write_layer`](crate::write_layer) writes
-/// it, or wrote it in the first version; the newline at its end may be missing. Gives none of manifests that are
-/// written in another way, of any fault and where memory runs out.
+/// The sheet of the layer whose manifest these bytes are, byte for byte as
+/// [`write_layer`](crate::write_layer) writes it, or wrote it in the first version; the newline at
+/// its end may be missing. Gives none of manifests that are written in another way, of any fault
+/// and where memory runs out.
 pub(crate) fn read_compact(alloc: Global, bytes: &[u8]) -> Option<Sheet>
     ensures { IfSome result (λ sheet. layer_stated bytes.now ≡ Ok sheet) }
 {
@@ -58,7 +57,8 @@ fn read_written(alloc: Global, version: Version, text: &str) -> Option<Sheet>
 
 // The sheet of the layer whose manifest of this version comes next.
 fn read_manifest(alloc: Global, version: Version, rest: &mut Rest<'_>) -> Option<Sheet>
-    ensures text { IfSome result (λ sheet. rest.old ≡ compact_text (layer_value version sheet) ++ rest.new) }
+    ensures text { IfSome result
+        (λ sheet. rest.old ≡ compact_text (layer_value version sheet) ++ rest.new) }
     ensures layer { IfSome result (λ sheet. IsLayer sheet) }
     ensures stated { IfSome result (λ sheet. list_all (is_stated_by version) sheet ≡ true) }
 {
@@ -75,7 +75,8 @@ fn read_manifest(alloc: Global, version: Version, rest: &mut Rest<'_>) -> Option
 
 // The sheet of at least one entry and at most `ENTRY_LIMIT`.
 fn read_entries(alloc: Global, version: Version, rest: &mut Rest<'_>) -> Option<Sheet>
-    ensures text { IfSome result (λ sheet. rest.old ≡ items_text false (entry_items version sheet) ++ rest.new) }
+    ensures text { IfSome result
+        (λ sheet. rest.old ≡ items_text false (entry_items version sheet) ++ rest.new) }
     ensures layer { IfSome result (λ sheet. IsLayer sheet) }
     ensures stated { IfSome result (λ sheet. list_all (is_stated_by version) sheet ≡ true) }
 {
@@ -115,7 +116,8 @@ fn read_entries(alloc: Global, version: Version, rest: &mut Rest<'_>) -> Option<
     }
 }
 
-// The draft of the entry of a sound inode, whose path a text spells, if it can be a layer's first; it has room for so many.
+// The draft of the entry of a sound inode, whose path a text spells, if it can be a layer's first;
+// it has room for so many.
 fn start(alloc: Global, text: &str, inode: Inode, room: usize) -> Option<SheetDraft>
     requires { is_sound_inode inode ≡ true }
     ensures root { IfSome result (λ _. text.now ≡ path_text []) }
@@ -132,9 +134,10 @@ fn start(alloc: Global, text: &str, inode: Inode, room: usize) -> Option<SheetDr
     }
 }
 
-// Puts the entry of a sound inode, whose path a text spells, into the draft, whose last path has the text `last`; where in
-// that the paths on the way there end stands beside it, and the text of the root is empty here. Gives none of a path or
-// an inode that no layer of the version has there, and when out of memory.
+// Puts the entry of a sound inode, whose path a text spells, into the draft, whose last path has
+// the text `last`; where in that the paths on the way there end stands beside it, and the text of
+// the root is empty here. Gives none of a path or an inode that no layer of the version has there,
+// and when out of memory.
 fn add_beside(
     alloc: Global,
     version: Version,
@@ -154,7 +157,8 @@ fn add_beside(
     ensures last { IfSome result (λ _. slashed (last_path draft.new) ≡ text.now) }
     ensures ends { IfSome result (λ _. AreEnds (last_path draft.new) ends.new.items) }
     ensures path { IfSome result (λ _. path_text (last_path draft.new) ≡ text.now) }
-    ensures entries { IfSome result (λ _. drafted draft.new ≡ drafted draft.old ++ (last_path draft.new, inode) ∷ []) }
+    ensures entries { IfSome result
+        (λ _. drafted draft.new ≡ drafted draft.old ++ (last_path draft.new, inode) ∷ []) }
 {
     let (depth, name) = place_beside(last, ends, text)?;
     if depth >= version.depth() || text.len() > TEXT_LIMIT || has_escaped_name(&inode.attrs) {

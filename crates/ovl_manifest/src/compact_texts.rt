@@ -136,7 +136,8 @@ impl<'a> Rest<'a> {
     }
 }
 
-// Whether the bytes are the same. No byte is a way out, so that at a literal text it becomes a comparison of words.
+// Whether the bytes are the same. No byte is a way out, so that at a literal text it becomes a
+// comparison of words.
 #[inline(always)]
 fn is_same(own: &[u8], other: &[u8]) -> bool
     ensures { IsTrue result → own.now ≡ other.now }
@@ -153,7 +154,8 @@ fn is_same(own: &[u8], other: &[u8]) -> bool
     same
 }
 
-// How long the string is that begins here, up to the first quotation mark behind its own that no backslash escapes.
+// How long the string is that begins here, up to the first quotation mark behind its own that no
+// backslash escapes.
 fn string_length(bytes: &[u8]) -> usize
     ensures { result ≤ length bytes.now }
 {
@@ -190,7 +192,8 @@ fn string_written(alloc: Global, own: &str) -> Option<String>
     }
 }
 
-// The number that the digits at the front write, without a zero before others, and how many they are.
+// The number that the digits at the front write, without a zero before others, and how many they
+// are.
 fn leading_number(bytes: &[u8]) -> Option<(u64, usize)>
     ensures { IfSome result (λ read. decimal read.0 ≡ take read.1 bytes.now) }
 {

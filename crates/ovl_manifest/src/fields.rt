@@ -237,7 +237,8 @@ fn put_attribute(
     }
 }
 
-/// Puts the attribute of this name and of the value that digits spell, and answers false where they state none.
+/// Puts the attribute of this name and of the value that digits spell, and answers false where they
+/// state none.
 pub(crate) fn put_digits(
     alloc: Global,
     attrs: &mut Attrs,
@@ -277,7 +278,9 @@ fn own_members(kind: &Kind) -> &'static [&'static str]
 
 /// Whether the object has these members and those, each of another name, and no more.
 pub(crate) fn is_made_of(value: &Value, own: &[&str], common: &[&str]) -> bool
-    ensures { result ≡ has_exactly (map (λ name. name.now) own.now ++ map (λ name. name.now) common.now) (view value.now) }
+    ensures { result
+        ≡ has_exactly (map (λ name. name.now) own.now ++ map (λ name. name.now) common.now)
+        (view value.now) }
 {
     if value.len() != own.len() + common.len() {
         return false;

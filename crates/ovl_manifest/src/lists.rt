@@ -4,21 +4,19 @@ ghost use Rattle.serde_json.specs.Data.{object, no_members};
 ghost use Rattle.serde_json.specs.Find.{as_array};
 ghost use Rattle.serde_json.specs.Read.{read};
 ghost use Rattle.ovl_json.specs.Reading.{read_value, read_items as items_read, read_members as members_read};
-ghost use Rattle.ovl_manifest.specs.Layers.{entry_limit};
+ghost use Rattle.ovl_layer.specs.Layers.{entry_limit};
 ghost use Rattle.ovl_manifest.specs.Fields.{entry_of};
-ghost use Rattle.ovl_manifest.specs.Manifest.{is_statable, entry_after, layer_of_entries, stated_entries, IsFaultOf};
-ghost use Rattle.ovl_manifest.specs.Drafts.{draft_entries, IsDraft};
+ghost use Rattle.ovl_layer.specs.Entries.{is_statable, entry_after, layer_of_entries, IsFaultOf};
+ghost use Rattle.ovl_manifest.specs.Manifest.{stated_entries};
+ghost use Rattle.ovl_layer.specs.Drafts.{draft_entries, IsDraft};
 ghost use Rattle.ovl_manifest.specs.Lists.{listed, entry_on, made, IsProgress, IsProgressOf, Tells, TellsLast, member_depth, item_depth};
 
-use crate::drafts::Draft;
-use crate::entries::{ENTRY_LIMIT, add, start};
-use crate::faults::LayerFault;
 use crate::fields::read_entry;
-use crate::trees::Layer;
 use crate::versions::Version;
 use json::{Reader, Scratch};
 use ovl_inode::Inode;
-use ovl_json::{Beginning, MAX_DEPTH, Unread, begin, pass_items, pass_members, read_object};
+use ovl_json::{Beginning, MAX_DEPTH, Unread, begin, read_object, skip_items, skip_members};
+use ovl_layer::{Draft, ENTRY_LIMIT, Layer, LayerFault, add_entry, start_draft};
 use ovl_names::Path;
 use std::alloc::Global;
 
@@ -27,7 +25,7 @@ const MEMBER_DEPTH: usize = MAX_DEPTH - 1;
 
 const ITEM_DEPTH: usize = MEMBER_DEPTH - 1;
 
-// What the entries so far make.
+/// What the entries so far make.
 #[derive(Drop)]
 pub(crate) enum Progress {
     // There was none yet.
@@ -45,7 +43,9 @@ pub(crate) fn read_entries(alloc: Global, version: Version, text: &str) -> Resul
         (λ layer. layer_of_entries (stated_entries version items) ≡ Ok layer)
         (λ fault. IsFaultOf (layer_of_entries (stated_entries version items)) fault)) }
 {
-    let told = read_draft(alloc, version, text)?;
+    let Ok(told) = read_draft(alloc, version, text) else {
+        return Err(LayerFault::Memory);
+    };
     match told {
         Ok(draft) => Ok(draft.finish()?),
         Err(fault) => Err(fault),
@@ -73,14 +73,15 @@ fn read_draft(
     Ok(told)
 }
 
-// The same of the last member `entries` of an object whose brace was passed, where it is a list.
+// The same of the last member `entries` of an object whose brace was read, where it is a list.
 fn read_lists(
     alloc: Global,
     version: Version,
     reader: &mut Reader<'_>,
 ) -> Result<Option<Result<Draft, LayerFault>>, Unread>
     requires { is_some (members_read member_depth no_members reader.old) ≡ true }
-    ensures { IfOk result (λ last. IsSomeAnd (members_read member_depth no_members reader.old) (λ read.
+    ensures { IfOk result
+        (λ last. IsSomeAnd (members_read member_depth no_members reader.old) (λ read.
         TellsLast version (listed (object read.0)) last)) }
 {
     let mut last = None;
@@ -109,14 +110,14 @@ fn read_list(
     match begin(reader, MEMBER_DEPTH)? {
         Beginning::Array => Ok(Some(read_items(alloc, version, reader)?)),
         Beginning::Object => {
-            pass_members(reader, ITEM_DEPTH)?;
+            skip_members(reader, ITEM_DEPTH)?;
             Ok(None)
         }
         _ => Ok(None),
     }
 }
 
-// The same of an array whose bracket was passed.
+// The same of an array whose bracket was read.
 fn read_items(
     alloc: Global,
     version: Version,
@@ -130,7 +131,7 @@ fn read_items(
     let mut count = 0;
     while !reader.take_end_array() {
         if count == ENTRY_LIMIT {
-            pass_items(reader, ITEM_DEPTH)?;
+            skip_items(reader, ITEM_DEPTH)?;
             return Ok(Err(LayerFault::Count));
         }
         progress = with_item(alloc, version, progress, count as u32, reader)?;
@@ -143,7 +144,8 @@ fn read_items(
     }
 }
 
-// What the entries so far make with the item that stands next. Once there is a fault, items are passed.
+// What the entries so far make with the item that stands next. Once there is a fault, items are
+// passed.
 fn with_item(
     alloc: Global,
     version: Version,
@@ -161,7 +163,7 @@ fn with_item(
     match progress {
         Progress::Nothing => {
             let entry = read_item(alloc, version, reader)?;
-            progress_of(start(alloc, entry))
+            progress_of(start_draft(alloc, entry))
         }
         Progress::Made(draft) => {
             let entry = read_item(alloc, version, reader)?;
@@ -190,7 +192,7 @@ fn with_entry(
         (λ fault. IsFaultOf (entry_after (draft_entries draft) entry) fault) }
 {
     let mut draft = draft;
-    add(alloc, &mut draft, number, entry)?;
+    add_entry(alloc, &mut draft, number, entry)?;
     Ok(draft)
 }
 

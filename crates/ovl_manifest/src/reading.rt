@@ -4,26 +4,26 @@ ghost use Rattle.serde_json.specs.Read.{read};
 ghost use Rattle.serde_json.specs.View.{number_view};
 ghost use Rattle.ovl_json.specs.Views.{object_view};
 ghost use Rattle.ovl_manifest.specs.Versions.{version_of};
-ghost use Rattle.ovl_manifest.specs.Manifest.{layer_of_value, read_layer as layer_stated, IsFaultOf};
+ghost use Rattle.ovl_manifest.specs.Manifest.{layer_of_value, read_layer as layer_stated};
+ghost use Rattle.ovl_layer.specs.Entries.{IsFaultOf};
 ghost use Rattle.ovl_manifest.specs.Lists.{outline};
 
 use crate::compact_layers::read_compact;
-use crate::faults::LayerFault;
 use crate::fields::is_made_of;
 use crate::lists::read_entries;
-use crate::sheets::Sheet;
-use crate::trees::Layer;
 use crate::versions::Version;
 use json::{Reader, Scratch};
 use ovl_json::{MAX_DEPTH, Object, is_json, read_object};
+use ovl_layer::{Layer, LayerFault, Sheet};
 use serde_json::Number;
 use simdutf8::compat::from_utf8;
 use std::alloc::Global;
 
-/// The layer that the bytes of a manifest state. It is refused with the first fault in the order of tests that
-/// `docs/FORMATS.md` tells, each entry tested before the next; `Memory` can come at any time. The text is JSON
-/// (RFC 8259) in UTF-8, nested at most 127 deep; of members with the same name the last counts. Memory is taken in
-/// proportion to the bytes, whatever they hold: no value but that of one entry is made at a time.
+/// The layer that the bytes of a manifest state. It is refused with the first fault in the order of
+/// tests that `docs/FORMATS.md` tells, each entry tested before the next; `Memory` can come at any
+/// time. The text is JSON (RFC 8259) in UTF-8, nested at most 127 deep; of members with the same
+/// name the last counts. Memory is taken in proportion to the bytes, whatever they hold: no value
+/// but that of one entry is made at a time.
 pub fn read_layer(alloc: Global, bytes: &[u8]) -> Result<Layer, LayerFault>
     ensures { MatchResult result
         (λ layer. layer_stated bytes.now ≡ Ok layer)
@@ -50,8 +50,9 @@ fn read_text(alloc: Global, text: &str) -> Result<Layer, LayerFault>
     }
 }
 
-/// The sheet of the layer that the bytes of a manifest state, refused as [`read_layer`] refuses it. A manifest as
-/// [`write_layer`](crate::write_layer) writes it is read at once; others by way of a value of each entry.
+/// The sheet of the layer that the bytes of a manifest state, refused as [`read_layer`] refuses it.
+/// A manifest as [`write_layer`](crate::write_layer) writes it is read at once; others by way of a
+/// value of each entry.
 pub fn read_sheet(alloc: Global, bytes: &[u8]) -> Result<Sheet, LayerFault>
     ensures { MatchResult result
         (λ sheet. layer_stated bytes.now ≡ Ok sheet)
@@ -76,7 +77,10 @@ fn read_version(alloc: Global, text: &str) -> Result<Version, LayerFault>
 {
     let mut scratch = Scratch::new(alloc);
     let mut reader = Reader::new(text, &mut scratch)?;
-    match read_object(alloc, &mut reader, MAX_DEPTH)? {
+    let Ok(told) = read_object(alloc, &mut reader, MAX_DEPTH) else {
+        return Err(LayerFault::Memory);
+    };
+    match told {
         Some(value) => outline_of(&value),
         None => Err(LayerFault::Shape),
     }

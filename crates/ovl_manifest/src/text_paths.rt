@@ -2,13 +2,14 @@
 ghost use Rattle.std.specs.Prelude.{◌≡◌, ◌+◌, ◌<◌, ◌≤◌, ◌^◌, IfSome, OnOk, length, take};
 ghost use Rattle.ovl_names.specs.Names.{PathName};
 ghost use Rattle.ovl_names.specs.Paths.{PathNames, child_path};
-ghost use Rattle.ovl_manifest.specs.TextPaths.{slashed, AreEnds};
+ghost use Rattle.ovl_layer.specs.TextPaths.{slashed, AreEnds};
 
 use std::alloc::AllocError;
 
-/// Where the path of a text stands beside the last path, whose text is given, and where in it those of the paths on the
-/// way there end: how many names lead to the directory of the path, and what stands behind that directory. The text of
-/// the root is empty here. Gives none where no directory is on the way to the last path.
+/// Where the path of a text stands beside the last path, whose text is given, and where in it those
+/// of the paths on the way there end: how many names lead to the directory of the path, and what
+/// stands behind that directory. The text of the root is empty here. Gives none where no directory
+/// is on the way to the last path.
 pub(crate) fn place_beside<'a>(
     last: &str,
     ends: &[usize],
@@ -28,10 +29,12 @@ pub(crate) fn place_beside<'a>(
     Some((depth, name))
 }
 
-/// Goes from the last path to an entry of the directory of its first `depth` names, whose text is so long.
+/// Goes from the last path to an entry of the directory of its first `depth` names, whose text is
+/// so long.
 pub(crate) fn go_on(ends: &mut Vec<usize>, depth: usize, len: usize) -> Result<(), AllocError>
     requires { depth < 2 ^ 32 }
-    ensures { (path : PathNames) → (name : PathName) → AreEnds path ends.old.items → depth ≤ length path
+    ensures { (path : PathNames) → (name : PathName) → AreEnds path ends.old.items
+        → depth ≤ length path
         → len ≡ length (slashed (child_path (take depth path) name))
         → OnOk result (AreEnds (child_path (take depth path) name) ends.new.items) }
 {

@@ -2,20 +2,21 @@ ghost use Rattle.std.specs.Prelude.{◌≡◌, true, false, ◌++◌, Ok, IfOk, 
 ghost use Rattle.serde_json.specs.Written.{compact_text};
 ghost use Rattle.ovl_names.specs.Paths.{PathNames, child_path};
 ghost use Rattle.ovl_manifest.specs.Compact.{entries_text};
-ghost use Rattle.ovl_manifest.specs.LayerTrees.{entries_from, placed};
+ghost use Rattle.ovl_layer.specs.LayerTrees.{entries_from, placed};
 ghost use Rattle.ovl_manifest.specs.Manifest.{read_layer};
 ghost use Rattle.ovl_manifest.specs.Text.{manifest_text, layer_value};
 ghost use Rattle.ovl_manifest.specs.Versions.{written};
-ghost use Rattle.ovl_manifest.specs.TextPaths.{slashed};
+ghost use Rattle.ovl_layer.specs.TextPaths.{slashed};
 
-use crate::trees::{Layer, Node};
 use crate::versions::Version;
 use crate::written_entries::{push_entry, push_number};
 use ovl_inode::Kind;
+use ovl_layer::{Layer, Node};
 use std::alloc::{AllocError, Global};
 
-/// The manifest of a layer: compact JSON whose objects have their members in the byte order of their names, and a
-/// newline. Reading it gives the layer back. Fails only when out of memory. The format is told in `docs/FORMATS.md`.
+/// The manifest of a layer: compact JSON whose objects have their members in the byte order of
+/// their names, and a newline. Reading it gives the layer back. Fails only when out of memory. The
+/// format is told in `docs/FORMATS.md`.
 pub fn write_layer(alloc: Global, layer: &Layer) -> Result<Vec<u8>, AllocError>
     ensures text { IfOk result (λ bytes. bytes.items ≡ manifest_text layer.now) }
     ensures back { IfOk result (λ bytes. read_layer bytes.items ≡ Ok layer.now) }
@@ -28,15 +29,17 @@ pub fn write_layer(alloc: Global, layer: &Layer) -> Result<Vec<u8>, AllocError>
     Ok(text.into_bytes())
 }
 
-// What the text of most entries takes at most, but for its path and its blob's name, and what such a name takes.
+// What the text of most entries takes at most, but for its path and its blob's name, and what such
+// a name takes.
 const ENTRY_ROOM: usize = 136;
 
 const BLOB_ROOM: usize = 74;
 
-// As many bytes as the manifest of a layer of common entries takes, and a few more, so that its text needn't grow.
+// As many bytes as the manifest of a layer of common entries takes, and a few more, so that its
+// text needn't grow.
 fn room_for(layer: &Layer) -> usize {
     let mut room = ENTRY_ROOM;
-    for child in &layer.children {
+    for child in layer.root().children() {
         room = room.saturating_add(room_under(child, 0));
     }
     room
@@ -44,19 +47,21 @@ fn room_for(layer: &Layer) -> usize {
 
 // Those of the entries at and under a node, by how long the text of its directory's path is.
 fn room_under(node: &Node, above: usize) -> usize {
-    let path = above.saturating_add(node.name.as_str().len() + 1);
+    let path = above.saturating_add(node.name().as_str().len() + 1);
     let mut room = path.saturating_add(ENTRY_ROOM);
-    if matches!(&node.inode.kind, Kind::File { blob: Some(_), .. }) {
+    if matches!(&node.inode().kind, Kind::File { blob: Some(_), .. }) {
         room = room.saturating_add(BLOB_ROOM);
     }
-    for child in &node.children {
+    for child in node.children() {
         room = room.saturating_add(room_under(child, path));
     }
     room
 }
 
 fn push_layer(alloc: Global, text: &mut String, layer: &Layer) -> Result<(), AllocError>
-    ensures { OnOk result (string_bytes text.new ≡ string_bytes text.old ++ compact_text (layer_value written layer.now)) }
+    ensures { OnOk result
+        (string_bytes text.new
+        ≡ string_bytes text.old ++ compact_text (layer_value written layer.now)) }
 {
     text.push_str("{\"entries\":[")?;
     push_entries(alloc, text, layer)?;
@@ -66,34 +71,40 @@ fn push_layer(alloc: Global, text: &mut String, layer: &Layer) -> Result<(), All
 
 // All entries, in path order.
 fn push_entries(alloc: Global, text: &mut String, layer: &Layer) -> Result<(), AllocError>
-    ensures { OnOk result (string_bytes text.new ≡ string_bytes text.old ++ entries_text written false layer.now) }
+    ensures { OnOk result
+        (string_bytes text.new ≡ string_bytes text.old ++ entries_text written false layer.now) }
 {
-    push_entry(alloc, text, "/", &layer.inode)?;
+    let root = layer.root();
+    push_entry(alloc, text, "/", root.inode())?;
     let mut path = String::new(alloc);
-    for child in &layer.children {
+    for child in root.children() {
         push_under(alloc, text, &mut path, child)?;
     }
     Ok(())
 }
 
-// The entries at and under a node, each behind a comma. The path is the text of its directory's, where that of the root is
-// empty, and is left so.
+// The entries at and under a node, each behind a comma. The path is the text of its directory's,
+// where that of the root is empty, and is left so.
 fn push_under(
     alloc: Global,
     text: &mut String,
     path: &mut String,
     node: &Node,
 ) -> Result<(), AllocError>
-    ensures text { OnOk result ((directory : PathNames) → string_bytes path.old ≡ slashed directory → string_bytes text.new ≡ string_bytes text.old
-        ++ entries_text written true (placed (child_path directory node.now.name) (entries_from node.now.inode node.now.below))) }
+    ensures text { OnOk result
+        ((directory : PathNames) → string_bytes path.old ≡ slashed directory
+        → string_bytes text.new ≡ string_bytes text.old
+        ++ entries_text written true
+        (placed (child_path directory node.now.name)
+        (entries_from node.now.inode node.now.below))) }
     ensures path { OnOk result (string_bytes path.new ≡ string_bytes path.old) }
 {
     let length = path.len();
     path.push_str("/")?;
-    path.push_str(node.name.as_str())?;
+    path.push_str(node.name().as_str())?;
     text.push_str(",")?;
-    push_entry(alloc, text, path.as_str(), &node.inode)?;
-    for child in &node.children {
+    push_entry(alloc, text, path.as_str(), node.inode())?;
+    for child in node.children() {
         push_under(alloc, text, path, child)?;
     }
     path.truncate(length);

@@ -22,7 +22,8 @@ pub(crate) fn push_entry(
     inode: &Inode,
 ) -> Result<(), AllocError>
     ensures { OnOk result ((own : PathNames) → path.now ≡ text_of_path own
-        → string_bytes text.new ≡ string_bytes text.old ++ compact_text (entry_value written (own, inode.now))) }
+        → string_bytes text.new
+        ≡ string_bytes text.old ++ compact_text (entry_value written (own, inode.now))) }
 {
     push_group(alloc, text, &inode.kind, inode.gid)?;
     push_text(alloc, text, ",\"kind\":", inode.kind.word())?;
@@ -41,7 +42,8 @@ pub(crate) fn push_entry(
 
 /// Appends a name, as it stands, and a whole number.
 pub(crate) fn push_number(text: &mut String, name: &str, number: u64) -> Result<(), AllocError>
-    ensures { OnOk result (string_bytes text.new ≡ string_bytes text.old ++ (name.now ++ decimal number)) }
+    ensures { OnOk result
+        (string_bytes text.new ≡ string_bytes text.old ++ (name.now ++ decimal number)) }
 {
     text.push_str(name)?;
     text.push_str(itoa::Buffer::new().format(number))
@@ -49,7 +51,8 @@ pub(crate) fn push_number(text: &mut String, name: &str, number: u64) -> Result<
 
 // Appends a name, as it stands, and a string.
 fn push_text(alloc: Global, text: &mut String, name: &str, string: &str) -> Result<(), AllocError>
-    ensures { OnOk result (string_bytes text.new ≡ string_bytes text.old ++ (name.now ++ quoted string.now)) }
+    ensures { OnOk result
+        (string_bytes text.new ≡ string_bytes text.old ++ (name.now ++ quoted string.now)) }
 {
     text.push_str(name)?;
     push_string(alloc, text, string)
@@ -82,7 +85,8 @@ fn push_escaped(alloc: Global, text: &mut String, string: &str) -> Result<(), Al
 
 // Appends the beginning of an entry: the blob of a file that has one, and the owning group.
 fn push_group(alloc: Global, text: &mut String, kind: &Kind, gid: u32) -> Result<(), AllocError>
-    ensures { OnOk result (string_bytes text.new ≡ string_bytes text.old ++ group_text (blob_of_kind kind.now) gid) }
+    ensures { OnOk result
+        (string_bytes text.new ≡ string_bytes text.old ++ group_text (blob_of_kind kind.now) gid) }
 {
     match kind {
         Kind::File {
@@ -103,14 +107,17 @@ fn push_digest(
     name: &str,
     digest: &Digest,
 ) -> Result<(), AllocError>
-    ensures { OnOk result (string_bytes text.new ≡ string_bytes text.old ++ (name.now ++ quoted (encode_lower digest.now))) }
+    ensures { OnOk result
+        (string_bytes text.new
+        ≡ string_bytes text.old ++ (name.now ++ quoted (encode_lower digest.now))) }
 {
     push_text(alloc, text, name, digest.digits().as_str())
 }
 
 // Appends the numbers of a device.
 fn push_device(text: &mut String, kind: &Kind) -> Result<(), AllocError>
-    ensures { OnOk result (string_bytes text.new ≡ string_bytes text.old ++ device_text (device_of_kind kind.now)) }
+    ensures { OnOk result
+        (string_bytes text.new ≡ string_bytes text.old ++ device_text (device_of_kind kind.now)) }
 {
     match kind {
         Kind::Char { major, minor } | Kind::Block { major, minor } => {
@@ -123,7 +130,8 @@ fn push_device(text: &mut String, kind: &Kind) -> Result<(), AllocError>
 
 // Appends the size of a file, and the target of a symlink.
 fn push_contents(alloc: Global, text: &mut String, kind: &Kind) -> Result<(), AllocError>
-    ensures { OnOk result (string_bytes text.new ≡ string_bytes text.old ++ contents_text kind.now) }
+    ensures { OnOk result
+        (string_bytes text.new ≡ string_bytes text.old ++ contents_text kind.now) }
 {
     match kind {
         Kind::File { size, .. } => push_number(text, ",\"size\":", *size),
@@ -134,7 +142,9 @@ fn push_contents(alloc: Global, text: &mut String, kind: &Kind) -> Result<(), Al
 
 // Appends the attributes as an object, each value by its digits.
 fn push_attributes(alloc: Global, text: &mut String, attrs: &Attrs) -> Result<(), AllocError>
-    ensures { OnOk result (string_bytes text.new ≡ string_bytes text.old ++ compact_text (object (attribute_members attrs.now))) }
+    ensures { OnOk result
+        (string_bytes text.new
+        ≡ string_bytes text.old ++ compact_text (object (attribute_members attrs.now))) }
 {
     text.push_str("{")?;
     let mut comma = "";

@@ -11,7 +11,7 @@ use Rattle.ovl_names.specs.Names.{PathName, name_eq, name_cmp}
 use Rattle.ovl_names.specs.Paths.{PathNames, child_path, parent_path}
 use Rattle.ovl_names.specs.Order.{ascends}
 use Rattle.ovl_inode.specs.declared.inodes.Inode.{Inode}
-use Rattle.ovl_manifest.specs.Layers.{Entries, IsLayer, entry_at, names_below}
+use Rattle.ovl_layer.specs.Layers.{Entries, IsLayer, entry_at, names_below}
 use Rattle.ovl_lookup.specs.declared.steps.Step.{Step}
 use Rattle.ovl_lookup.specs.Walk.{walk, nothing_found}
 use Rattle.ovl_lookup.specs.Passes.{own_names_along, put_names}

@@ -16,7 +16,7 @@ use Rattle.ovl_inode.specs.Attributes.{redirect_name, opaque_name}
 use Rattle.ovl_inode.specs.Marks.{mark_of, is_directory, is_regular, is_metacopy, is_metacopy_mark, is_whiteout, has_metacopy}
 use Rattle.ovl_inode.specs.Redirects.{read_redirect}
 use Rattle.ovl_inode.specs.Inodes.{visible}
-use Rattle.ovl_manifest.specs.Layers.{Entries, IsLayer, entry_at, is_directory_at}
+use Rattle.ovl_layer.specs.Layers.{Entries, IsLayer, entry_at, is_directory_at}
 use Rattle.ovl_lookup.specs.declared.steps.Step.{Step}
 use Rattle.ovl_lookup.specs.Walk.{walk, nothing_found}
 use Rattle.ovl_lookup.specs.Trace.{things_found}

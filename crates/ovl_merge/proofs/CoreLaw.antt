@@ -8,7 +8,7 @@ use Rattle.ovl_inode.specs.declared.inodes.Inode.{Inode}
 use Rattle.ovl_inode.specs.Attributes.{Attributes, attribute, metacopy_name}
 use Rattle.ovl_inode.specs.Marks.{mark_of, is_data, is_directory, is_regular, is_metacopy, has_metacopy}
 use Rattle.ovl_inode.specs.Inodes.{visible}
-use Rattle.ovl_manifest.specs.Layers.{Entries, IsLayer, entry_at}
+use Rattle.ovl_layer.specs.Layers.{Entries, IsLayer, entry_at}
 use Rattle.ovl_lookup.specs.declared.looks.Look.{Look}
 use Rattle.ovl_lookup.specs.declared.looks.Look.TheVariants.{Nothing, Shown, Broken}
 use Rattle.ovl_lookup.specs.Stacks.{StackView}

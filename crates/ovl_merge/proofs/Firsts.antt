@@ -5,7 +5,7 @@ use Rattle.std.specs.List.{cons_option}
 use Rattle.ovl_names.specs.Paths.{PathNames}
 use Rattle.ovl_inode.specs.declared.inodes.Inode.{Inode}
 use Rattle.ovl_inode.specs.Marks.{is_directory, is_metacopy, is_whiteout}
-use Rattle.ovl_manifest.specs.Layers.{Entries, IsLayer}
+use Rattle.ovl_layer.specs.Layers.{Entries, IsLayer}
 use Rattle.ovl_lookup.specs.Walk.{walk}
 use Rattle.ovl_lookup.specs.Trace.{things_found, hits_of, leading_directories, leading_files}
 use Rattle.ovl_lookup.proofs.LawsOfFound.{things_found-step}

@@ -10,7 +10,7 @@ use Rattle.ovl_inode.specs.declared.inodes.Kind.TheVariants.{File}
 use Rattle.ovl_inode.specs.Attributes.{Attributes, attribute, visible_attributes, redirect_name, metacopy_name, opaque_name, whiteout_name}
 use Rattle.ovl_inode.specs.Marks.{is_directory, is_regular, is_whiteout, is_metacopy, has_metacopy}
 use Rattle.ovl_inode.specs.Inodes.{visible}
-use Rattle.ovl_manifest.specs.Layers.{Entries}
+use Rattle.ovl_layer.specs.Layers.{Entries}
 use Rattle.ovl_lookup.specs.declared.looks.Look.{Look}
 use Rattle.ovl_lookup.specs.declared.looks.Look.TheVariants.{Nothing, Shown, Broken}
 use Rattle.ovl_lookup.specs.Trace.{things_found}

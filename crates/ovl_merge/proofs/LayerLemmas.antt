@@ -17,7 +17,7 @@ use Rattle.ovl_inode.specs.Sound.{is_sound_inode, is_sound_kind}
 use Rattle.ovl_inode.proofs.AttributeLemmas.{are_attributes-visible, are_attributes-with}
 use Rattle.ovl_inode.proofs.SoundLaws.{sound_values, sound-with, kind-full}
 use Rattle.ovl_inode.proofs.OnLiterals.{inode_on_literals}
-use Rattle.ovl_manifest.specs.Layers.{Entry, Entries, IsLayer, entry_at, entry_cmp, entry_limit, is_within_limits, has_parent}
+use Rattle.ovl_layer.specs.Layers.{Entry, Entries, IsLayer, entry_at, entry_cmp, entry_limit, is_within_limits, has_parent}
 use Rattle.ovl_lookup.specs.Trace.{things_found}
 use Rattle.ovl_lookup.specs.Merged.{look, shows, shown_of, data_of}
 use Rattle.ovl_lookup.specs.Sound.{IsSoundStack}

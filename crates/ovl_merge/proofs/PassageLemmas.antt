@@ -8,7 +8,7 @@ use Rattle.ovl_names.specs.Paths.{PathNames, child_path, parent_path}
 use Rattle.ovl_names.proofs.Ascending.{both, not_true}
 use Rattle.ovl_inode.specs.declared.inodes.Inode.{Inode}
 use Rattle.ovl_inode.specs.Marks.{is_directory, is_metacopy}
-use Rattle.ovl_manifest.specs.Layers.{Entries, IsLayer, entry_at}
+use Rattle.ovl_layer.specs.Layers.{Entries, IsLayer, entry_at}
 use Rattle.ovl_lookup.specs.declared.looks.Look.{Look}
 use Rattle.ovl_lookup.specs.declared.looks.Look.TheVariants.{Nothing}
 use Rattle.ovl_lookup.specs.declared.steps.Step.{Step}
@@ -155,10 +155,6 @@ below-inside layer None lower below own row known = absurd below
 below-inside layer (Some path) lower below own row known = row-inside layer (child_path path own) row known
 
 -- what a walk finds is the entry
-pub found-entry : (layer : Entries) → IsLayer layer → (path : PathNames) (found : Option Inode) → found ≡ (walk layer path).found → IfSome found (λ inode. entry_at layer path ≡ Some inode)
-found-entry layer is path None same = tt
-found-entry layer is path (Some inode) same = (walk-finds layer path inode is (sym same)).0
-
 -- ---- in the rest
 
 pub goes-directory : (m : Merge) (inode : Inode) (passed : Option Inode) (place : PathNames) → is_directory inode ≡ true → (a : Bool) → a ≡ is_nothing_or is_directory passed → (b : Bool) → b ≡ shows_directory m.rest place → (a && b) ≡ goes_on_at m inode passed place

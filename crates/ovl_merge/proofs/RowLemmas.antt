@@ -9,9 +9,9 @@ use Rattle.std.proofs.lemmas.List.{length-map, map-append, take_more}
 use Rattle.ovl_names.specs.Names.{PathName, name_eq}
 use Rattle.ovl_names.specs.Paths.{PathNames, child_path}
 use Rattle.ovl_names.proofs.Ascending.{both}
-use Rattle.ovl_manifest.specs.Layers.{Entries, has_parent, is_directory_at, name_below, names_below}
-use Rattle.ovl_manifest.specs.Sheets.{last_name, path_at}
-use Rattle.ovl_manifest.proofs.SheetLemmas.{last_name-child}
+use Rattle.ovl_layer.specs.Layers.{Entries, has_parent, is_directory_at, name_below, names_below}
+use Rattle.ovl_layer.specs.Sheets.{last_name, path_at}
+use Rattle.ovl_layer.proofs.SheetLemmas.{last_name-child}
 use Rattle.ovl_lookup.proofs.LawsOfPaths.{length-child, parent_path-child}
 use Rattle.ovl_lookup.proofs.LawsOfWalks.{nothing-below}
 use Rattle.ovl_merge.specs.declared.candidates.Candidate.{Candidate}

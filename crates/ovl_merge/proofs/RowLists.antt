@@ -12,7 +12,7 @@ use Rattle.std.specs.declared.cmp.Ordering.TheVariants.{Less, Equal, Greater}
 use Rattle.ovl_names.specs.Names.{PathName, name_eq, name_cmp}
 use Rattle.ovl_names.specs.Order.{ascends}
 use Rattle.ovl_names.proofs.Ascending.{both, is_lt-Less, list_all-before, reversed}
-use Rattle.ovl_manifest.proofs.NodeLemmas.{name_eq-cmp}
+use Rattle.ovl_layer.proofs.NodeLemmas.{name_eq-cmp}
 use Rattle.ovl_lookup.specs.Passes.{put_names}
 use Rattle.ovl_lookup.proofs.LawsOfPaths.{drop_past}
 use Rattle.ovl_merge.specs.declared.candidates.Candidate.{Candidate}

@@ -2,7 +2,7 @@
 use Rattle.std.specs.Prelude.{◌≡◌, suc, ◌∷◌, ◌++◌, [], codes, Some, None, refl}
 use Rattle.ovl_inode.specs.declared.inodes.Inode.{Inode}
 use Rattle.ovl_inode.proofs.OnLiterals.{inode_on_literals}
-use Rattle.ovl_manifest.specs.Layers.{Entries}
+use Rattle.ovl_layer.specs.Layers.{Entries}
 use Rattle.ovl_lookup.proofs.Notation.{directory, opaque, moved, file_a, metacopy, metacopy_moved, path, layer_of, whiteout}
 use Rattle.ovl_lookup.proofs.RowStacks.{stack_of, moved_in_opaque, top_of_moved_in_opaque, metacopies_over, told_below, told_past_whiteout}
 use Rattle.ovl_merge.specs.Places.{Merge, merge_of, natural, reach}

@@ -4,7 +4,7 @@ use Rattle.std.specs.Prelude.{◌&&◌, ◌||◌, not, is_some, is_none}
 use Rattle.ovl_names.specs.Paths.{PathNames, is_root}
 use Rattle.ovl_inode.specs.declared.inodes.Inode.{Inode}
 use Rattle.ovl_inode.specs.Marks.{is_directory, is_metacopy}
-use Rattle.ovl_manifest.specs.Layers.{Entries, IsLayer, entry_at}
+use Rattle.ovl_layer.specs.Layers.{Entries, IsLayer, entry_at}
 use Rattle.ovl_lookup.specs.declared.steps.Step.{Step}
 use Rattle.ovl_lookup.specs.Stacks.{StackView}
 use Rattle.ovl_lookup.specs.Walk.{walk}

@@ -8,10 +8,10 @@ use Rattle.ovl_names.specs.Paths.{PathNames, child_path}
 use Rattle.ovl_inode.specs.declared.inodes.Inode.{Inode}
 use Rattle.ovl_inode.specs.declared.marks.Mark.{Mark}
 use Rattle.ovl_inode.specs.Marks.{mark_of, is_directory}
-use Rattle.ovl_manifest.specs.Layers.{Entries, IsLayer, entry_at, is_directory_at, names_below}
-use Rattle.ovl_manifest.specs.LayerTrees.{entries_under}
-use Rattle.ovl_manifest.specs.Sheets.{path_at}
-use Rattle.ovl_manifest.proofs.NodeLemmas.{entry_at-under}
+use Rattle.ovl_layer.specs.Layers.{Entries, IsLayer, entry_at, is_directory_at, names_below}
+use Rattle.ovl_layer.specs.LayerTrees.{entries_under}
+use Rattle.ovl_layer.specs.Sheets.{path_at}
+use Rattle.ovl_layer.proofs.NodeLemmas.{entry_at-under}
 use Rattle.ovl_lookup.specs.declared.steps.Found.{Found}
 use Rattle.ovl_lookup.specs.declared.steps.Step.{Step}
 use Rattle.ovl_lookup.specs.declared.onward.Onward.{Onward}

@@ -10,7 +10,7 @@ use Rattle.ovl_inode.specs.declared.marks.Mark.{Mark}
 use Rattle.ovl_inode.specs.Attributes.{Attributes, attribute, redirect_name, metacopy_name}
 use Rattle.ovl_inode.specs.Marks.{mark_of, is_directory, is_regular, is_metacopy, is_metacopy_mark, has_metacopy, is_data}
 use Rattle.ovl_inode.specs.Inodes.{visible}
-use Rattle.ovl_manifest.specs.Layers.{Entries, IsLayer, entry_at}
+use Rattle.ovl_layer.specs.Layers.{Entries, IsLayer, entry_at}
 use Rattle.ovl_lookup.specs.declared.looks.Look.TheVariants.{Shown, Broken}
 use Rattle.ovl_lookup.specs.declared.steps.Step.{Step}
 use Rattle.ovl_lookup.specs.Walk.{walk}
@@ -25,7 +25,7 @@ use Rattle.ovl_lookup.proofs.LawsOfPaths.{all-first, all-rest}
 use Rattle.ovl_lookup.specs.Words.{over}
 use Rattle.ovl_merge.specs.Places.{Merge, whole, lower_path, rest_path, is_open, first_hit, is_nothing_or, is_shown_regular, goes_on, reach, reach_of, last_name}
 use Rattle.ovl_merge.specs.MergeDown.{with_value, redirected, with_contents, merged_metacopy, unreached_metacopy, kept_place, merged_inode, merged_entry_of, IsMergedDown}
-use Rattle.ovl_merge.specs.Laws.{after_merge, MergeKeepsTree}
+use Rattle.ovl_merge.specs.Laws.{after_merge, MergeKeepsTree, MergedLayerKeepsTree}
 use Rattle.ovl_merge.proofs.Values.{visible-value, visible-visible, with_metacopy}
 use Rattle.ovl_merge.proofs.Firsts.{found-whole, passes-found, whole-first, rest_of, hit-from}
 use Rattle.ovl_merge.proofs.Inodes.{merged-is_directory, merged-visible, merged-metacopy, merged-other, redirected-cases}
@@ -286,6 +286,9 @@ module _ (m : Merge) (new : Entries) (each : All IsLayer (whole m).layers) (soun
           at : (b : Bool) → is_directory inode ≡ b → shown_of m.rest.data_only (things_found (new ∷ m.rest.layers) path) ≡ shown_of m.rest.data_only (things_found (whole m).layers path)
           at true k = at_directory path inode e k
           at false k = at_file path inode e k
+
+pub MergedLayerKeepsTree-holds : MergedLayerKeepsTree
+MergedLayerKeepsTree-holds m new each sound layered is path = path-same m new each sound layered is path
 
 -- the new upper layer has its root, and lets everything under it pass
 abbrev top_of : Inode → Entries

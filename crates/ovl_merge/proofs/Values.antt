@@ -14,7 +14,7 @@ use Rattle.ovl_inode.specs.Attributes.{Attributes, attribute, with_attribute, vi
 use Rattle.ovl_inode.specs.Marks.{mark_of, is_directory, is_regular, is_whiteout, has_metacopy, has_opaque, redirect_reading, directory_mark, metacopy_mark}
 use Rattle.ovl_inode.specs.Redirects.{read_redirect}
 use Rattle.ovl_inode.specs.Inodes.{visible}
-use Rattle.ovl_manifest.proofs.NodeLemmas.{name_eq-cmp}
+use Rattle.ovl_layer.proofs.NodeLemmas.{name_eq-cmp}
 use Rattle.ovl_lookup.proofs.LawsOfInodes.{attribute-with, visible-with, attribute-hidden, visible-twice}
 use Rattle.ovl_merge.specs.MergeDown.{with_value}
 

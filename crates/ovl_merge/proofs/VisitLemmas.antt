@@ -10,7 +10,7 @@ use Rattle.ovl_names.specs.Paths.{PathNames, child_path, parent_path, path_eq, p
 use Rattle.ovl_inode.specs.declared.inodes.Inode.{Inode}
 use Rattle.ovl_inode.specs.Attributes.{redirect_name, metacopy_name}
 use Rattle.ovl_inode.specs.Inodes.{visible}
-use Rattle.ovl_manifest.specs.Layers.{Entries, IsLayer, names_below}
+use Rattle.ovl_layer.specs.Layers.{Entries, IsLayer, names_below}
 use Rattle.ovl_lookup.specs.declared.looks.Look.{Look}
 use Rattle.ovl_lookup.specs.declared.views.DirView.{DirView}
 use Rattle.ovl_lookup.specs.DirViews.{IsViewOf}

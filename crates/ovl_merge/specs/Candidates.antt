@@ -5,7 +5,7 @@ use Rattle.std.specs.Map.{lookup}
 use Rattle.std.specs.Option.{option_and_then, option_or}
 use Rattle.ovl_names.specs.Names.{PathName, name_eq}
 use Rattle.ovl_names.specs.Paths.{PathNames, child_path}
-use Rattle.ovl_manifest.specs.Layers.{Entries, names_below}
+use Rattle.ovl_layer.specs.Layers.{Entries, names_below}
 use Rattle.ovl_lookup.specs.Passes.{put_names}
 use Rattle.ovl_merge.specs.declared.candidates.Candidate.{Candidate}
 use Rattle.ovl_merge.specs.declared.candidates.Side.{Side}

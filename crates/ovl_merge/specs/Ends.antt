@@ -3,7 +3,7 @@ use Rattle.std.specs.Prelude.{◌≡◌, ◌<◌, Some, [], length}
 use Rattle.std.specs.List.{All}
 use Rattle.std.specs.Option.{option_map}
 use Rattle.ovl_inode.specs.Inodes.{visible}
-use Rattle.ovl_manifest.specs.Layers.{IsLayer, entry_at}
+use Rattle.ovl_layer.specs.Layers.{IsLayer, entry_at}
 use Rattle.ovl_lookup.specs.Stacks.{StackView}
 use Rattle.ovl_merge.specs.declared.finish.MergeEnd.{MergeEnd}
 use Rattle.ovl_merge.specs.Places.{merge_of}

@@ -3,7 +3,7 @@ use Rattle.std.specs.Prelude.{◌≡◌, true, false, Some, None, [], ◌∷◌,
 use Rattle.std.specs.List.{All, list_all}
 use Rattle.ovl_names.specs.Order.{ascends}
 use Rattle.ovl_names.specs.Paths.{PathNames}
-use Rattle.ovl_manifest.specs.Layers.{Entries, IsLayer, entry_cmp, is_within_limits, entry_limit}
+use Rattle.ovl_layer.specs.Layers.{Entries, IsLayer, entry_cmp, is_within_limits, entry_limit}
 use Rattle.ovl_lookup.specs.Stacks.{StackView}
 use Rattle.ovl_lookup.specs.Sound.{IsSoundStack}
 use Rattle.ovl_lookup.specs.Merged.{look}
@@ -18,6 +18,11 @@ after_merge m lower = over (merged_top m) (over lower m.rest)
 abbrev pub MergeKeepsTree : Type 0
 MergeKeepsTree = (m : Merge) (lower : Entries) → All IsLayer (whole m).layers → IsSoundStack (whole m) →
     IsLayer lower → IsMergedDown m lower → (path : PathNames) → look (after_merge m lower) path ≡ look (whole m) path
+
+-- the new lower layer keeps the tree without the new upper one above it, too
+abbrev pub MergedLayerKeepsTree : Type 0
+MergedLayerKeepsTree = (m : Merge) (lower : Entries) → All IsLayer (whole m).layers → IsSoundStack (whole m) →
+    IsLayer lower → IsMergedDown m lower → (path : PathNames) → look (over lower m.rest) path ≡ look (whole m) path
 
 -- a shown directory or metacopy file with a reach goes on there in the new lower layer; for a shown directory without
 -- a reach, the rest shows no directory along the new walk; for every other path, what the rest shows along the new

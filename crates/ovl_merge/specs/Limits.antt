@@ -1,7 +1,7 @@
 -- When the new lower layer of a merge passes the limits of a manifest.
 use Rattle.std.specs.Prelude.{◌≡◌, true, false}
 use Rattle.ovl_names.specs.Order.{ascends}
-use Rattle.ovl_manifest.specs.Layers.{Entries, entry_cmp}
+use Rattle.ovl_layer.specs.Layers.{Entries, entry_cmp}
 use Rattle.ovl_rewrite.specs.Limits.{keeps_limits}
 use Rattle.ovl_rewrite.specs.declared.faults.RewriteFault.{RewriteFault}
 use Rattle.ovl_rewrite.specs.declared.faults.RewriteFault.TheVariants.{LimitOut as LimitPassed, Memory as NoMemory}

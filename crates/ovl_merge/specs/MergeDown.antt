@@ -9,7 +9,7 @@ use Rattle.ovl_inode.specs.declared.inodes.Kind.TheVariants.{Char}
 use Rattle.ovl_inode.specs.Attributes.{with_attribute, opaque_name, redirect_name, metacopy_name}
 use Rattle.ovl_inode.specs.Marks.{is_directory, is_metacopy}
 use Rattle.ovl_inode.specs.Inodes.{visible}
-use Rattle.ovl_manifest.specs.Layers.{Entries, entry_at}
+use Rattle.ovl_layer.specs.Layers.{Entries, entry_at}
 use Rattle.ovl_lookup.specs.declared.looks.Look.{Look}
 use Rattle.ovl_lookup.specs.declared.looks.Look.TheVariants.{Nothing, Shown, Broken}
 use Rattle.ovl_lookup.specs.Trace.{things_found}

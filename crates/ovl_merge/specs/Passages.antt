@@ -4,7 +4,7 @@ use Rattle.std.specs.Option.{option_map, option_and_then, option_or}
 use Rattle.ovl_names.specs.Paths.{PathNames}
 use Rattle.ovl_inode.specs.declared.inodes.Inode.{Inode}
 use Rattle.ovl_inode.specs.Marks.{mark_of}
-use Rattle.ovl_manifest.specs.Layers.{Entries}
+use Rattle.ovl_layer.specs.Layers.{Entries}
 use Rattle.ovl_lookup.specs.declared.steps.Found.{Found}
 use Rattle.ovl_lookup.specs.Walk.{walk}
 use Rattle.ovl_merge.specs.declared.passages.Passage.{Passage}

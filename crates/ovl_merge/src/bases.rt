@@ -1,4 +1,5 @@
 ghost use Rattle.std.specs.Prelude.{◌≡◌, ◌<◌, true, length, IfOk};
+ghost use Rattle.ovl_lookup.specs.Sights.{sight_of};
 ghost use Rattle.ovl_lookup.specs.Words.{look_on};
 ghost use Rattle.ovl_merge.specs.Places.{merge_of, shows_own_directory, shows_at as shows_test, reach, base as the_base, child_of};
 ghost use Rattle.ovl_merge.specs.Directories.{base_names};
@@ -6,27 +7,27 @@ ghost use Rattle.ovl_merge.specs.Reckoned.{IsBase, onward_at, reach_from};
 
 use crate::directories::onward_of;
 use crate::stands::Stand;
-use ovl_lookup::{DirView, Look, Stack};
+use ovl_lookup::{DirView, Sight, Stack};
 use ovl_names::{Name, Path};
 use std::alloc::{AllocError, Global};
 
 // Where the names in a directory lie in the rest, which is what lies below the two layers.
 #[derive(Drop)]
-pub(crate) enum Base {
+pub(crate) enum Base<'a> {
     // In the directory of the rest in which it goes on.
-    Reached(DirView),
+    Reached(DirView<'a>),
     // Where the rest shows no directory.
     Apart,
 }
 
-impl Base {
+impl<'a> Base<'a> {
     // That of a directory that the two layers show, by where its walk in the lower one stands.
     pub(crate) fn of(
         alloc: Global,
-        stack: &Stack,
+        stack: &'a Stack,
         _dir: &Path,
-        lower: &Option<Stand>,
-    ) -> Result<Base, AllocError>
+        lower: &Option<Stand<'a>>,
+    ) -> Result<Base<'a>, AllocError>
         requires several { 1 < length stack.now.layers }
         requires shown { shows_own_directory (merge_of stack.now) _dir.now ≡ true }
         requires reach { reach (merge_of stack.now) _dir.now ≡ reach_from (merge_of stack.now).rest (onward_at lower.now) }
@@ -37,29 +38,23 @@ impl Base {
         let Some(next) = onward_of(lower) else {
             return Ok(Base::Apart);
         };
-        match DirView::of(alloc, stack, 2, next)? {
+        match DirView::at(alloc, stack, 2, next.copy(alloc)?)? {
             Some(view) => Ok(Base::Reached(view)),
             None => Ok(Base::Apart),
         }
     }
 
-    // What the rest shows at a name in it.
-    pub(crate) fn look(
-        &self,
-        alloc: Global,
-        stack: &Stack,
-        _dir: &Path,
-        name: &Name,
-    ) -> Result<Look, AllocError>
+    // Of what kind it is that the rest shows at a name in it.
+    pub(crate) fn sight(&self, stack: &Stack, _dir: &Path, name: &Name) -> Sight
         requires several { 1 < length stack.now.layers }
         requires base { IsBase stack.now _dir.now self.now }
-        ensures { IfOk result (λ look. look ≡ look_on (merge_of stack.now).rest (child_of (the_base (merge_of stack.now) _dir.now) name.now)) }
+        ensures { result ≡ sight_of (look_on (merge_of stack.now).rest (child_of (the_base (merge_of stack.now) _dir.now) name.now)) }
     {
         // Each layer of a stack is one.
         let _layers = stack.ordinary();
         match self {
-            Base::Reached(view) => view.look(alloc, stack, name),
-            Base::Apart => Ok(Look::Nothing),
+            Base::Reached(view) => view.sight(stack, name),
+            Base::Apart => Sight::Nothing,
         }
     }
 

@@ -2,7 +2,7 @@ ghost use Rattle.std.specs.Prelude.{◌≡◌, ◌<◌, [], Option, true, length
 ghost use Rattle.ovl_names.specs.Names.{name_cmp};
 ghost use Rattle.ovl_names.specs.Paths.{PathNames};
 ghost use Rattle.ovl_names.specs.Order.{ascends};
-ghost use Rattle.ovl_manifest.specs.Sheets.{path_at};
+ghost use Rattle.ovl_layer.specs.Sheets.{path_at};
 ghost use Rattle.ovl_lookup.specs.Passes.{own_names_along, put_names};
 ghost use Rattle.ovl_merge.specs.Places.{merge_of, two_layers};
 ghost use Rattle.ovl_merge.specs.Stands.{StandsAt};
@@ -10,8 +10,8 @@ ghost use Rattle.ovl_merge.specs.Reckoned.{IsVisited};
 ghost use Rattle.ovl_merge.specs.Candidates.{AreCandidates, AreMerged, AreRowsOf, HaveEntries, candidate_told, candidates_told, hidden_names as the_hidden, joined as joined_rows, names_of, unrowed, rows_on};
 
 use crate::directories::Directory;
+use ovl_layer::Sheet;
 use ovl_lookup::Stack;
-use ovl_manifest::Sheet;
 use ovl_names::Name;
 use std::alloc::{AllocError, Global};
 use std::cmp::Ordering;
@@ -66,7 +66,7 @@ impl<'a> Candidate<'a> {
 pub(crate) fn hidden_names(
     alloc: Global,
     stack: &Stack,
-    directory: &Directory,
+    directory: &Directory<'_>,
 ) -> Result<Vec<Name>, AllocError>
     requires several { 1 < length stack.now.layers }
     requires visited { IsVisited stack.now directory.now.path directory.now }
@@ -83,7 +83,7 @@ pub(crate) fn hidden_names(
 pub(crate) fn candidates_in<'a>(
     alloc: Global,
     stack: &'a Stack,
-    directory: &Directory,
+    directory: &Directory<'_>,
     hidden: &'a [Name],
 ) -> Result<Vec<Candidate<'a>>, AllocError>
     requires several { 1 < length stack.now.layers }
@@ -102,7 +102,7 @@ pub(crate) fn candidates_in<'a>(
 fn own_candidates<'a>(
     alloc: Global,
     stack: &'a Stack,
-    directory: &Directory,
+    directory: &Directory<'_>,
 ) -> Result<Vec<Candidate<'a>>, AllocError>
     requires several { 1 < length stack.now.layers }
     requires visited { IsVisited stack.now directory.now.path directory.now }

@@ -11,29 +11,29 @@ use std::alloc::{AllocError, Global};
 
 // A directory that the two topmost layers show, and what is kept of it for the names in it.
 #[derive(Drop)]
-pub(crate) struct Directory {
+pub(crate) struct Directory<'a> {
     pub(crate) path: Path,
     // The number of its row in the upper layer, if that has it, and where its walk in the lower one stands, if it goes on
     // there.
     pub(crate) upper: Option<u32>,
-    pub(crate) lower: Option<Stand>,
-    pub(crate) base: Base,
+    pub(crate) lower: Option<Stand<'a>>,
+    pub(crate) base: Base<'a>,
 }
 
 // The same two of any path.
 #[derive(Drop)]
-pub(crate) struct Stands {
+pub(crate) struct Stands<'a> {
     upper: Option<u32>,
-    lower: Option<Stand>,
+    lower: Option<Stand<'a>>,
 }
 
-impl Directory {
+impl<'a> Directory<'a> {
     // The directory at a path, and `None` where they show none there.
     pub(crate) fn at(
         alloc: Global,
-        stack: &Stack,
-        dir: &Path,
-    ) -> Result<Option<Directory>, AllocError>
+        stack: &'a Stack,
+        dir: &'a Path,
+    ) -> Result<Option<Directory<'a>>, AllocError>
         requires { 1 < length stack.now.layers }
         ensures { IfOk result (λ found. MatchOption found
             (shows_own_directory (merge_of stack.now) dir.now ≡ false)
@@ -63,9 +63,9 @@ impl Directory {
     }
 }
 
-impl Stands {
+impl<'a> Stands<'a> {
     // Those of a path.
-    fn at(alloc: Global, stack: &Stack, path: &Path) -> Result<Stands, AllocError>
+    fn at(alloc: Global, stack: &'a Stack, path: &'a Path) -> Result<Stands<'a>, AllocError>
         requires { 1 < length stack.now.layers }
         ensures { IfOk result (AreStands (merge_of stack.now) path.now) }
     {
@@ -88,7 +88,7 @@ impl Stands {
 }
 
 // The path by which the rest knows a directory whose walk in the lower layer stands so, unless it is hidden there.
-pub(crate) fn onward_of(lower: &Option<Stand>) -> Option<&Path>
+pub(crate) fn onward_of<'l, 'a>(lower: &'l Option<Stand<'a>>) -> Option<&'l Trail<'a>>
     ensures { option_map (λ path. path.now) result ≡ onward_at lower.now }
 {
     match lower {
@@ -98,7 +98,7 @@ pub(crate) fn onward_of(lower: &Option<Stand>) -> Option<&Path>
 }
 
 // Whether the two layers show a directory where the walks of its path stand.
-fn is_shown(upper: Option<u32>, lower: &Option<Stand>) -> bool
+fn is_shown(upper: Option<u32>, lower: &Option<Stand<'_>>) -> bool
     ensures { result ≡ (is_some upper || is_inside_at lower.now) }
 {
     if upper.is_some() {

@@ -15,16 +15,16 @@ use crate::candidates::Candidate;
 use crate::directories::Directory;
 use crate::passages::{Passage, Place};
 use ovl_inode::{Attrs, Inode, Kind, is_directory, overlay, visible};
-use ovl_lookup::{DirView, Found, Look, Stack, is_well_formed_metacopy};
+use ovl_lookup::{DirView, Found, Look, Stack, Trail, is_well_formed_metacopy};
 use ovl_names::{Name, Path};
 use std::alloc::{AllocError, Global};
 
 // What the new lower layer has at a name in a directory.
-pub(crate) fn inode_in(
+pub(crate) fn inode_in<'d>(
     alloc: Global,
-    stack: &Stack,
-    whole: &mut Option<DirView>,
-    above: &Directory,
+    stack: &'d Stack,
+    whole: &mut Option<DirView<'d>>,
+    above: &'d Directory<'_>,
     candidate: &Candidate<'_>,
 ) -> Result<Option<Inode>, AllocError>
     requires several { 1 < length stack.now.layers }
@@ -49,7 +49,7 @@ pub(crate) fn inode_in(
 fn unfound(
     alloc: Global,
     stack: &Stack,
-    above: &Directory,
+    above: &Directory<'_>,
     name: &Name,
     passage: &Passage<'_>,
 ) -> Option<Inode>
@@ -84,11 +84,11 @@ fn new_whiteout(alloc: Global) -> Inode
 }
 
 // The new inode of what the two layers show first at a name in the directory.
-fn merged_inode(
+fn merged_inode<'d>(
     alloc: Global,
-    stack: &Stack,
-    whole: &mut Option<DirView>,
-    above: &Directory,
+    stack: &'d Stack,
+    whole: &mut Option<DirView<'d>>,
+    above: &'d Directory<'_>,
     name: &Name,
     passage: &Passage<'_>,
     found: &Found<'_>,
@@ -126,7 +126,7 @@ fn shown_inode(alloc: Global, inode: &Inode) -> Result<Inode, AllocError>
 fn merged_directory(
     alloc: Global,
     stack: &Stack,
-    above: &Directory,
+    above: &Directory<'_>,
     name: &Name,
     passage: &Passage<'_>,
     found: &Found<'_>,
@@ -144,8 +144,8 @@ fn merged_directory(
     if let Some(place) = passage.reach(alloc, stack, above, name, found)? {
         return redirected(alloc, stack, above, name, shown, place);
     }
-    let hidden = above.base.look(alloc, stack, &above.path, name)?;
-    if hidden.is_shown_directory() {
+    let hidden = above.base.sight(stack, &above.path, name);
+    if hidden.is_directory() {
         return with_value(shown, overlay::OPAQUE, b"y");
     }
     Ok(shown)
@@ -153,11 +153,11 @@ fn merged_directory(
 
 // The new inode of a metacopy file: it stays one where it goes on at its reach, and has its contents else.
 // overlayfs.rst: "Metadata only copy up".
-fn merged_metacopy(
+fn merged_metacopy<'d>(
     alloc: Global,
-    stack: &Stack,
-    whole: &mut Option<DirView>,
-    above: &Directory,
+    stack: &'d Stack,
+    whole: &mut Option<DirView<'d>>,
+    above: &'d Directory<'_>,
     name: &Name,
     passage: &Passage<'_>,
     found: &Found<'_>,
@@ -211,7 +211,8 @@ fn has_data_alone(alloc: Global, stack: &Stack, place: &Path) -> Result<bool, Al
     if stack.full_file(place).is_none() {
         return Ok(false);
     }
-    Ok(stack.look(alloc, 2, place)?.is_nothing())
+    let trail = Trail::of(alloc, &place.names())?;
+    Ok(stack.sight(alloc, 2, trail)?.is_nothing())
 }
 
 // An entry `name` of a directory that goes on at a place: with no redirect where the reach of the directory has it by
@@ -219,7 +220,7 @@ fn has_data_alone(alloc: Global, stack: &Stack, place: &Path) -> Result<bool, Al
 fn redirected(
     alloc: Global,
     stack: &Stack,
-    above: &Directory,
+    above: &Directory<'_>,
     name: &Name,
     inode: Inode,
     place: &Place<'_>,
@@ -234,30 +235,45 @@ fn redirected(
     let _layers = stack.ordinary();
     match place {
         Place::Beside(own) => renamed(inode, name, own.as_str()),
-        Place::At(path) => match name_in(&above.base, path) {
-            Some(own) => renamed(inode, name, own),
-            None => {
-                let text = path_text(alloc, path)?;
-                with_value(inode, overlay::REDIRECT, text.as_bytes())
-            }
-        },
+        Place::At(trail) => redirected_at(alloc, &above.base, name, inode, &trail.path(alloc)?),
     }
 }
 
+// The same at a path of the rest.
+fn redirected_at(
+    alloc: Global,
+    base: &Base<'_>,
+    name: &Name,
+    inode: Inode,
+    path: &Path,
+) -> Result<Inode, AllocError>
+    ensures { IfOk result (λ new. new ≡ redirected_from (reached_in base.now) name.now inode path.now) }
+{
+    if let Some(own) = name_in(alloc, base, path)? {
+        return renamed(inode, name, own);
+    }
+    let text = path_text(alloc, path)?;
+    with_value(inode, overlay::REDIRECT, text.as_bytes())
+}
+
 // The name by which a path lies directly in the directory of the rest in which one goes on, if it does.
-fn name_in<'a>(base: &Base, path: &'a Path) -> Option<&'a str>
-    ensures { option_map (λ name. name.now) result ≡ name_directly_in (reached_in base.now) path.now }
+fn name_in<'p>(
+    alloc: Global,
+    base: &Base<'_>,
+    path: &'p Path,
+) -> Result<Option<&'p str>, AllocError>
+    ensures { IfOk result (λ name. option_map (λ name. name.now) name ≡ name_directly_in (reached_in base.now) path.now) }
 {
     let Base::Reached(view) = base else {
-        return None;
+        return Ok(None);
     };
-    match path.names().split_last() {
-        Some((last, above)) => if above == view.path().names() {
-            Some(last)
-        } else {
-            None
-        },
-        None => None,
+    let Some((last, above)) = path.names().split_last() else {
+        return Ok(None);
+    };
+    if Trail::of(alloc, &above)? == *view.path() {
+        Ok(Some(last))
+    } else {
+        Ok(None)
     }
 }
 

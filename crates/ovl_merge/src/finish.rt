@@ -13,7 +13,7 @@ ghost use Rattle.ovl_merge.specs.Ends.{IsMergeEnd};
 use crate::{MergeFault, MergeWork};
 use ovl_board::Parcel;
 use ovl_inode::{Inode, visible};
-use ovl_manifest::Layer;
+use ovl_layer::Layer;
 use ovl_names::{Name, Path};
 use ovl_rewrite::{layer_of, layer_told};
 use std::alloc::{AllocError, Global};

@@ -1,5 +1,5 @@
 //! Laws of a merge; the contract of each is its statement.
-ghost use Rattle.ovl_merge.specs.Laws.{MergeGivesLayer, MergeKeepsTree, MergeHasCore};
+ghost use Rattle.ovl_merge.specs.Laws.{MergeGivesLayer, MergeKeepsTree, MergedLayerKeepsTree, MergeHasCore};
 
 /// What a merge makes of a sound stack's two topmost layers is a layer, but for the limits.
 pub fn merge_gives_a_layer()
@@ -9,6 +9,11 @@ pub fn merge_gives_a_layer()
 /// Over a sound stack a merge keeps the merged tree.
 pub fn merge_keeps_the_tree()
     ensures { MergeKeepsTree }
+{}
+
+/// Over a sound stack the new lower layer keeps it by itself: the new topmost one, a root alone, may be left out.
+pub fn merged_layer_keeps_the_tree()
+    ensures { MergedLayerKeepsTree }
 {}
 
 /// Where the walks of the new lower layer go on.

@@ -2,8 +2,9 @@ ghost use Rattle.std.specs.Prelude.{◌≡◌, ◌≢◌, ◌<◌, Option, None,
 ghost use Rattle.std.specs.Option.{option_map, option_and_then};
 ghost use Rattle.ovl_names.specs.Paths.{PathNames, child_path};
 ghost use Rattle.ovl_inode.specs.Marks.{mark_of as the_mark, is_directory as directory_test, is_metacopy as metacopy_test};
-ghost use Rattle.ovl_manifest.specs.Layers.{entry_at};
+ghost use Rattle.ovl_lookup.specs.declared.looks.Look.{Look};
 ghost use Rattle.ovl_lookup.specs.Merged.{look as the_look};
+ghost use Rattle.ovl_lookup.specs.Sights.{sight_of};
 ghost use Rattle.ovl_merge.specs.Places.{merge_of, is_nothing_or, is_shown_regular as regular_look, reach as the_reach, goes_on_at};
 ghost use Rattle.ovl_merge.specs.Reckoned.{IsVisited, onward_at, upper_onward};
 ghost use Rattle.ovl_merge.specs.Stands.{IsOver, IsStand, IsPassing, IsRowAt, name_on, onward_on, onward_to};
@@ -13,9 +14,9 @@ ghost use Rattle.ovl_merge.specs.Passages.{IsPassage, IsPassed, IsMarked, IsPlac
 use crate::candidates::Candidate;
 use crate::directories::Directory;
 use crate::stands::{Passing, Stand, passing_at, passing_in};
-use ovl_inode::{Inode, Kind, is_directory};
-use ovl_lookup::{Found, Look, Onward, Stack, Step, is_well_formed_metacopy, walk};
-use ovl_manifest::Sheet;
+use ovl_inode::is_directory;
+use ovl_layer::Sheet;
+use ovl_lookup::{Found, Onward, Sight, Stack, Trail, TrailStep, follow, is_well_formed_metacopy};
 use ovl_names::{Name, Path};
 use std::alloc::{AllocError, Global};
 
@@ -42,7 +43,7 @@ pub(crate) enum Place<'a> {
     // By this name in the directory as which the rest knows the one above.
     Beside(&'a Name),
     // By its path from the root.
-    At(Path),
+    At(Trail<'a>),
 }
 
 impl<'a> Passage<'a> {
@@ -50,7 +51,7 @@ impl<'a> Passage<'a> {
     pub(crate) fn of(
         alloc: Global,
         stack: &'a Stack,
-        above: &Directory,
+        above: &Directory<'_>,
         candidate: &Candidate<'a>,
     ) -> Result<Passage<'a>, AllocError>
         requires several { 1 < length stack.now.layers }
@@ -84,7 +85,7 @@ impl<'a> Passage<'a> {
         &self,
         alloc: Global,
         stack: &Stack,
-        above: &Directory,
+        above: &Directory<'_>,
         _name: &Name,
         found: &Found<'_>,
     ) -> Result<Option<&Place<'a>>, AllocError>
@@ -112,7 +113,7 @@ impl<'a> Passed<'a> {
     fn of(
         alloc: Global,
         stack: &'a Stack,
-        above: &Directory,
+        above: &Directory<'_>,
         candidate: &Candidate<'a>,
         onward: Onward<'a>,
     ) -> Result<Passed<'a>, AllocError>
@@ -132,7 +133,7 @@ impl<'a> Passed<'a> {
     fn beside(
         alloc: Global,
         stack: &'a Stack,
-        above: &Directory,
+        above: &Directory<'_>,
         candidate: &Candidate<'a>,
         name: &'a Name,
     ) -> Result<Passed<'a>, AllocError>
@@ -150,17 +151,15 @@ impl<'a> Passed<'a> {
     }
 
     // That of a path from the root.
-    fn at(alloc: Global, sheet: &'a Sheet, path: &Path) -> Result<Passed<'a>, AllocError>
+    fn at(alloc: Global, sheet: &'a Sheet, path: &'a Path) -> Result<Passed<'a>, AllocError>
         ensures { (above : Option PathNames) → IfOk result (IsPassed sheet.now (Some path.now) above) }
     {
-        // Each sheet is a layer.
-        let _root = sheet.root_number();
-        let Step {
+        let trail = Trail::of(alloc, &path.names())?;
+        let TrailStep {
             found,
             next,
             closed,
-        } = walk(alloc, sheet, path)?;
-        let found = found_at(sheet, path, &found);
+        } = follow(alloc, sheet, trail)?;
         let rest = rest_at(next, closed);
         Ok(Passed { found, rest })
     }
@@ -179,7 +178,7 @@ impl<'a> Passed<'a> {
 
 // How the walk of a name in the directory in the lower layer ends: the row of the candidate's own name is known.
 fn passing_by<'a>(
-    lower: &Stand,
+    lower: &Stand<'_>,
     sheet: &'a Sheet,
     candidate: &Candidate<'a>,
     name: &'a Name,
@@ -196,27 +195,9 @@ fn passing_by<'a>(
     }
 }
 
-// What the layer has at a path where a walk has found this.
-fn found_at<'a>(sheet: &'a Sheet, path: &Path, found: &Option<Inode>) -> Option<Found<'a>>
-    requires { IfSome found.now (λ inode. entry_at sheet.now path.now ≡ Some inode) }
-    ensures found { option_map (λ found. found.inode.now) result ≡ found.now }
-    ensures marked { IfSome result (λ found. found.mark.now ≡ the_mark found.inode.now) }
-{
-    let Some(_found) = found else {
-        return None;
-    };
-    let Some(place) = sheet.place(path) else {
-        return None;
-    };
-    Some(Found {
-        inode: place.inode(),
-        mark: place.mark(),
-    })
-}
-
 // The place at which a walk goes on from the root, unless it is closed.
-fn rest_at<'a>(next: Path, closed: bool) -> Option<Place<'a>>
-    ensures rest { (above : Option PathNames) → rest_from above result ≡ onward_on next closed }
+fn rest_at<'a>(next: Trail<'a>, closed: bool) -> Option<Place<'a>>
+    ensures rest { (above : Option PathNames) → rest_from above result ≡ onward_on next.entry closed }
     ensures placed { (above : Option PathNames) → IsPlaced above result }
 {
     if closed {
@@ -228,7 +209,7 @@ fn rest_at<'a>(next: Path, closed: bool) -> Option<Place<'a>>
 // The place at which the walk of a name goes on, where that of its directory stands so, if it does.
 fn place_of<'a>(
     alloc: Global,
-    stand: &Stand,
+    stand: &Stand<'_>,
     onward: Onward<'a>,
 ) -> Result<Option<Place<'a>>, AllocError>
     ensures rest { IfOk result (λ place. rest_from stand.now.next place ≡ onward_to stand.now.next onward.entry) }
@@ -239,24 +220,29 @@ fn place_of<'a>(
             Some(_path) => Ok(Some(Place::Beside(name))),
             None => Ok(None),
         },
-        Onward::At(path) => Ok(Some(Place::At(path.copy(alloc)?))),
+        Onward::At(path) => Ok(Some(Place::At(Trail::of(alloc, &path.names())?))),
         Onward::Nowhere => Ok(None),
     }
 }
 
 impl<'a> Place<'a> {
-    // What the rest shows there.
-    fn look(&self, alloc: Global, stack: &Stack, above: &Directory) -> Result<Look, AllocError>
+    // Of what kind it is that the rest shows there.
+    fn sight(
+        &self,
+        alloc: Global,
+        stack: &Stack,
+        above: &Directory<'_>,
+    ) -> Result<Sight, AllocError>
         requires several { 1 < length stack.now.layers }
         requires above { IsVisited stack.now above.now.path above.now }
-        ensures { IfOk result (λ look. (path : PathNames) → place_from (onward_at above.now.lower) self.now ≡ Some path
-            → look ≡ the_look (merge_of stack.now).rest path) }
+        ensures { IfOk result (λ sight. (path : PathNames) → place_from (onward_at above.now.lower) self.now ≡ Some path
+            → sight ≡ sight_of (the_look (merge_of stack.now).rest path)) }
     {
         // Each layer of a stack is one.
         let _layers = stack.ordinary();
         match self {
-            Place::Beside(name) => above.base.look(alloc, stack, &above.path, name),
-            Place::At(path) => stack.look(alloc, 2, path),
+            Place::Beside(name) => Ok(above.base.sight(stack, &above.path, name)),
+            Place::At(path) => stack.sight(alloc, 2, path.copy(alloc)?),
         }
     }
 }
@@ -265,7 +251,7 @@ impl<'a> Place<'a> {
 fn goes_on(
     alloc: Global,
     stack: &Stack,
-    above: &Directory,
+    above: &Directory<'_>,
     found: &Found<'_>,
     passed: &Option<Found<'_>>,
     place: &Place<'_>,
@@ -281,8 +267,7 @@ fn goes_on(
         if !is_nothing_or_directory(passed) {
             return Ok(false);
         }
-        let shown = place.look(alloc, stack, above)?;
-        return Ok(shown.is_shown_directory());
+        return Ok(place.sight(alloc, stack, above)?.is_directory());
     }
     if !is_well_formed_metacopy(found.mark) {
         return Ok(false);
@@ -290,8 +275,7 @@ fn goes_on(
     if !is_nothing_or_metacopy(passed) {
         return Ok(false);
     }
-    let shown = place.look(alloc, stack, above)?;
-    Ok(is_shown_regular(&shown))
+    Ok(is_shown_regular(place.sight(alloc, stack, above)?))
 }
 
 fn is_nothing_or_directory(found: &Option<Found<'_>>) -> bool
@@ -314,11 +298,8 @@ fn is_nothing_or_metacopy(found: &Option<Found<'_>>) -> bool
 }
 
 // Whether a regular file is shown, whole or broken.
-fn is_shown_regular(look: &Look) -> bool
-    ensures { result ≡ regular_look look.now }
+fn is_shown_regular(sight: Sight) -> bool
+    ensures { (look : Look) → sight ≡ sight_of look → result ≡ regular_look look }
 {
-    match look {
-        Look::Shown(inode) | Look::Broken(inode) => matches!(&inode.kind, Kind::File { .. }),
-        Look::Nothing => false,
-    }
+    matches!(sight, Sight::File)
 }

@@ -4,18 +4,18 @@ ghost use Rattle.ovl_names.specs.Paths.{PathNames, child_path};
 ghost use Rattle.ovl_merge.specs.Stands.{IsStand, StandsAt, IsRowAt, IsThing, IsPassing, name_on, onward_to};
 
 use ovl_inode::Mark;
+use ovl_layer::Sheet;
 use ovl_lookup::{Arrival, Found, Onward, Trail};
-use ovl_manifest::Sheet;
-use ovl_names::{Name, Path};
+use ovl_names::Name;
 use std::alloc::{AllocError, Global};
 
 // Where the walk of a directory's path stands in a layer.
 #[derive(Drop)]
-pub(crate) struct Stand {
+pub(crate) struct Stand<'a> {
     // The number of its row, if the layer has the directory; else nothing is found at any name in it.
     pub(crate) row: Option<u32>,
     // The path by which the layer below knows the directory, unless it is hidden there.
-    next: Option<Path>,
+    next: Option<Trail<'a>>,
 }
 
 // How the walk of a name in a directory ends in a layer, with nothing copied.
@@ -25,13 +25,13 @@ pub(crate) struct Passing<'a> {
     pub(crate) onward: Onward<'a>,
 }
 
-impl Stand {
+impl<'a> Stand<'a> {
     // That of a path.
-    pub(crate) fn at<'a>(
+    pub(crate) fn at(
         alloc: Global,
         sheet: &'a Sheet,
         trail: Trail<'a>,
-    ) -> Result<Stand, AllocError>
+    ) -> Result<Stand<'a>, AllocError>
         ensures { IfOk result (IsStand sheet.now trail.entry) }
     {
         // Each sheet is a layer.
@@ -40,7 +40,6 @@ impl Stand {
         if closed {
             return Ok(Stand { row, next: None });
         }
-        let next = next.path(alloc)?;
         Ok(Stand {
             row,
             next: Some(next),
@@ -55,7 +54,7 @@ impl Stand {
     }
 
     // The path by which the layer below knows the directory, unless it is hidden there.
-    pub(crate) fn onward(&self) -> Option<&Path>
+    pub(crate) fn onward(&self) -> Option<&Trail<'a>>
         ensures { option_map (λ path. path.now) result ≡ self.now.next }
     {
         self.next.as_ref()

@@ -106,7 +106,7 @@ fn inodes_at(alloc: Global, stack: &Stack, dir: &Path) -> Result<Vec<(Name, Inod
 fn inodes_in(
     alloc: Global,
     stack: &Stack,
-    directory: &Directory,
+    directory: &Directory<'_>,
 ) -> Result<Vec<(Name, Inode)>, AllocError>
     requires several { 1 < length stack.now.layers }
     requires visited { IsVisited stack.now directory.now.path directory.now }

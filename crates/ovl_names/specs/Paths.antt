@@ -77,7 +77,8 @@ depth_limit = 128
 abbrev pub text_limit : ℕ
 text_limit = 4095
 
--- the least fault of a text that is no path of at most `depth` names, each tested over the whole text before the next
+-- the least fault of a text that is no path of at most `depth` names, each tested over the whole
+-- text before the next
 abbrev pub path_fault : ℕ → List ℕ → Option PathFault
 path_fault depth text =
     if not (starts_with nat_eq text (slash ∷ [])) then Some NotAbsolute

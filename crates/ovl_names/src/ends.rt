@@ -10,17 +10,17 @@ use std::cmp::Ordering;
 // How many bytes of two texts are compared first.
 const FIRST_RUN: usize = 16;
 
-// What comes of the names of two texts that are compared from the last ones on.
+/// What comes of the names of two texts that are compared from the last ones on.
 #[derive(Drop)]
 pub(crate) enum Ends<'a, 'b> {
-    // The first two that differ are so to each other.
+    /// The first two that differ are so to each other.
     Apart(Ordering),
-    // One text ends with all names of the other; this stands before them in each.
+    /// One text ends with all names of the other; this stands before them in each.
     Left(&'a str, &'b str),
 }
 
-// Compares the names of two texts from the last ones on until two differ.
-pub(crate) fn compared<'a, 'b>(text: &'a str, other: &'b str) -> Ends<'a, 'b>
+/// Compares the names of two texts from the last ones on until two differ.
+pub(crate) fn compare_from_ends<'a, 'b>(text: &'a str, other: &'b str) -> Ends<'a, 'b>
     requires own { IsTrue (has_names (text_names text.now)) }
     requires other { IsTrue (has_names (text_names other.now)) }
     ensures { IsEnds (text_names text.now) (text_names other.now) result }
@@ -46,7 +46,8 @@ pub(crate) fn compared<'a, 'b>(text: &'a str, other: &'b str) -> Ends<'a, 'b>
     Ends::Left(own, their)
 }
 
-// The most bytes at the ends of two texts that are the same in both and begin with a separator, and 0 where none do.
+// The most bytes at the ends of two texts that are the same in both and begin with a separator, and
+// 0 where none do.
 fn common_names(own: &[u8], other: &[u8]) -> usize
     ensures { IsCommonNames own.now other.now result }
 {
@@ -63,8 +64,9 @@ fn first_separator(text: &[u8]) -> Option<usize>
     text.iter().position(|byte| *byte == b'/')
 }
 
-// The most bytes at the ends of two texts that are the same in both. Runs of bytes are compared at once: longer ones
-// each time while they are the same, then half of the one that isn't, so that the time is in proportion to the result.
+// The most bytes at the ends of two texts that are the same in both. Runs of bytes are compared at
+// once: longer ones each time while they are the same, then half of the one that isn't, so that the
+// time is in proportion to the result.
 fn common_end(own: &[u8], other: &[u8]) -> usize
     ensures common { HasCommonEnd result own.now other.now }
     ensures longest { HasCommonEnd (result + 1) own.now other.now → ⊥ }

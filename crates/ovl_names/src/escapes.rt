@@ -3,8 +3,8 @@ ghost use Rattle.ovl_names.specs.Escapes.{escaped as escaped_text, escaped_byte,
 
 use std::alloc::{AllocError, Global};
 
-/// A text as reports write it: each byte outside 0x21 to 0x7E, and each backslash, as `\xHH` in lower case.
-/// Fails only when out of memory.
+/// A text as reports write it: each byte outside 0x21 to 0x7E, and each backslash, as `\xHH` in
+/// lower case. Fails only when out of memory.
 pub fn escaped(alloc: Global, text: &str) -> Result<String, AllocError>
     ensures { IfOk result (λ written. string_bytes written ≡ escaped_text text.now) }
 {
@@ -18,7 +18,8 @@ pub fn escaped(alloc: Global, text: &str) -> Result<String, AllocError>
 
 /// Appends a text as [`escaped`] gives it; fails, with nothing changed, only when out of memory.
 pub fn push_escaped(alloc: Global, written: &mut String, text: &str) -> Result<(), AllocError>
-    ensures appended { OnOk result (string_bytes written.new ≡ string_bytes written.old ++ escaped_text text.now) }
+    ensures appended { OnOk result
+        (string_bytes written.new ≡ string_bytes written.old ++ escaped_text text.now) }
     ensures same { OnErr result (string_bytes written.new ≡ string_bytes written.old) }
 {
     let bytes = text.as_bytes();
@@ -36,7 +37,8 @@ fn is_plain(byte: u8) -> bool
 }
 
 fn push_byte(alloc: Global, written: &mut String, byte: u8) -> Result<(), AllocError>
-    ensures { OnOk result (string_bytes written.new ≡ string_bytes written.old ++ escaped_byte byte) }
+    ensures { OnOk result
+        (string_bytes written.new ≡ string_bytes written.old ++ escaped_byte byte) }
 {
     if is_plain(byte) {
         return written.push(byte as char);

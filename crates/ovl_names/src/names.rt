@@ -47,8 +47,8 @@ impl From<AllocError> for NameFault {
     }
 }
 
-/// The name of a directory entry: UTF-8 text of 1 to 255 bytes without `/` and NUL, neither `.` nor `..`.
-/// Names are ordered as bytes.
+/// The name of a directory entry: UTF-8 text of 1 to 255 bytes without `/` and NUL, neither `.` nor
+/// `..`. Names are ordered as bytes.
 #[derive(Debug, Drop)]
 pub struct Name {
     text: Text,

@@ -7,12 +7,13 @@ ghost use Rattle.ovl_names.specs.Names.{is_name, name_eq};
 ghost use Rattle.ovl_names.specs.Paths.{path_eq, text_names, has_names};
 ghost use Rattle.ovl_names.specs.Ends.{OrdersEnds, LeavesEnds};
 
-use crate::ends::{Ends, compared};
+use crate::ends::{Ends, compare_from_ends};
 use std::cmp::Ordering;
 use std::marker::Model;
 
-/// Names of a path one after the other, from the root down, in the text that holds them: all of them, or the first or
-/// last ones. As an iterator it gives each name's text, and leaves the others.
+/// Names of a path one after the other, from the root down, in the text that holds them: all of
+/// them, or the first or last ones. As an iterator it gives each name's text, and leaves the
+/// others.
 #[derive(Debug, Drop)]
 pub struct Names<'a> {
     text: &'a str,
@@ -27,11 +28,12 @@ impl<'a> Model for Names<'a> {
 
     ghost view = { λ a. text_names a.text.now };
 
-    ghost invariant = { λ a. (a.len ≡ length (text_names a.text.now)) × (has_names (text_names a.text.now) ≡ true) };
+    ghost invariant = { λ a. (a.len ≡ length (text_names a.text.now))
+        × (has_names (text_names a.text.now) ≡ true) };
 }
 
 impl<'a> Names<'a> {
-    // The names of a text that has `/` between them, which are so many.
+    /// The names of a text that has `/` between them, which are so many.
     pub(crate) fn of_text(text: &'a str, len: usize) -> Names<'a>
         requires names { IsTrue (has_names (text_names text.now)) }
         requires len { len ≡ length (text_names text.now) }
@@ -40,7 +42,7 @@ impl<'a> Names<'a> {
         Names { text, len }
     }
 
-    // The text that has `/` between the names.
+    /// The text that has `/` between the names.
     pub(crate) fn text(&self) -> &'a str
         ensures value { text_names result.now ≡ self.now }
         ensures names { IsTrue (has_names self.now) }
@@ -116,7 +118,8 @@ impl<'a> Names<'a> {
 
     /// The last name and those above it, and `None` where there is no name.
     pub fn split_last(&self) -> Option<(&'a str, Names<'a>)>
-        ensures value { MatchOption result (self.now ≡ []) (λ parts. self.now ≡ parts.1 ++ parts.0.now ∷ []) }
+        ensures value { MatchOption result (self.now ≡ [])
+            (λ parts. self.now ≡ parts.1 ++ parts.0.now ∷ []) }
         ensures names { IsTrue (has_names self.now) }
     {
         let (above, last) = cut_last(self.text)?;
@@ -140,13 +143,14 @@ impl<'a> Names<'a> {
         }
     }
 
-    /// Compares these names with others from the last ones on until two differ, and gives how these two are to each
-    /// other. Where none do, both lists lose as many names at their ends as the shorter has, and the answer is `Equal`.
+    /// Compares these names with others from the last ones on until two differ, and gives how these
+    /// two are to each other. Where none do, both lists lose as many names at their ends as the
+    /// shorter has, and the answer is `Equal`.
     pub fn compare_ends<'b>(&mut self, other: &mut Names<'b>) -> Ordering
         ensures order { OrdersEnds self.old other.old self.new other.new result }
         ensures left { LeavesEnds self.old other.old self.new other.new result }
     {
-        match compared(self.text, other.text) {
+        match compare_from_ends(self.text, other.text) {
             Ends::Apart(order) => order,
             Ends::Left(text, other_text) => {
                 let (len, other_len) = (self.len, other.len);
@@ -191,7 +195,7 @@ fn cut_first(text: &str) -> Option<(&str, &str)>
     }
 }
 
-// The text of the names above the last name of a text, and that name.
+/// The text of the names above the last name of a text, and that name.
 pub(crate) fn cut_last(text: &str) -> Option<(&str, &str)>
     requires { IsTrue (has_names (text_names text.now)) }
     ensures { MatchOption result

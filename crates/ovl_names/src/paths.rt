@@ -63,11 +63,11 @@ impl<T: Drop> From<AllocFailed<T>> for PathFault {
     }
 }
 
-/// A path from the root of a layer or an overlay, as its names from the root down; the root has none.
-/// Paths are ordered name by name as bytes, and a path comes before its continuations.
+/// A path from the root of a layer or an overlay, as its names from the root down; the root has
+/// none. Paths are ordered name by name as bytes, and a path comes before its continuations.
 #[derive(Debug, Drop)]
 pub struct Path {
-    // The names, with `/` between them.
+    /// The names, with `/` between them.
     text: String,
     len: usize,
 }
@@ -95,8 +95,8 @@ impl Path {
         }
     }
 
-    /// The path of a text that has names with `/` between them, and none where it is empty; fails only when out of
-    /// memory.
+    /// The path of a text that has names with `/` between them, and none where it is empty; fails
+    /// only when out of memory.
     pub fn of_names(alloc: Global, text: &str) -> Result<Path, AllocError>
         requires { IsTrue (has_names (text_names text.now)) }
         ensures { IfOk result (λ path. path ≡ text_names text.now) }
@@ -114,9 +114,9 @@ impl Path {
         })
     }
 
-    /// The path that a text spells: `/`, or at most [`DEPTH_LIMIT`] names with `/` before each, in at most
-    /// [`TEXT_LIMIT`] bytes.
-    /// Otherwise the first fault in the order of [`PathFault`], each looked for in the whole text before the next.
+    /// The path that a text spells: `/`, or at most [`DEPTH_LIMIT`] names with `/` before each, in
+    /// at most [`TEXT_LIMIT`] bytes. Otherwise the first fault in the order of [`PathFault`], each
+    /// looked for in the whole text before the next.
     pub fn parse(alloc: Global, text: &str) -> Result<Path, PathFault>
         ensures { MatchResult result
             (λ path. (path ≡ text_parts text.now) × (path_fault depth_limit text.now ≡ None))
@@ -184,7 +184,8 @@ impl Path {
         })
     }
 
-    /// Goes down to the entry `name` of this directory; fails, with nothing changed, only when out of memory.
+    /// Goes down to the entry `name` of this directory; fails, with nothing changed, only when out
+    /// of memory.
     pub fn push(&mut self, name: &Name) -> Result<(), AllocError>
         ensures { MatchResult result
             (λ _. self.new ≡ child_path self.old name.now)
@@ -193,7 +194,8 @@ impl Path {
         self.extend(&Names::one(name.as_str()))
     }
 
-    /// Goes down these names from this directory; fails, with nothing changed, only when out of memory.
+    /// Goes down these names from this directory; fails, with nothing changed, only when out of
+    /// memory.
     pub fn extend(&mut self, names: &Names<'_>) -> Result<(), AllocError>
         ensures { MatchResult result
             (λ _. self.new ≡ self.old ++ names.now)
@@ -204,14 +206,16 @@ impl Path {
         Ok(())
     }
 
-    /// Goes up to the directory of the first `depth` names, and down to its entry `name`; fails, with nothing changed,
-    /// only when out of memory, and never where the path's text gets no longer.
+    /// Goes up to the directory of the first `depth` names, and down to its entry `name`; fails,
+    /// with nothing changed, only when out of memory, and never where the path's text gets no
+    /// longer.
     pub fn go_to(&mut self, depth: usize, name: &Name) -> Result<(), AllocError>
         ensures there { MatchResult result
             (λ _. self.new ≡ child_path (take depth self.old) name.now)
             (λ _. self.new ≡ self.old) }
         ensures refused { OnErr result
-            (length (path_text self.old) < length (path_text (child_path (take depth self.old) name.now))) }
+            (length (path_text self.old)
+            < length (path_text (child_path (take depth self.old) name.now))) }
     {
         let name = name.as_str();
         let names = self.names().first(depth);
@@ -225,7 +229,8 @@ impl Path {
         Ok(())
     }
 
-    /// The path of the directory that holds this entry, and `None` for the root; fails only when out of memory.
+    /// The path of the directory that holds this entry, and `None` for the root; fails only when
+    /// out of memory.
     pub fn parent(&self, alloc: Global) -> Result<Option<Path>, AllocError>
         ensures { IfOk result (λ parent. parent ≡ parent_of self.now) }
     {
@@ -235,8 +240,8 @@ impl Path {
         }
     }
 
-    /// The path as reports write it: `/` before each name, see [`escaped`](crate::escaped), and `/` for the root.
-    /// Fails only when out of memory.
+    /// The path as reports write it: `/` before each name, see [`escaped`](crate::escaped), and `/`
+    /// for the root. Fails only when out of memory.
     pub fn shown(&self, alloc: Global) -> Result<String, AllocError>
         ensures { IfOk result (λ text. string_bytes text ≡ shown_path self.now) }
     {
@@ -257,11 +262,12 @@ fn joined_len(above: &str, below: &str) -> usize
     }
 }
 
-// Appends names to a text of names; fails, with nothing changed, only when out of memory, and never where there is room
-// for them.
+// Appends names to a text of names; fails, with nothing changed, only when out of memory, and never
+// where there is room for them.
 fn append(text: &mut String, names: &str) -> Result<(), AllocError>
     ensures names { MatchResult result
-        (λ _. text_names (string_bytes text.new) ≡ text_names (string_bytes text.old) ++ text_names names.now)
+        (λ _. text_names (string_bytes text.new)
+        ≡ text_names (string_bytes text.old) ++ text_names names.now)
         (λ _. string_bytes text.new ≡ string_bytes text.old) }
     ensures full { OnErr result
         (string_capacity text.old < length (joined_text (string_bytes text.old) names.now)) }
@@ -298,7 +304,8 @@ fn parts_fault(rest: &str) -> Option<PathFault>
     }
 }
 
-/// Whether nothing stands before, behind or between separators `/` of a text; the empty text has such a part.
+/// Whether nothing stands before, behind or between separators `/` of a text; the empty text has
+/// such a part.
 pub fn has_empty_part(text: &str) -> bool
     ensures { result ≡ list_any (λ part. length part == 0) (parts_between text.now) }
 {
@@ -383,7 +390,8 @@ fn order(text: &[u8], other: &[u8]) -> Ordering
 
 // How the texts are to each other whose first bytes that differ are these.
 fn order_apart(byte: u8, other: u8) -> Ordering
-    ensures { result ≡ (if byte == slash then Less else if other == slash then Greater else nat_cmp byte other) }
+    ensures { result
+        ≡ (if byte == slash then Less else if other == slash then Greater else nat_cmp byte other) }
 {
     if byte == b'/' {
         Ordering::Less

@@ -16,7 +16,7 @@ pub(crate) enum Text {
 }
 
 impl Text {
-    // The text of these bytes, in its value where it is short; fails only when out of memory.
+    /// The text of these bytes, in its value where it is short; fails only when out of memory.
     pub(crate) fn of(alloc: Global, text: &str) -> Result<Text, AllocError>
         ensures { IfOk result (λ kept. text_bytes kept ≡ text.now) }
     {
@@ -26,7 +26,7 @@ impl Text {
         })
     }
 
-    // A text equal to this one; fails only when out of memory.
+    /// A text equal to this one; fails only when out of memory.
     pub(crate) fn copy(&self, alloc: Global) -> Result<Text, AllocError>
         ensures { IfOk result (λ copied. text_bytes copied ≡ text_bytes self.now) }
     {
@@ -36,6 +36,7 @@ impl Text {
         })
     }
 
+    /// The text.
     pub(crate) fn as_str(&self) -> &str
         ensures { result.now ≡ text_bytes self.now }
     {

@@ -8,7 +8,7 @@ use Rattle.ovl_pool.specs.declared.hauls.Haul.{Haul}
 use Rattle.ovl_pool.specs.declared.shares.Shares.{Shares}
 use Rattle.ovl_pool.specs.declared.workers.Worker.{Worker}
 use Rattle.ovl_pool.specs.Crews.{IsWorkerEnd, IsCrewStart, IsCrewEnd, AreSharesOfBoth}
-use Rattle.ovl_pool.specs.Hauls.{IsHaulOfBoth, IsClean, AreInOrder}
+use Rattle.ovl_pool.specs.Hauls.{IsHaulOfBoth, IsClean, AreInPieceOrder}
 use Rattle.ovl_pool.specs.Passes.{HasPasses, post_of}
 use Rattle.ovl_pool.proofs.FlowLemmas.{last_tied, last_within, last_foreknown, halves_tied, halves_within, halves_foreknown, counted_both}
 use Rattle.ovl_pool.proofs.MergeLemmas.{clean_both, haul_merged, posts_joined}
@@ -16,7 +16,7 @@ use Rattle.ovl_pool.proofs.MergeLemmas.{clean_both, haul_merged, posts_joined}
 module _ {O S K D : Type 0} (seen : O → S) (kids : Piece → List Piece) (out : Piece → S) (may_refuse : Piece → Type 0) (thieves : List Thief) where
   -- one worker ended, the last of several, of whom the others did nothing
   pub last_ended : (rest : List Worker) (w v : Worker) (shares : Shares K D) (brought : Haul O) (noted : Shares K D) → IsCrewStart thieves (rest ++ w ∷ []) shares → IsWorkerEnd seen kids out may_refuse thieves w shares v brought noted
-      → (IsClean brought → AreInOrder brought.parcels.items) → IsCrewEnd seen kids out may_refuse thieves (rest ++ w ∷ []) (rest ++ v ∷ []) brought noted
+      → (IsClean brought → AreInPieceOrder brought.parcels.items) → IsCrewEnd seen kids out may_refuse thieves (rest ++ w ∷ []) (rest ++ v ∷ []) brought noted
   last_ended rest w v shares brought noted begun ended order = record {
     haul = ended.haul;
     passes = All-push (HasPasses thieves) rest v (All-pop (HasPasses thieves) (rest ++ w ∷ []) rest (Some w) refl begun.passes).0 ended.passes;

@@ -18,7 +18,7 @@ use Rattle.ovl_board.proofs.LawsOfCounts.{mark_cases, mark_itself}
 use Rattle.ovl_board.proofs.LawsOfWalks.{own_permuted}
 use Rattle.ovl_pool.specs.declared.hauls.Haul.{Haul}
 use Rattle.ovl_pool.specs.declared.workers.Worker.{Worker}
-use Rattle.ovl_pool.specs.Hauls.{IsOwnHaul, IsClean, AreInOrder, IsAtFront}
+use Rattle.ovl_pool.specs.Hauls.{IsOwnHaul, IsClean, AreInPieceOrder, IsAtFront}
 use Rattle.ovl_pool.specs.Passes.{post_of}
 
 module _ {X : Type 0} (all both : List X) (x : X) where
@@ -107,7 +107,7 @@ module _ {O : Type 0} where
       )
 
   -- parcels whose pieces are sorted come in order
-  pub in_order : (parcels : List (Parcel O)) → IsSorted piece_cmp (pieces_of (bare parcels)) → AreInOrder parcels
+  pub in_order : (parcels : List (Parcel O)) → IsSorted piece_cmp (pieces_of (bare parcels)) → AreInPieceOrder parcels
   in_order parcels up = AllPairs-Rises Follows parcels (rises_parcels parcels (Rises-sorted (pieces_of (bare parcels)) up))
 
   -- a parcel that is taken from the front of a list
@@ -158,7 +158,7 @@ module _ {O : Type 0} where
       ])
 
   -- the next parcel is the first of one list, and isn't after the first of the other
-  placed_next : (both from rest one : List (Parcel O)) (x : Parcel O) → AreInOrder (both ++ from) → AreInOrder (both ++ rest) → from ≡ x ∷ one → IsAtFront x rest → AreInOrder ((both ++ x ∷ []) ++ one) × AreInOrder ((both ++ x ∷ []) ++ rest)
+  placed_next : (both from rest one : List (Parcel O)) (x : Parcel O) → AreInPieceOrder (both ++ from) → AreInPieceOrder (both ++ rest) → from ≡ x ∷ one → IsAtFront x rest → AreInPieceOrder ((both ++ x ∷ []) ++ one) × AreInPieceOrder ((both ++ x ∷ []) ++ rest)
   placed_next both from rest one x a b e front =
       let r : Rises Follows (both ++ x ∷ one) = subst (λ l. Rises Follows (both ++ l)) e (Rises-AllPairs Follows (both ++ from) a) in
       let parts = Rises-parts Follows both (x ∷ one) r in (
@@ -166,13 +166,13 @@ module _ {O : Type 0} where
         AllPairs-Rises Follows ((both ++ x ∷ []) ++ rest) (placed both rest x (Rises-AllPairs Follows (both ++ rest) b) (λ y h. parts.2 y x h (inl refl)) front),
       )
 
-  pub merged_next : (both first second one other after : List (Parcel O)) (x : Parcel O) → AreInOrder (both ++ first) × AreInOrder (both ++ second) → ((first ≡ x ∷ one) × (other ≡ second)) ⊎ ((second ≡ x ∷ other) × (one ≡ first))
-      → IsAtFront x first × IsAtFront x second → after ≡ both ++ x ∷ [] → AreInOrder (after ++ one) × AreInOrder (after ++ other)
-  merged_next both first second one other after x up from front e = subst (λ l. AreInOrder (l ++ one) × AreInOrder (l ++ other)) (sym e) (by from)
+  pub merged_next : (both first second one other after : List (Parcel O)) (x : Parcel O) → AreInPieceOrder (both ++ first) × AreInPieceOrder (both ++ second) → ((first ≡ x ∷ one) × (other ≡ second)) ⊎ ((second ≡ x ∷ other) × (one ≡ first))
+      → IsAtFront x first × IsAtFront x second → after ≡ both ++ x ∷ [] → AreInPieceOrder (after ++ one) × AreInPieceOrder (after ++ other)
+  merged_next both first second one other after x up from front e = subst (λ l. AreInPieceOrder (l ++ one) × AreInPieceOrder (l ++ other)) (sym e) (by from)
     where
-      by : ((first ≡ x ∷ one) × (other ≡ second)) ⊎ ((second ≡ x ∷ other) × (one ≡ first)) → AreInOrder ((both ++ x ∷ []) ++ one) × AreInOrder ((both ++ x ∷ []) ++ other)
-      by (inl a) = let n = placed_next both first second one x up.0 up.1 a.0 front.1 in (n.0, subst (λ l. AreInOrder ((both ++ x ∷ []) ++ l)) (sym a.1) n.1)
-      by (inr b) = let n = placed_next both second first other x up.1 up.0 b.0 front.0 in (subst (λ l. AreInOrder ((both ++ x ∷ []) ++ l)) (sym b.1) n.1, n.0)
+      by : ((first ≡ x ∷ one) × (other ≡ second)) ⊎ ((second ≡ x ∷ other) × (one ≡ first)) → AreInPieceOrder ((both ++ x ∷ []) ++ one) × AreInPieceOrder ((both ++ x ∷ []) ++ other)
+      by (inl a) = let n = placed_next both first second one x up.0 up.1 a.0 front.1 in (n.0, subst (λ l. AreInPieceOrder ((both ++ x ∷ []) ++ l)) (sym a.1) n.1)
+      by (inr b) = let n = placed_next both second first other x up.1 up.0 b.0 front.0 in (subst (λ l. AreInPieceOrder ((both ++ x ∷ []) ++ l)) (sym b.1) n.1, n.0)
 
 -- both halves of workers, each at its posts
 pub posts_joined : (all first second ended more : List Worker) → all ≡ first ++ second → map post_of ended ≡ map post_of first → map post_of more ≡ map post_of second → map post_of (ended ++ more) ≡ map post_of all

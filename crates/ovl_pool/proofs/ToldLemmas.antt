@@ -1,6 +1,6 @@
 -- What the numbers of a run say once all lanes are closed: nothing is left, and the parcels are in balance; and to a refused piece
 -- kids lead from the root.
-use Rattle.std.proofs.Common.{◌≡◌, ℕ, zero, suc, ◌+◌, ◌<◌, ◌≤◌, inl, inr, List, [], ◌∷◌, length, Option, Some, None, is_some, IfSome, true, Result, Ok, Err, IfErr, refl, sym, ap, ◌∙◌, subst, arith, Contains}
+use Rattle.std.proofs.Common.{◌≡◌, ℕ, zero, suc, ◌+◌, ◌<◌, ◌≤◌, inl, inr, List, [], ◌∷◌, length, Option, Some, None, is_some, IfSome, Bool, true, false, Result, Ok, Err, IfErr, refl, sym, ap, ◌∙◌, subst, arith, Contains}
 use Rattle.ovl_board.specs.declared.pieces.Piece.{Piece}
 use Rattle.ovl_board.specs.declared.works.Parcel.{Parcel}
 use Rattle.ovl_board.specs.declared.assembly.BoardFault.{BoardFault}
@@ -22,7 +22,7 @@ use Rattle.ovl_pool.specs.declared.runs.RunFault.{RunFault}
 use Rattle.ovl_pool.specs.declared.runs.RunFault.TheVariants.{Gate}
 use Rattle.ovl_pool.specs.Flows.{all_pushed, all_taken, each_one, indicator, refused_weight, accounted, below, AreCounted, AreSettled, AreTied, AreWithin, HaveRoot, HaveGone, CountsParcels}
 use Rattle.ovl_pool.specs.Hauls.{IsOwnHaul}
-use Rattle.ovl_pool.specs.Runs.{MayBeRefused, IsFaultOf}
+use Rattle.ovl_pool.specs.Runs.{MayBeRefused, IsBoardMemory, IsRunFault}
 use Rattle.ovl_pool.proofs.FlowLemmas.{length_delivered, delivered_pieces, below_kids}
 
 -- what the workers did from the start on
@@ -43,11 +43,22 @@ numbers root ended parcels known noted count gone counted knew delivered_so took
     )
 
 -- a run whose fault is the gate's was refused a piece
-pub was_refused : {T : Type 0} (r : Result T RunFault) (refused : Option Piece) → IfErr r (IsFaultOf refused) → r ≡ Err Gate → is_some refused ≡ true
-was_refused (Ok x) refused want e = absurd (cc)
-was_refused (Err f) refused (inl gate) e = gate.1
-was_refused (Err f) refused (inr (inl memory)) e = absurd (cc)
-was_refused (Err f) refused (inr (inr board)) e = absurd (cc)
+pub was_refused : {T : Type 0} (r : Result T RunFault) (refused : Option Piece) (starved : Bool) (count : RunCount) → IfErr r (IsRunFault refused starved count) → r ≡ Err Gate → is_some refused ≡ true
+was_refused (Ok x) refused starved count want e = absurd (cc)
+was_refused (Err f) refused starved count want e = let is : f ≡ Gate = cc in want.gate.0 is
+
+-- a fault of the board is out of memory
+pub board_memory : {T : Type 0} (r : Result T RunFault) (refused : Option Piece) (starved : Bool) (count : RunCount) → IfErr r (IsRunFault refused starved count) → IfErr r IsBoardMemory
+board_memory (Ok x) refused starved count want = tt
+board_memory (Err f) refused starved count want = by (is_some refused) refl starved refl
+  where
+    by : (some : Bool) → is_some refused ≡ some → (hungry : Bool) → starved ≡ hungry → IsBoardMemory f
+    by true e hungry h = subst IsBoardMemory (sym (want.gate.1 e)) tt
+    by false e true h = subst IsBoardMemory (sym (want.memory e h)) tt
+    by false e false h = elim (want.end e h) [
+      | inl early ↦ subst IsBoardMemory (sym early.0) tt
+      | inr board ↦ subst IsBoardMemory (sym board.0) refl
+    ]
 
 none_of : (left : List Piece) → length left ≡ 0 → left ≡ []
 none_of [] e = refl

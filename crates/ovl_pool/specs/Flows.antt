@@ -1,4 +1,5 @@
--- What goes through lanes, however pieces are weighed: a weight of 1 for each piece counts them, one of 1 for a single piece tells how often that one comes.
+-- What goes through lanes, however pieces are weighed: a weight of 1 for each piece counts them,
+-- one of 1 for a single piece tells how often that one comes.
 use Rattle.std.specs.Prelude.{◌≡◌, ℕ, ◌+◌, ◌≤◌, List, length, Option, Some, None, if◌then◌else◌}
 use Rattle.std.specs.List.{sum_by}
 use Rattle.ovl_board.specs.declared.pieces.Piece.{Piece}
@@ -54,19 +55,30 @@ accounted h haul = delivered h haul.parcels.items + refused_weight h haul.refuse
 
 -- these pieces were pushed to the lane, and nothing else was done by its owner
 abbrev pub IsPushed : Lane → Lane → List Piece → Type 0
-IsPushed old new pieces = (h : Piece → ℕ) → (lane_pushed h new ≡ lane_pushed h old + sum_by h pieces) × (lane_taken h new ≡ lane_taken h old)
+IsPushed old new pieces =
+    (h : Piece → ℕ)
+    → (lane_pushed h new ≡ lane_pushed h old + sum_by h pieces)
+    × (lane_taken h new ≡ lane_taken h old)
 
 -- at most these pieces were pushed to the lane, and nothing else was done by its owner
 abbrev pub IsPushedOf : Lane → Lane → List Piece → Type 0
-IsPushedOf old new pieces = (h : Piece → ℕ) → (lane_pushed h new ≤ lane_pushed h old + sum_by h pieces) × (lane_taken h new ≡ lane_taken h old)
+IsPushedOf old new pieces =
+    (h : Piece → ℕ)
+    → (lane_pushed h new ≤ lane_pushed h old + sum_by h pieces)
+    × (lane_taken h new ≡ lane_taken h old)
 
--- while these parcels became those, no pieces but the kids of new ones were pushed to the lane, and its owner took none
+-- while these parcels became those, no pieces but the kids of new ones were pushed to the lane, and
+-- its owner took none
 abbrev pub PushesKids : {O : Type 0} → Lane → Lane → List (Parcel O) → List (Parcel O) → Type 0
-PushesKids old new before after = (h : Piece → ℕ) → (lane_pushed h new + below h before ≤ lane_pushed h old + below h after) × (lane_taken h new ≡ lane_taken h old)
+PushesKids old new before after =
+    (h : Piece → ℕ)
+    → (lane_pushed h new + below h before ≤ lane_pushed h old + below h after)
+    × (lane_taken h new ≡ lane_taken h old)
 
 -- the worker took this piece, and pushed none
 abbrev pub IsTaken : Worker → Worker → Piece → Type 0
-IsTaken old new piece = (h : Piece → ℕ) → (taken h new ≡ taken h old + h piece) × (pushed h new ≡ pushed h old)
+IsTaken old new piece =
+    (h : Piece → ℕ) → (taken h new ≡ taken h old + h piece) × (pushed h new ≡ pushed h old)
 
 -- the worker took no piece, and pushed none
 abbrev pub IsUntouched : Worker → Worker → Type 0
@@ -74,31 +86,55 @@ IsUntouched old new = (h : Piece → ℕ) → (taken h new ≡ taken h old) × (
 
 -- a parcel of this piece with these kids was added
 abbrev pub IsAdded : {O : Type 0} → List (Parcel O) → List (Parcel O) → Piece → List Piece → Type 0
-IsAdded old new piece kids = (h : Piece → ℕ) → (delivered h new ≡ delivered h old + h piece) × (below h new ≡ below h old + sum_by h kids)
+IsAdded old new piece kids =
+    (h : Piece → ℕ)
+    → (delivered h new ≡ delivered h old + h piece) × (below h new ≡ below h old + sum_by h kids)
 
 -- what the worker took since then is the pieces of these parcels, and what it pushed is their kids
 abbrev pub IsTied : {O : Type 0} → Worker → Worker → List (Parcel O) → Type 0
-IsTied old new parcels = (h : Piece → ℕ) → (taken h new ≡ taken h old + delivered h parcels) × (pushed h new ≡ pushed h old + below h parcels)
+IsTied old new parcels =
+    (h : Piece → ℕ)
+    → (taken h new ≡ taken h old + delivered h parcels)
+    × (pushed h new ≡ pushed h old + below h parcels)
 
--- while these parcels became those, the worker took the pieces of the new ones, and pushed their kids
+-- while these parcels became those, the worker took the pieces of the new ones, and pushed their
+-- kids
 abbrev pub KeepsPace : {O : Type 0} → Worker → Worker → List (Parcel O) → List (Parcel O) → Type 0
-KeepsPace old new before after = (h : Piece → ℕ) → (taken h new + delivered h before ≡ taken h old + delivered h after) × (pushed h new + below h before ≡ pushed h old + below h after)
+KeepsPace old new before after =
+    (h : Piece → ℕ)
+    → (taken h new + delivered h before ≡ taken h old + delivered h after)
+    × (pushed h new + below h before ≡ pushed h old + below h after)
 
--- while this haul became that one, the worker took at least what the new one accounts for beyond the old, and pushed at most the kids of new parcels
+-- while this haul became that one, the worker took at least what the new one accounts for beyond
+-- the old, and pushed at most the kids of new parcels
 abbrev pub StaysWithin : {O : Type 0} → Worker → Worker → Haul O → Haul O → Type 0
-StaysWithin old new before after = (h : Piece → ℕ) → (taken h old + accounted h after ≤ taken h new + accounted h before) × (pushed h new + below h before.parcels.items ≤ pushed h old + below h after.parcels.items)
+StaysWithin old new before after =
+    (h : Piece → ℕ)
+    → (taken h old + accounted h after ≤ taken h new + accounted h before)
+    × (pushed h new + below h before.parcels.items ≤ pushed h old + below h after.parcels.items)
 
--- what the worker took since then is at least what the haul accounts for, and what it pushed is at most the kids of its parcels
+-- what the worker took since then is at least what the haul accounts for, and what it pushed is at
+-- most the kids of its parcels
 abbrev pub IsWithin : {O : Type 0} → Worker → Worker → Haul O → Type 0
-IsWithin old new haul = (h : Piece → ℕ) → (taken h old + accounted h haul ≤ taken h new) × (pushed h new ≤ pushed h old + below h haul.parcels.items)
+IsWithin old new haul =
+    (h : Piece → ℕ)
+    → (taken h old + accounted h haul ≤ taken h new)
+    × (pushed h new ≤ pushed h old + below h haul.parcels.items)
 
 -- the same of all workers
 abbrev pub AreWithin : {O : Type 0} → List Worker → List Worker → Haul O → Type 0
-AreWithin old new haul = (h : Piece → ℕ) → (all_taken h old + accounted h haul ≤ all_taken h new) × (all_pushed h new ≤ all_pushed h old + below h haul.parcels.items)
+AreWithin old new haul =
+    (h : Piece → ℕ)
+    → (all_taken h old + accounted h haul ≤ all_taken h new)
+    × (all_pushed h new ≤ all_pushed h old + below h haul.parcels.items)
 
--- what the workers took since then is the pieces of these parcels, and what they pushed is their kids
+-- what the workers took since then is the pieces of these parcels, and what they pushed is their
+-- kids
 abbrev pub AreTied : {O : Type 0} → List Worker → List Worker → List (Parcel O) → Type 0
-AreTied old new parcels = (h : Piece → ℕ) → (all_taken h new ≡ all_taken h old + delivered h parcels) × (all_pushed h new ≡ all_pushed h old + below h parcels)
+AreTied old new parcels =
+    (h : Piece → ℕ)
+    → (all_taken h new ≡ all_taken h old + delivered h parcels)
+    × (all_pushed h new ≡ all_pushed h old + below h parcels)
 
 -- each piece weighs 1
 abbrev pub each_one : Piece → ℕ
@@ -106,11 +142,15 @@ each_one piece = 1
 
 -- these are the numbers of the parcels' kids and of the parcels
 abbrev pub AreCounted : {O : Type 0} → ℕ → ℕ → List (Parcel O) → Type 0
-AreCounted known parcels_noted parcels = (known ≡ below each_one parcels) × (parcels_noted ≡ length parcels)
+AreCounted known parcels_noted parcels =
+    (known ≡ below each_one parcels) × (parcels_noted ≡ length parcels)
 
--- the numbers of a run that brought these parcels: what was known is what was taken with what is left
+-- the numbers of a run that brought these parcels: what was known is what was taken with what is
+-- left
 abbrev pub CountsParcels : {O : Type 0} → List (Parcel O) → RunCount → Type 0
-CountsParcels parcels count = (count.known ≡ below each_one parcels + 1) × (count.delivered ≡ length parcels) × (count.taken ≡ length parcels) × (count.known ≡ count.taken + count.left)
+CountsParcels parcels count =
+    (count.known ≡ below each_one parcels + 1) × (count.delivered ≡ length parcels)
+    × (count.taken ≡ length parcels) × (count.known ≡ count.taken + count.left)
 
 -- no worker took or pushed a piece
 abbrev pub HaveNothing : List Worker → Type 0
@@ -118,15 +158,21 @@ HaveNothing workers = (h : Piece → ℕ) → (all_taken h workers ≡ 0) × (al
 
 -- no worker took a piece, and the root was pushed
 abbrev pub HaveRoot : Piece → List Worker → Type 0
-HaveRoot root workers = (h : Piece → ℕ) → (all_taken h workers ≡ 0) × (all_pushed h workers ≡ h root)
+HaveRoot root workers =
+    (h : Piece → ℕ) → (all_taken h workers ≡ 0) × (all_pushed h workers ≡ h root)
 
--- what the workers took is the pieces of these parcels, and what they pushed is the root with their kids
+-- what the workers took is the pieces of these parcels, and what they pushed is the root with their
+-- kids
 abbrev pub HaveGone : {O : Type 0} → Piece → List Worker → List (Parcel O) → Type 0
-HaveGone root workers parcels = (h : Piece → ℕ) → (all_taken h workers ≡ delivered h parcels) × (all_pushed h workers ≡ h root + below h parcels)
+HaveGone root workers parcels =
+    (h : Piece → ℕ)
+    → (all_taken h workers ≡ delivered h parcels)
+    × (all_pushed h workers ≡ h root + below h parcels)
 
 -- the workers took and pushed no more pieces
 abbrev pub AreUntouched : List Worker → List Worker → Type 0
-AreUntouched old new = (h : Piece → ℕ) → (all_taken h new ≡ all_taken h old) × (all_pushed h new ≡ all_pushed h old)
+AreUntouched old new =
+    (h : Piece → ℕ) → (all_taken h new ≡ all_taken h old) × (all_pushed h new ≡ all_pushed h old)
 
 -- one piece weighs 1, and the others nothing
 abbrev pub indicator : Piece → Piece → ℕ
@@ -134,4 +180,5 @@ indicator p q = if is_same p q then 1 else 0
 
 -- piece by piece, what was pushed is what was taken with these
 abbrev pub AreSettled : List Worker → List Piece → Type 0
-AreSettled workers left = (p : Piece) → all_pushed (indicator p) workers ≡ all_taken (indicator p) workers + times p left
+AreSettled workers left =
+    (p : Piece) → all_pushed (indicator p) workers ≡ all_taken (indicator p) workers + times p left

@@ -8,21 +8,25 @@ use Rattle.ovl_board.specs.Parcels.{parcel_views, AreOwn}
 use Rattle.ovl_pool.specs.declared.hauls.Haul.{Haul}
 
 -- the parcels are the work's own, and a refused piece is one that the gate may refuse
-abbrev pub IsOwnHaul : {O S : Type 0} → (O → S) → (Piece → List Piece) → (Piece → S) → (Piece → Type 0) → Haul O → Type 0
-IsOwnHaul seen kids out may_refuse haul = AreOwn kids out (parcel_views seen haul.parcels.items) × IfSome haul.refused may_refuse
+abbrev pub IsOwnHaul : {O S : Type 0} → (O → S) → (Piece → List Piece) → (Piece → S)
+    → (Piece → Type 0) → Haul O → Type 0
+IsOwnHaul seen kids out may_refuse haul =
+    AreOwn kids out (parcel_views seen haul.parcels.items) × IfSome haul.refused may_refuse
 
 -- no worker was out of memory, and the gate refused nothing
 abbrev pub IsClean : {O : Type 0} → Haul O → Type 0
 IsClean haul = (haul.starved ≡ false) × (haul.refused ≡ None)
 
 -- parcels come in the order of their pieces
-abbrev pub AreInOrder : {O : Type 0} → List (Parcel O) → Type 0
-AreInOrder {O} parcels = AllPairs (λ (a b : Parcel O). ¬ IsBefore b.piece a.piece) parcels
+abbrev pub AreInPieceOrder : {O : Type 0} → List (Parcel O) → Type 0
+AreInPieceOrder {O} parcels = AllPairs (λ (a b : Parcel O). ¬ IsBefore b.piece a.piece) parcels
 
--- both hauls in one, in the order of pieces where each of them is, with the first of two refused pieces
+-- both hauls in one, in the order of pieces where each of them is, with the first of two refused
+-- pieces
 pub record IsHaulOfBoth {O : Type 0} (first second both : Haul O) : Type 0 where
   pub parcels : IsPermutation (first.parcels.items ++ second.parcels.items) both.parcels.items
-  pub order : AreInOrder first.parcels.items → AreInOrder second.parcels.items → AreInOrder both.parcels.items
+  pub order : AreInPieceOrder first.parcels.items → AreInPieceOrder second.parcels.items
+      → AreInPieceOrder both.parcels.items
   pub refused : both.refused ≡ option_or first.refused second.refused
   pub starved : both.starved ≡ (first.starved || second.starved)
 

@@ -9,24 +9,26 @@ use Rattle.ovl_pool.specs.declared.workers.Other.{Other}
 
 -- the pass is one of the lane that it names
 unfoldable pub IsOther : List Thief → Other → Type 0
-IsOther thieves other = (other.lane < length thieves) × HoldsAt (λ thief. IsOfThief thief other.pass) thieves other.lane
+IsOther thieves other =
+    (other.lane < length thieves) × HoldsAt (λ thief. IsOfThief thief other.pass) thieves other.lane
 
 -- each pass of the worker is one of the lane that it names
 abbrev pub HasPasses : List Thief → Worker → Type 0
 HasPasses thieves worker = All (IsOther thieves) worker.others.items
 
 -- which lane it is, and how many passes were split from it and joined to it
-pub record Ends : Type 0 where
+pub record LaneEnds : Type 0 where
   pub id : LaneId
   pub split : ℕ
   pub joined : ℕ
 
-abbrev pub ends_of : Lane → Ends
-ends_of lane = record { id = lane_id lane; split = (account_of lane).split; joined = (account_of lane).joined }
+abbrev pub ends_of : Lane → LaneEnds
+ends_of lane =
+    record { id = lane_id lane; split = (account_of lane).split; joined = (account_of lane).joined }
 
 -- what labor leaves as it is: the ends of the worker's lane, and the lanes that its passes name
 pub record Post : Type 0 where
-  pub ends : Ends
+  pub ends : LaneEnds
   pub named : List ℕ
 
 abbrev pub names_of : List Other → List ℕ
@@ -45,15 +47,20 @@ held_of lane posts = sum_by (λ post. times_named lane post.named) posts
 
 -- each pass that was split from a lane is joined again, held by a worker, or one of the loose ones
 abbrev pub AreOutBut : List ℕ → List Post → Type 0
-AreOutBut loose posts = (lane : ℕ) (d : Post) → lane < length posts → (slice_index_or posts lane d).ends.split ≡ (slice_index_or posts lane d).ends.joined + held_of lane posts + times_named lane loose
+AreOutBut loose posts =
+    (lane : ℕ) (d : Post) → lane < length posts
+    → (slice_index_or posts lane d).ends.split
+    ≡ (slice_index_or posts lane d).ends.joined + held_of lane posts + times_named lane loose
 
--- the posts are those of these lanes in their order, and all passes that aren't joined again are held
+-- the posts are those of these lanes in their order, and all passes that aren't joined again are
+-- held
 abbrev pub IsCrew : List Post → List LaneId → Type 0
 IsCrew posts ids = (map (λ post. post.ends.id) posts ≡ ids) × AreOutBut [] posts
 
 -- the workers hold all passes of their lanes, whose thieves these are
 abbrev pub AreSeated : List Thief → List Worker → Type 0
-AreSeated thieves workers = All (HasPasses thieves) workers × IsCrew (map post_of workers) (map thief_id thieves)
+AreSeated thieves workers =
+    All (HasPasses thieves) workers × IsCrew (map post_of workers) (map thief_id thieves)
 
 -- the worker holds no pass
 abbrev pub HasNone : Worker → Type 0

@@ -1,5 +1,5 @@
 -- What the faults of a run say.
-use Rattle.std.specs.Prelude.{◌≡◌, ◌⊎◌, ℕ, List, Option, is_some, true}
+use Rattle.std.specs.Prelude.{◌≡◌, ◌≢◌, ◌↔◌, ◌⊎◌, ℕ, Bool, List, Option, is_some, true, false}
 use Rattle.ovl_board.specs.declared.pieces.Piece.{Piece}
 use Rattle.ovl_board.specs.declared.assembly.BoardFault.TheVariants.{Memory as BoardMemory}
 use Rattle.ovl_board.specs.Walks.{Reached, ToKid}
@@ -25,13 +25,20 @@ IsBoardMemory Workers = Unit {0}
 IsBoardMemory Gate = Unit {0}
 IsBoardMemory Memory = Unit {0}
 
--- out of memory, to assemble parcels or before that
-abbrev pub IsOutOfMemory : RunFault → Type 0
-IsOutOfMemory fault = (fault ≡ Memory) ⊎ (fault ≡ Board BoardMemory)
+-- a run that met no fault gave no walk: it ended before all that is known was delivered, or memory
+-- to assemble the parcels is wanted
+abbrev pub IsEndFault : RunCount → RunFault → Type 0
+IsEndFault count fault =
+    ((fault ≡ Memory) × (count.known ≢ count.delivered))
+    ⊎ ((fault ≡ Board BoardMemory) × (count.known ≡ count.delivered))
 
--- a run that gave no walk was refused this piece, or it was out of memory
-abbrev pub IsFaultOf : Option Piece → RunFault → Type 0
-IsFaultOf refused fault = ((fault ≡ Gate) × (is_some refused ≡ true)) ⊎ IsOutOfMemory fault
+-- a run that gave no walk: that the gate refused a piece goes before want of memory of a worker,
+-- and that before all else
+pub record IsRunFault (refused : Option Piece) (starved : Bool) (count : RunCount)
+    (fault : RunFault) : Type 0 where
+  pub gate : (fault ≡ Gate) ↔ (is_some refused ≡ true)
+  pub memory : is_some refused ≡ false → starved ≡ true → fault ≡ Memory
+  pub end : is_some refused ≡ false → starved ≡ false → IsEndFault count fault
 
 -- so many pieces were known, delivered and taken, and none is left
 abbrev pub CountsAll : ℕ → RunCount → Type 0

@@ -15,8 +15,8 @@ use std::sync::ledger::Ledger;
 use std::sync::{Mutex, Wait};
 use std::thread::{Threads, join};
 
-/// The labor of these workers, one of them in this thread and each other one in a thread of its own, and their
-/// hauls in one. It ends when all of them ended, and gives them back.
+/// The labor of these workers, one of them in this thread and each other one in a thread of its
+/// own, and their hauls in one. It ends when all of them ended, and gives them back.
 #[cycle(crew)]
 pub(crate) fn crew<
     W: Work + Sync,
@@ -37,7 +37,8 @@ pub(crate) fn crew<
 where
     W::Out: Send,
     requires begun { IsCrewStart thieves.now workers.items shares }
-    ensures ended { IfOk result (λ r. IsCrewEnd W.seen (W.kids_of work.now) (W.out_of work.now) (G.may_refuse gate.now)
+    ensures ended { IfOk result
+        (λ r. IsCrewEnd W.seen (W.kids_of work.now) (W.out_of work.now) (G.may_refuse gate.now)
         thieves.now workers.items r.0.items r.1 r.2) }
 {
     if workers.len() > 1 {
@@ -51,8 +52,8 @@ where
     Ok((workers, haul, shares))
 }
 
-// The labor of two workers or more, of whom the later half is in another thread. Each half brings one haul in order, so
-// that only two are merged here.
+// The labor of two workers or more, of whom the later half is in another thread. Each half brings
+// one haul in order, so that only two are merged here.
 #[cycle(crew)]
 fn halves<
     W: Work + Sync,
@@ -74,7 +75,8 @@ where
     W::Out: Send,
     requires several { 1 < vec_len workers }
     requires begun { IsCrewStart thieves.now workers.items shares }
-    ensures ended { IfOk result (λ r. IsCrewEnd W.seen (W.kids_of work.now) (W.out_of work.now) (G.may_refuse gate.now)
+    ensures ended { IfOk result
+        (λ r. IsCrewEnd W.seen (W.kids_of work.now) (W.out_of work.now) (G.may_refuse gate.now)
         thieves.now workers.items r.0.items r.1 r.2) }
 {
     let later = workers.split_off(workers.len() / 2)?;
@@ -82,13 +84,15 @@ where
     let second = || -> Result<(Vec<Worker>, Haul<W::Out>, Shares<K, D>), AllocError>
         requires shared { IsSync R.row × IsSync W.row × IsSync G.row × IsSend W.Out.row }
         requires begun { IsCrewStart thieves.now later.items latter }
-        ensures ended { IfOk result (λ r. IsCrewEnd W.seen (W.kids_of work.entry.now) (W.out_of work.entry.now)
+        ensures ended { IfOk result
+            (λ r. IsCrewEnd W.seen (W.kids_of work.entry.now) (W.out_of work.entry.now)
             (G.may_refuse gate.entry.now) thieves.entry.now later.items r.0.items r.1 r.2) }
     { crew(rt, alloc, work, gate, tally, thieves, later, latter) };
     let first = || -> Result<(Vec<Worker>, Haul<W::Out>, Shares<K, D>), AllocError>
         requires shared { IsSync R.row × IsSync W.row × IsSync G.row × IsSend W.Out.row }
         requires begun { IsCrewStart thieves.now workers.items shares }
-        ensures ended { IfOk result (λ r. IsCrewEnd W.seen (W.kids_of work.entry.now) (W.out_of work.entry.now)
+        ensures ended { IfOk result
+            (λ r. IsCrewEnd W.seen (W.kids_of work.entry.now) (W.out_of work.entry.now)
             (G.may_refuse gate.entry.now) thieves.entry.now workers.items r.0.items r.1 r.2) }
     { crew(rt, alloc, work, gate, tally, thieves, workers, shares) };
     let (after, before) = join(rt, second, first);

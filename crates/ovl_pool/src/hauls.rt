@@ -1,11 +1,12 @@
 ghost use Rattle.std.specs.Prelude.{◌≡◌, None, IfOk, IsPermutation, [], false};
-ghost use Rattle.ovl_pool.specs.Hauls.{AreInOrder, IsHaulOfBoth};
+ghost use Rattle.ovl_pool.specs.Hauls.{AreInPieceOrder, IsHaulOfBoth};
 
-use crate::merging::merged;
+use crate::merging::merge;
 use ovl_board::{Parcel, Piece, sort_parcels};
 use std::alloc::{AllocError, Global};
 
-/// What workers bring: their parcels, a piece that the gate refused, and whether a worker was out of memory.
+/// What workers bring: their parcels, a piece that the gate refused, and whether a worker was out
+/// of memory.
 #[derive(Drop)]
 pub(crate) struct Haul<T> {
     pub(crate) parcels: Vec<Parcel<T>>,
@@ -14,6 +15,7 @@ pub(crate) struct Haul<T> {
 }
 
 impl<T: Drop> Haul<T> {
+    /// A haul with nothing in it.
     pub(crate) fn empty(alloc: Global) -> Haul<T>
         ensures parcels { result.parcels.items ≡ [] }
         ensures refused { result.refused ≡ None }
@@ -30,7 +32,8 @@ impl<T: Drop> Haul<T> {
     pub(crate) fn sorted(mut self) -> Haul<T>
         ensures parcels { IsPermutation self.parcels.items result.parcels.items }
         ensures refused { result.refused ≡ self.refused }
-        ensures starved { result.starved ≡ false → (self.starved ≡ false) × AreInOrder result.parcels.items }
+        ensures starved { result.starved ≡ false
+            → (self.starved ≡ false) × AreInPieceOrder result.parcels.items }
     {
         match sort_parcels(&mut self.parcels) {
             Ok(()) => self,
@@ -41,7 +44,8 @@ impl<T: Drop> Haul<T> {
         }
     }
 
-    /// Both hauls in one, in the order of pieces where each of them is. Of two refused pieces it keeps the first.
+    /// Both hauls in one, in the order of pieces where each of them is. Of two refused pieces it
+    /// keeps the first.
     pub(crate) fn with(self, alloc: Global, other: Haul<T>) -> Result<Haul<T>, AllocError>
         ensures { IfOk result (IsHaulOfBoth self other) }
     {
@@ -56,7 +60,7 @@ impl<T: Drop> Haul<T> {
             starved: too,
         } = other;
         Ok(Haul {
-            parcels: merged(alloc, parcels, more)?,
+            parcels: merge(alloc, parcels, more)?,
             refused: refused.or(beside),
             starved: starved || too,
         })

@@ -1,4 +1,5 @@
-//! Workers that share the visits of a work: at Ok their answer is the plain walk, on every schedule.
+//! Workers that share the visits of a work: at Ok their answer is the plain walk, on every
+//! schedule.
 #![tactic(auto)]
 
 mod crews;

@@ -1,18 +1,20 @@
 ghost use Rattle.std.specs.Prelude.{◌≡◌, ◌∷◌, ◌++◌, ◌⊎◌, IfOk, IfSome, MatchOption, IsPermutation, []};
-ghost use Rattle.ovl_pool.specs.Hauls.{AreInOrder, IsAtFront};
+ghost use Rattle.ovl_pool.specs.Hauls.{AreInPieceOrder, IsAtFront};
 
 use ovl_board::Parcel;
 use std::alloc::{AllocError, Global};
 use std::collections::VecDeque;
 
 /// The parcels of both lists, in the order of pieces where each of the lists is.
-pub(crate) fn merged<T: Drop>(
+pub(crate) fn merge<T: Drop>(
     alloc: Global,
     first: Vec<Parcel<T>>,
     second: Vec<Parcel<T>>,
 ) -> Result<Vec<Parcel<T>>, AllocError>
     ensures same { IfOk result (λ both. IsPermutation (first.items ++ second.items) both.items) }
-    ensures order { IfOk result (λ both. AreInOrder first.items → AreInOrder second.items → AreInOrder both.items) }
+    ensures order { IfOk result
+        (λ both. AreInPieceOrder first.items → AreInPieceOrder second.items
+        → AreInPieceOrder both.items) }
 {
     let mut both = Vec::with_capacity(alloc, first.len().saturating_add(second.len()))?;
     let mut first = VecDeque::from(first);
@@ -30,9 +32,11 @@ fn next_of<T>(
 ) -> Option<Parcel<T>>
     ensures taken { MatchOption result
         ((first.old.items ≡ []) × (second.old.items ≡ []))
-        (λ parcel. ((first.old.items ≡ parcel ∷ first.new.items) × (second.new.items ≡ second.old.items))
+        (λ parcel. ((first.old.items ≡ parcel ∷ first.new.items)
+        × (second.new.items ≡ second.old.items))
         ⊎ ((second.old.items ≡ parcel ∷ second.new.items) × (first.new.items ≡ first.old.items))) }
-    ensures order { IfSome result (λ parcel. IsAtFront parcel first.old.items × IsAtFront parcel second.old.items) }
+    ensures order { IfSome result
+        (λ parcel. IsAtFront parcel first.old.items × IsAtFront parcel second.old.items) }
 {
     let Some(one) = first.front() else {
         return second.pop_front();

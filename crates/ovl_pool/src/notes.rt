@@ -1,8 +1,9 @@
 ghost use Rattle.std.specs.Prelude.{◌≡◌, ◌<◌, ◌+◌, ◌^◌, OnOk, IfOk, MatchResult};
 ghost use Rattle.ovl_pool.specs.declared.notes.Prospect.TheVariants.{End};
+ghost use Rattle.ovl_pool.specs.declared.tallies.Over.{Over};
 
 use crate::shares::Shares;
-use crate::tallies::Tally;
+use crate::tallies::{Over, Tally};
 use std::alloc::AllocError;
 use std::sync::ledger::Ledger;
 use std::sync::{Mutex, Wait};
@@ -11,19 +12,19 @@ use std::sync::{Mutex, Wait};
 const UNNOTED_LIMIT: u64 = 64;
 
 /// What a worker does next.
-#[derive(Clone, Copy)]
+#[derive(Drop)]
 pub(crate) enum Prospect {
     /// It looks for a piece.
     Work,
     /// It waits for pieces of others.
     Wait,
     /// It ends: all that is known was delivered, or a worker met a fault.
-    End,
+    End(Over),
 }
 
-/// A worker's way to the tally, with its shares of what is noted there. A piece with kids is noted before these are
-/// pushed, since others may take them then; pieces without kids are noted some at a time, so that workers seldom meet at
-/// the lock.
+/// A worker's way to the tally, with its shares of what is noted there. A piece with kids is noted
+/// before these are pushed, since others may take them then; pieces without kids are noted some at
+/// a time, so that workers seldom meet at the lock.
 #[derive(Drop)]
 pub(crate) struct Notes<'a, R, K: Ledger, D: Ledger> {
     rt: &'a R,
@@ -35,6 +36,7 @@ pub(crate) struct Notes<'a, R, K: Ledger, D: Ledger> {
 }
 
 impl<'a, R: Wait, K: Ledger, D: Ledger> Notes<'a, R, K, D> {
+    /// The way to this tally, with nothing noted so far.
     pub(crate) fn of(
         rt: &'a R,
         tally: &'a Mutex<Tally<K, D>>,
@@ -52,14 +54,16 @@ impl<'a, R: Wait, K: Ledger, D: Ledger> Notes<'a, R, K, D> {
         }
     }
 
-    /// Notes that a piece with so many kids was delivered, at once or later. Fails where the tally is at its end.
+    /// Notes that a piece with so many kids was delivered, at once or later. Fails where the tally
+    /// is at its end.
     pub(crate) fn deliver(&mut self, kids: u64) -> Result<Prospect, AllocError>
         ensures known { MatchResult result
             (λ _. self.new.shares.known.amount ≡ self.old.shares.known.amount + kids)
             (λ _. self.new.shares.known.amount ≡ self.old.shares.known.amount) }
         ensures delivered { OnOk result (self.new.shares.delivered.amount + self.new.unnoted
             ≡ self.old.shares.delivered.amount + self.old.unnoted + 1) }
-        ensures settled { IfOk result (λ next. next ≡ End → self.new.unnoted ≡ 0) }
+        ensures settled { IfOk result (λ next.
+            (over : Over) → next ≡ End over → self.new.unnoted ≡ 0) }
         ensures parts { (self.new.shares.known.parts ≡ self.old.shares.known.parts)
             × (self.new.shares.delivered.parts ≡ self.old.shares.delivered.parts) }
     {
@@ -74,10 +78,10 @@ impl<'a, R: Wait, K: Ledger, D: Ledger> Notes<'a, R, K, D> {
             return Err(AllocError);
         }
         self.unnoted = 0;
-        if tally.failed {
-            return Ok(Prospect::End);
+        match tally.over() {
+            Some(over) => Ok(Prospect::End(over)),
+            None => Ok(Prospect::Work),
         }
-        Ok(Prospect::Work)
     }
 
     /// Notes all that was delivered. Fails where the tally is at its end.
@@ -95,21 +99,21 @@ impl<'a, R: Wait, K: Ledger, D: Ledger> Notes<'a, R, K, D> {
             return Err(AllocError);
         }
         self.unnoted = 0;
-        if tally.is_over() {
-            return Ok(Prospect::End);
+        match tally.over() {
+            Some(over) => Ok(Prospect::End(over)),
+            None => Ok(Prospect::Wait),
         }
-        Ok(Prospect::Wait)
     }
 
     /// Notes that the worker met a fault.
-    pub(crate) fn fail(&mut self)
+    pub(crate) fn fail(&mut self) -> Over
         ensures { (self.new.shares ≡ self.old.shares) × (self.new.unnoted ≡ self.old.unnoted) }
     {
-        self.tally.lock(self.rt).fail();
+        self.tally.lock(self.rt).fail()
     }
 
-    /// The shares, with what was noted.
-    pub(crate) fn into_shares(self) -> Shares<K, D>
+    /// The shares, with what was noted, where the tally told that there is nothing more to do.
+    pub(crate) fn into_shares(self, _over: Over) -> Shares<K, D>
         ensures { result ≡ self.entry.shares }
     {
         let Notes {

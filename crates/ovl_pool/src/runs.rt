@@ -8,12 +8,12 @@ ghost use Rattle.ovl_board.specs.Assembly.{IsInOrder, bare};
 ghost use Rattle.ovl_pool.specs.Flows.{AreSettled, CountsParcels, all_pushed, all_taken, each_one};
 ghost use Rattle.ovl_pool.specs.Hauls.{IsClean};
 ghost use Rattle.ovl_pool.specs.Passes.{AreSeated};
-ghost use Rattle.ovl_pool.specs.Runs.{MayBeRefused, IsBoardMemory, IsOutOfMemory, IsFaultOf, CountsAll, no_lanes};
+ghost use Rattle.ovl_pool.specs.Runs.{MayBeRefused, IsBoardMemory, IsEndFault, IsRunFault, CountsAll, no_lanes};
 
 use crate::crews::crew;
 use crate::gates::Gate;
 use crate::hauls::Haul;
-use crate::seating::{closed, seated};
+use crate::seating::{close_lanes, seat_workers};
 use crate::shares::Shares;
 use crate::tallies::Tally;
 use crate::workers::Worker;
@@ -49,8 +49,8 @@ pub enum RunFault {
     /// The gate refused a piece that is reached from the root.
     #[error("the gate refused a piece")]
     Gate,
-    /// The parcels that the workers brought can't be assembled. Out of memory then: no run makes parcels that have
-    /// another fault.
+    /// The parcels that the workers brought can't be assembled. Out of memory then: no run makes
+    /// parcels that have another fault.
     #[error("the parcels are no walk: {0}")]
     Board(BoardFault),
     /// Out of memory.
@@ -85,14 +85,16 @@ impl From<AllocError> for RunFault {
     }
 }
 
-/// Runs the work from `root` by 1 to [`ovl_board::WORKER_LIMIT`] workers, each in a thread of its own with a lane of its
-/// own, and gives the plain walk: a worker visits the pieces of its lane, steals from the others where it has none, and
-/// ends where all that is known was delivered or a worker met a fault. The gate is asked for each piece before its visit.
+/// Runs the work from `root` by 1 to [`ovl_board::WORKER_LIMIT`] workers, each in a thread of its
+/// own with a lane of its own, and gives the plain walk: a worker visits the pieces of its lane,
+/// steals from the others where it has none, and ends where all that is known was delivered or a
+/// worker met a fault. The gate is asked for each piece before its visit.
 ///
-/// At Ok the parcels are the plain walk, whatever the workers did: each of its pieces was known, delivered and taken once,
-/// and none is left. `Workers` is for every other number of them; `Gate` where the gate refused a piece that is reached
-/// from the root; `Board` only where memory to assemble the parcels is wanted. A run that wants memory otherwise gives
-/// `Memory`, or `Gate` if that came as well. It waits for locks, and returns only where each visit and each question to
+/// At Ok the parcels are the plain walk, whatever the workers did: each of its pieces was known,
+/// delivered and taken once, and none is left. `Workers` is for every other number of them; `Gate`
+/// where the gate refused a piece that is reached from the root; `Board` only where memory to
+/// assemble the parcels is wanted. A run that wants memory otherwise gives `Memory`, or `Gate` if
+/// that came as well. It waits for locks, and returns only where each visit and each question to
 /// the gate does.
 pub fn run<W: Work + Sync, G: Gate + Sync, R: Threads + Wait + Sync>(
     rt: &R,
@@ -109,7 +111,8 @@ where
     ensures balance { IfOk result (λ done. IsBalanced root (bare done.0.items) []) }
     ensures counted { IfOk result (λ done. CountsAll (vec_len done.0) done.1) }
     ensures workers { (result ≡ Err Workers) ↔ ((workers < 1) ⊎ (worker_limit < workers)) }
-    ensures gate { (result ≡ Err GateFault) → MayBeRefused (W.kids_of work.now) (G.may_refuse gate.now) root }
+    ensures gate { (result ≡ Err GateFault)
+        → MayBeRefused (W.kids_of work.now) (G.may_refuse gate.now) root }
     ensures board { IfErr result IsBoardMemory }
 {
     let kids = Blank::new(workers as u64);
@@ -137,31 +140,33 @@ fn run_noted<
 where
     W::Out: Send,
     requires kids { (kids.name ≡ K.name) × (kids.parts ≡ K.parts) × (kids.parts ≡ workers) }
-    requires parcels { (parcels.name ≡ D.name) × (parcels.parts ≡ D.parts) × (parcels.parts ≡ workers) }
+    requires parcels { (parcels.name ≡ D.name) × (parcels.parts ≡ D.parts)
+        × (parcels.parts ≡ workers) }
     ensures plain { IfOk result (λ done.
         IsPlain (W.kids_of work.now) (W.out_of work.now) root (parcel_views W.seen done.0.items)) }
     ensures balance { IfOk result (λ done. IsBalanced root (bare done.0.items) []) }
     ensures counted { IfOk result (λ done. CountsAll (vec_len done.0) done.1) }
     ensures workers { (result ≡ Err Workers) ↔ ((workers < 1) ⊎ (worker_limit < workers)) }
-    ensures gate { (result ≡ Err GateFault) → MayBeRefused (W.kids_of work.now) (G.may_refuse gate.now) root }
+    ensures gate { (result ≡ Err GateFault)
+        → MayBeRefused (W.kids_of work.now) (G.may_refuse gate.now) root }
     ensures board { IfErr result IsBoardMemory }
 {
     let _deepest = work.deepest();
     let seats = lanes(alloc, workers)?;
     let first = root.copy(alloc)?;
-    let (crowd, thieves) = seated(alloc, seats, first)?;
+    let (crowd, thieves) = seat_workers(alloc, seats, first)?;
     let (kids, known) = kids.open::<K>();
     let (parcels, delivered) = parcels.open::<D>();
     let tally = Mutex::new(Tally::start(kids, parcels));
     let shares = Shares { known, delivered };
     let (ended, haul, shares) = crew(rt, alloc, work, gate, &tally, &thieves, crowd, shares)?;
-    let count = counted(tally.into_inner(), shares, ended, thieves);
+    let count = run_count(tally.into_inner(), shares, ended, thieves);
     outcome(alloc, &root, haul, count)
 }
 
-// The numbers of the tally and of the lanes, once all workers ended: it puts the shares together, joins all passes to their
-// lanes again and closes the lanes.
-fn counted<K: Ledger, D: Ledger>(
+// The numbers of the tally and of the lanes, once all workers ended: it puts the shares together,
+// joins all passes to their lanes again and closes the lanes.
+fn run_count<K: Ledger, D: Ledger>(
     mut tally: Tally<K, D>,
     shares: Shares<K, D>,
     workers: Vec<Worker>,
@@ -174,14 +179,15 @@ fn counted<K: Ledger, D: Ledger>(
     ensures delivered { result.delivered ≡ shares.delivered.amount }
     ensures taken { result.taken ≡ all_taken each_one workers.items }
     ensures pushed { all_pushed each_one workers.items ≡ result.taken + result.left }
-    ensures left { (left : List Piece) × ((length left ≡ result.left) × AreSettled workers.items left) }
+    ensures left { (left : List Piece)
+        × ((length left ≡ result.left) × AreSettled workers.items left) }
 {
     let Shares {
         mut known,
         mut delivered,
     } = shares;
     tally.audit(&mut known, &mut delivered);
-    let (taken, left) = closed(workers, thieves);
+    let (taken, left) = close_lanes(workers, thieves);
     RunCount {
         known: tally.known,
         delivered: tally.delivered,
@@ -190,8 +196,8 @@ fn counted<K: Ledger, D: Ledger>(
     }
 }
 
-// What came of a run: a fault where the gate refused a piece or a worker was out of memory, and else what is told of the
-// parcels.
+// What came of a run: `Gate` where it refused a piece, else `Memory` where a worker was out of
+// memory, and else what is told of the parcels.
 fn outcome<T: Drop>(
     alloc: Global,
     root: &Piece,
@@ -201,11 +207,12 @@ fn outcome<T: Drop>(
     requires lawful { AllLawful (bare haul.parcels.items) }
     requires counted { IsClean haul → CountsParcels haul.parcels.items count }
     requires left { IsClean haul
-        → (left : List Piece) × ((length left ≡ count.left) × IsBalanced root.now (bare haul.parcels.items) left) }
+        → (left : List Piece)
+        × ((length left ≡ count.left) × IsBalanced root.now (bare haul.parcels.items) left) }
     ensures order { IfOk result (λ done. IsInOrder root.now haul.parcels.items done.0.items) }
     ensures balance { IfOk result (λ done. IsBalanced root.now (bare done.0.items) []) }
     ensures counted { IfOk result (λ done. CountsAll (vec_len done.0) done.1) }
-    ensures fault { IfErr result (IsFaultOf haul.refused) }
+    ensures fault { IfErr result (IsRunFault haul.refused haul.starved count) }
 {
     let Haul {
         parcels,
@@ -218,12 +225,13 @@ fn outcome<T: Drop>(
     if starved {
         return Err(RunFault::Memory);
     }
-    told(alloc, root, parcels, count)
+    walk_of(alloc, root, parcels, count)
 }
 
-// What came of a run that met no fault: the parcels in order, with the numbers of the run. Where fewer pieces were delivered
-// than are known the workers ended too early, which no run has shown; it is told as out of memory.
-fn told<T: Drop>(
+// What came of a run that met no fault: the parcels in order, with the numbers of the run. Where
+// fewer pieces were delivered than are known the workers ended too early, which no run has shown;
+// it is told as out of memory.
+fn walk_of<T: Drop>(
     alloc: Global,
     root: &Piece,
     parcels: Vec<Parcel<T>>,
@@ -231,11 +239,12 @@ fn told<T: Drop>(
 ) -> Result<(Vec<Parcel<T>>, RunCount), RunFault>
     requires lawful { AllLawful (bare parcels.items) }
     requires counted { CountsParcels parcels.items count }
-    requires left { (left : List Piece) × ((length left ≡ count.left) × IsBalanced root.now (bare parcels.items) left) }
+    requires left { (left : List Piece)
+        × ((length left ≡ count.left) × IsBalanced root.now (bare parcels.items) left) }
     ensures order { IfOk result (λ done. IsInOrder root.now parcels.items done.0.items) }
     ensures balance { IfOk result (λ done. IsBalanced root.now (bare done.0.items) []) }
     ensures counted { IfOk result (λ done. CountsAll (vec_len done.0) done.1) }
-    ensures fault { IfErr result IsOutOfMemory }
+    ensures fault { IfErr result (IsEndFault count) }
 {
     if count.known != count.delivered {
         return Err(RunFault::Memory);

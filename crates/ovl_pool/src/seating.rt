@@ -11,9 +11,9 @@ use ovl_board::Piece;
 use ovl_lanes::{Seat, Thief, close};
 use std::alloc::{AllocError, Global};
 
-/// A worker for each lane, and the thieves of all lanes. A worker has a pass to each other lane, beginning with that of
-/// the next worker; the first one's lane holds the root.
-pub(crate) fn seated(
+/// A worker for each lane, and the thieves of all lanes. A worker has a pass to each other lane,
+/// beginning with that of the next worker; the first one's lane holds the root.
+pub(crate) fn seat_workers(
     alloc: Global,
     seats: Vec<Seat>,
     root: Piece,
@@ -72,19 +72,20 @@ fn lend(
     Ok(())
 }
 
-/// Joins all passes to their lanes again and closes the lanes: how many pieces were taken from them, and how many are left.
-/// Piece by piece, those taken with those left are those pushed.
-pub(crate) fn closed(mut workers: Vec<Worker>, thieves: Vec<Thief>) -> (u64, u64)
+/// Joins all passes to their lanes again and closes the lanes: how many pieces were taken from
+/// them, and how many are left. Piece by piece, those taken with those left are those pushed.
+pub(crate) fn close_lanes(mut workers: Vec<Worker>, thieves: Vec<Thief>) -> (u64, u64)
     requires seated { AreSeated thieves.items workers.items }
     requires fits { all_pushed each_one workers.items < 2 ^ 64 }
     ensures taken { result.0 ≡ all_taken each_one workers.items }
     ensures whole { all_pushed each_one workers.items ≡ result.0 + result.1 }
-    ensures left { (left : List Piece) × ((length left ≡ result.1) × AreSettled workers.items left) }
+    ensures left { (left : List Piece)
+        × ((length left ≡ result.1) × AreSettled workers.items left) }
 {
     for number in 0..workers.len() {
         give_back(&mut workers, &thieves, number);
     }
-    gathered(workers, thieves)
+    counts_of_lanes(workers, thieves)
 }
 
 // Joins the passes of the worker of that number to their lanes again.
@@ -102,14 +103,15 @@ fn give_back(workers: &mut [Worker], thieves: &[Thief], number: usize)
 }
 
 // How many pieces were taken from the lanes, and how many are left in them.
-fn gathered(mut workers: Vec<Worker>, mut thieves: Vec<Thief>) -> (u64, u64)
+fn counts_of_lanes(mut workers: Vec<Worker>, mut thieves: Vec<Thief>) -> (u64, u64)
     requires whole { All (λ worker. IsWhole worker.lane) workers.items }
     requires one_each { vec_len workers ≡ vec_len thieves }
     requires none { All HasNone workers.items }
     requires fits { all_pushed each_one workers.items < 2 ^ 64 }
     ensures taken { result.0 ≡ all_taken each_one workers.items }
     ensures whole { all_pushed each_one workers.items ≡ result.0 + result.1 }
-    ensures left { (left : List Piece) × ((length left ≡ result.1) × AreSettled workers.items left) }
+    ensures left { (left : List Piece)
+        × ((length left ≡ result.1) × AreSettled workers.items left) }
 {
     let mut taken = 0u64;
     let mut left = 0u64;

@@ -2,8 +2,9 @@ ghost use Rattle.std.specs.Prelude.{◌≡◌, ◌<◌, ◌≤◌, ◌+◌, ℕ,
 ghost use Rattle.ovl_board.specs.declared.pieces.Piece.{Piece};
 ghost use Rattle.ovl_board.specs.Parcels.{AreOwn, parcel_views};
 ghost use Rattle.ovl_pool.specs.declared.notes.Prospect.TheVariants.{End};
+ghost use Rattle.ovl_pool.specs.declared.tallies.Over.{Over};
 ghost use Rattle.ovl_pool.specs.Crews.{IsWorkerStart, IsWorkerEnd};
-ghost use Rattle.ovl_pool.specs.Hauls.{IsOwnHaul, IsClean, AreInOrder};
+ghost use Rattle.ovl_pool.specs.Hauls.{IsOwnHaul, IsClean, AreInPieceOrder};
 ghost use Rattle.ovl_pool.specs.Flows.{IsPushed, IsPushedOf, PushesKids, IsAdded, KeepsPace, StaysWithin, lane_pushed, pushed, delivered, accounted, below, each_one};
 ghost use Rattle.ovl_pool.specs.Passes.{HasPasses, ends_of, post_of};
 
@@ -61,7 +62,8 @@ impl Worker {
         requires { HasPasses thieves.now self.old }
         ensures passes { HasPasses thieves.now self.new }
         ensures same { post_of self.new ≡ post_of self.old }
-        ensures taken { MatchOption result (IsUntouched self.old self.new) (λ piece. IsTaken self.old self.new piece) }
+        ensures taken { MatchOption result (IsUntouched self.old self.new)
+            (λ piece. IsTaken self.old self.new piece) }
     {
         if let Some(piece) = self.lane.pop() {
             return Some(piece);
@@ -75,8 +77,8 @@ impl Worker {
     }
 }
 
-/// Serves pieces until all that are known are delivered, or a worker met a fault, and sorts its parcels; so each worker
-/// sorts its own, beside the others.
+/// Serves pieces until all that are known are delivered, or a worker met a fault, and sorts its
+/// parcels; so each worker sorts its own, beside the others.
 pub(crate) fn labor<W: Work, G: Gate, R: Wait, K: Ledger, D: Ledger>(
     rt: &R,
     alloc: Global,
@@ -88,16 +90,18 @@ pub(crate) fn labor<W: Work, G: Gate, R: Wait, K: Ledger, D: Ledger>(
     shares: Shares<K, D>,
 ) -> (Worker, Haul<W::Out>, Shares<K, D>)
     requires begun { IsWorkerStart thieves.now worker shares }
-    ensures ended { IsWorkerEnd W.seen (W.kids_of work.now) (W.out_of work.now) (G.may_refuse gate.now) thieves.now
+    ensures ended { IsWorkerEnd W.seen (W.kids_of work.now) (W.out_of work.now)
+        (G.may_refuse gate.now) thieves.now
         worker shares result.0 result.1 result.2 }
-    ensures order { IsClean result.1 → AreInOrder result.1.parcels.items }
+    ensures order { IsClean result.1 → AreInPieceOrder result.1.parcels.items }
 {
     let (worker, haul, shares) = serve_all(rt, alloc, work, gate, tally, thieves, worker, shares);
     (worker, haul.sorted(), shares)
 }
 
-// Serves pieces until all that are known are delivered, or a worker met a fault. A worker that finds no piece spins for
-// a moment, then yields its processor, and tries again (`Backoff::snooze`); it doesn't sleep.
+// Serves pieces until all that are known are delivered, or a worker met a fault. A worker that
+// finds no piece spins for a moment, then yields its processor, and tries again
+// (`Backoff::snooze`); it doesn't sleep.
 fn serve_all<W: Work, G: Gate, R: Wait, K: Ledger, D: Ledger>(
     rt: &R,
     alloc: Global,
@@ -109,7 +113,8 @@ fn serve_all<W: Work, G: Gate, R: Wait, K: Ledger, D: Ledger>(
     shares: Shares<K, D>,
 ) -> (Worker, Haul<W::Out>, Shares<K, D>)
     requires begun { IsWorkerStart thieves.now worker shares }
-    ensures ended { IsWorkerEnd W.seen (W.kids_of work.now) (W.out_of work.now) (G.may_refuse gate.now) thieves.now
+    ensures ended { IsWorkerEnd W.seen (W.kids_of work.now) (W.out_of work.now)
+        (G.may_refuse gate.now) thieves.now
         worker shares result.0 result.1 result.2 }
 {
     let mut haul = Haul::empty(alloc);
@@ -127,18 +132,19 @@ fn serve_all<W: Work, G: Gate, R: Wait, K: Ledger, D: Ledger>(
         ) {
             Ok(Prospect::Work) => idle.reset(),
             Ok(Prospect::Wait) => idle.snooze(),
-            Ok(Prospect::End) => return (worker, haul, notes.into_shares()),
+            Ok(Prospect::End(over)) => return (worker, haul, notes.into_shares(over)),
             Err(AllocError) => {
                 haul.starved = true;
-                notes.fail();
-                return (worker, haul, notes.into_shares());
+                let over = notes.fail();
+                return (worker, haul, notes.into_shares(over));
             }
         }
     }
     unreachable!()
 }
 
-// Finds a piece and attends to it, or notes all that was delivered where it finds none. Fails as these do.
+// Finds a piece and attends to it, or notes all that was delivered where it finds none. Fails as
+// these do.
 fn turn<W: Work, G: Gate, R: Wait, K: Ledger, D: Ledger>(
     alloc: Global,
     work: &W,
@@ -149,9 +155,11 @@ fn turn<W: Work, G: Gate, R: Wait, K: Ledger, D: Ledger>(
     haul: &mut Haul<W::Out>,
 ) -> Result<Prospect, AllocError>
     requires passes { HasPasses thieves.now worker.old }
-    requires own { IsOwnHaul W.seen (W.kids_of work.now) (W.out_of work.now) (G.may_refuse gate.now) haul.old }
+    requires own { IsOwnHaul W.seen (W.kids_of work.now) (W.out_of work.now)
+        (G.may_refuse gate.now) haul.old }
     ensures passes { HasPasses thieves.now worker.new }
-    ensures own { IsOwnHaul W.seen (W.kids_of work.now) (W.out_of work.now) (G.may_refuse gate.now) haul.new }
+    ensures own { IsOwnHaul W.seen (W.kids_of work.now) (W.out_of work.now)
+        (G.may_refuse gate.now) haul.new }
     ensures same { post_of worker.new ≡ post_of worker.old }
     ensures clean { OnOk result (IsClean haul.new → IsClean haul.old) }
     ensures within { StaysWithin worker.old worker.new haul.old haul.new }
@@ -165,7 +173,8 @@ fn turn<W: Work, G: Gate, R: Wait, K: Ledger, D: Ledger>(
     ensures noted { OnOk result (IsClean haul.new
         → notes.new.shares.delivered.amount + notes.new.unnoted + vec_len haul.old.parcels
         ≡ notes.old.shares.delivered.amount + notes.old.unnoted + vec_len haul.new.parcels) }
-    ensures settled { IfOk result (λ next. IsClean haul.new → next ≡ End → notes.new.unnoted ≡ 0) }
+    ensures settled { IfOk result (λ next.
+        IsClean haul.new → (over : Over) → next ≡ End over → notes.new.unnoted ≡ 0) }
     ensures parts { (notes.new.shares.known.parts ≡ notes.old.shares.known.parts)
         × (notes.new.shares.delivered.parts ≡ notes.old.shares.delivered.parts) }
 {
@@ -186,37 +195,42 @@ fn attend<W: Work, G: Gate, R: Wait, K: Ledger, D: Ledger>(
     piece: Piece,
     haul: &mut Haul<W::Out>,
 ) -> Result<Prospect, AllocError>
-    requires { IsOwnHaul W.seen (W.kids_of work.now) (W.out_of work.now) (G.may_refuse gate.now) haul.old }
-    ensures own { IsOwnHaul W.seen (W.kids_of work.now) (W.out_of work.now) (G.may_refuse gate.now) haul.new }
+    requires { IsOwnHaul W.seen (W.kids_of work.now) (W.out_of work.now)
+        (G.may_refuse gate.now) haul.old }
+    ensures own { IsOwnHaul W.seen (W.kids_of work.now) (W.out_of work.now)
+        (G.may_refuse gate.now) haul.new }
     ensures same { ends_of lane.new ≡ ends_of lane.old }
     ensures clean { OnOk result (IsClean haul.new → IsClean haul.old) }
-    ensures pushed { OnOk result (IsClean haul.new → IsPushed lane.old lane.new (W.kids_of work.now piece)) }
+    ensures pushed { OnOk result
+        (IsClean haul.new → IsPushed lane.old lane.new (W.kids_of work.now piece)) }
     ensures within { PushesKids lane.old lane.new haul.old.parcels.items haul.new.parcels.items }
     ensures foreknown { lane_pushed each_one lane.new + notes.old.shares.known.amount
         ≤ lane_pushed each_one lane.old + notes.new.shares.known.amount }
     ensures accounts { (h : Piece → ℕ) → accounted h haul.new ≤ accounted h haul.old + h piece }
     ensures added { OnOk result (IsClean haul.new
         → IsAdded haul.old.parcels.items haul.new.parcels.items piece (W.kids_of work.now piece)) }
-    ensures one { OnOk result (IsClean haul.new → vec_len haul.new.parcels ≡ vec_len haul.old.parcels + 1) }
+    ensures one { OnOk result
+        (IsClean haul.new → vec_len haul.new.parcels ≡ vec_len haul.old.parcels + 1) }
     ensures known { OnOk result (IsClean haul.new
         → notes.new.shares.known.amount + below each_one haul.old.parcels.items
         ≡ notes.old.shares.known.amount + below each_one haul.new.parcels.items) }
-    ensures delivered { OnOk result (IsClean haul.new → notes.new.shares.delivered.amount + notes.new.unnoted
+    ensures delivered { OnOk result
+        (IsClean haul.new → notes.new.shares.delivered.amount + notes.new.unnoted
         ≡ notes.old.shares.delivered.amount + notes.old.unnoted + 1) }
-    ensures settled { IfOk result (λ next. IsClean haul.new → next ≡ End → notes.new.unnoted ≡ 0) }
+    ensures settled { IfOk result (λ next.
+        IsClean haul.new → (over : Over) → next ≡ End over → notes.new.unnoted ≡ 0) }
     ensures parts { (notes.new.shares.known.parts ≡ notes.old.shares.known.parts)
         × (notes.new.shares.delivered.parts ≡ notes.old.shares.delivered.parts) }
 {
     if !gate.pass(&piece) {
         haul.refused = Some(piece);
-        notes.fail();
-        return Ok(Prospect::End);
+        return Ok(Prospect::End(notes.fail()));
     }
     serve(alloc, work, notes, lane, piece, &mut haul.parcels)
 }
 
-// Visits a piece, keeps its parcel, notes it, and only then pushes its kids. Fails where memory runs out, or where a lane or
-// the tally is at its end.
+// Visits a piece, keeps its parcel, notes it, and only then pushes its kids. Fails where memory
+// runs out, or where a lane or the tally is at its end.
 fn serve<W: Work, R: Wait, K: Ledger, D: Ledger>(
     alloc: Global,
     work: &W,
@@ -225,21 +239,26 @@ fn serve<W: Work, R: Wait, K: Ledger, D: Ledger>(
     piece: Piece,
     parcels: &mut Vec<Parcel<W::Out>>,
 ) -> Result<Prospect, AllocError>
-    requires { AreOwn (W.kids_of work.now) (W.out_of work.now) (parcel_views W.seen parcels.old.items) }
-    ensures own { AreOwn (W.kids_of work.now) (W.out_of work.now) (parcel_views W.seen parcels.new.items) }
+    requires { AreOwn (W.kids_of work.now) (W.out_of work.now)
+        (parcel_views W.seen parcels.old.items) }
+    ensures own { AreOwn (W.kids_of work.now) (W.out_of work.now)
+        (parcel_views W.seen parcels.new.items) }
     ensures same { ends_of lane.new ≡ ends_of lane.old }
     ensures pushed { OnOk result (IsPushed lane.old lane.new (W.kids_of work.now piece)) }
     ensures within { PushesKids lane.old lane.new parcels.old.items parcels.new.items }
     ensures foreknown { lane_pushed each_one lane.new + notes.old.shares.known.amount
         ≤ lane_pushed each_one lane.old + notes.new.shares.known.amount }
-    ensures accounts { (h : Piece → ℕ) → delivered h parcels.new.items ≤ delivered h parcels.old.items + h piece }
-    ensures added { OnOk result (IsAdded parcels.old.items parcels.new.items piece (W.kids_of work.now piece)) }
+    ensures accounts { (h : Piece → ℕ)
+        → delivered h parcels.new.items ≤ delivered h parcels.old.items + h piece }
+    ensures added { OnOk result
+        (IsAdded parcels.old.items parcels.new.items piece (W.kids_of work.now piece)) }
     ensures one { OnOk result (vec_len parcels.new ≡ vec_len parcels.old + 1) }
     ensures known { OnOk result (notes.new.shares.known.amount + below each_one parcels.old.items
         ≡ notes.old.shares.known.amount + below each_one parcels.new.items) }
     ensures delivered { OnOk result (notes.new.shares.delivered.amount + notes.new.unnoted
         ≡ notes.old.shares.delivered.amount + notes.old.unnoted + 1) }
-    ensures settled { IfOk result (λ next. next ≡ End → notes.new.unnoted ≡ 0) }
+    ensures settled { IfOk result (λ next.
+        (over : Over) → next ≡ End over → notes.new.unnoted ≡ 0) }
     ensures parts { (notes.new.shares.known.parts ≡ notes.old.shares.known.parts)
         × (notes.new.shares.delivered.parts ≡ notes.old.shares.delivered.parts) }
 {

@@ -1,13 +1,8 @@
-pub mod Accepted
 pub mod Ascending
 pub mod HandedParts
 pub mod LeftOut
-pub mod Numbers
-pub mod Options
-pub mod Outcomes
 pub mod Performed
 pub mod Shares
 pub mod Slots
-pub mod Taken
 pub mod Telling
 pub mod Unread

@@ -2,18 +2,19 @@
 use Rattle.std.proofs.Common.{◌≡◌, ◌<◌, ◌≤◌, ◌⊎◌, Bool, true, false, cond, ℕ, [], refl, Option, None, Some, Result, Ok, Err, List, IfErr, IfNone, IfOk, MatchResult, inl, inr, length, take, sym, ap, subst, arith, String, Vec, Global, string_bytes}
 use Rattle.std.specs.Io.KnownBytes.{Appends}
 use Rattle.std.proofs.lemmas.List.{length-map}
-use Rattle.ovl_manifest.specs.Layers.{Entries}
+use Rattle.ovl_layer.specs.Layers.{Entries}
 use Rattle.ovl_manifest.specs.Text.{manifest_text}
 use Rattle.ovl_lookup.specs.Stacks.{StackView}
+use Rattle.ovl_check.specs.Findings.{findings}
 use Rattle.ovl_check.specs.declared.findings.Finding.{Finding}
 use Rattle.ovl_check.specs.Blobs.{BlobView}
 use Rattle.ovl_engine.specs.Outcomes.{IsAnswerOf, IsRewritten}
-use Rattle.ovl_engine.specs.declared.requests.Command.{Command}
-use Rattle.ovl_engine.specs.declared.requests.Command.TheVariants.{Show, Fsck, Vacuum, Deref, Merge, Flatten}
+use Rattle.ovl_commands.specs.declared.requests.Command.{Command}
+use Rattle.ovl_commands.specs.declared.requests.Command.TheVariants.{Show, Fsck, Vacuum, Deref, Merge, Flatten}
 use Rattle.ovl_engine.specs.Requests.{Request}
-use Rattle.ovl_engine.specs.declared.requests.Answer.{Answer}
+use Rattle.ovl_commands.specs.declared.requests.Answer.{Answer}
 use Rattle.ovl_engine.specs.declared.faults.EngineFault.{EngineFault}
-use Rattle.ovl_program.specs.declared.command_line.options.Line.{Line}
+use Rattle.ovl_command_line.specs.declared.options.Line.{Line}
 use Rattle.ovl_program.specs.declared.output.status.Ending.{Ending}
 use Rattle.ovl_program.specs.declared.faults.ProgramFault.{ProgramFault}
 use Rattle.ovl_program.specs.declared.faults.ProgramFault.TheVariants.{Usage, Words, Input, Unread, Unwritten, Output, Engine}
@@ -21,8 +22,8 @@ use Rattle.ovl_program.specs.Faults.{IsUnread, IsMemory}
 use Rattle.ovl_program.specs.BlobFolders.{IsInFolder}
 use Rattle.ovl_program.specs.LayerFiles.{IsUnfinished}
 use Rattle.ovl_program.specs.Status.{ending_of}
-use Rattle.ovl_program.specs.Programs.{IsComingFor, IsComingIn, IsOfBlobs, IsRequestFor, IsPerformed, folder_in_parts}
-use Rattle.ovl_program.specs.Reported.{IsComing, IsComingOver, IsReported, IsTold, has_report}
+use Rattle.ovl_program.specs.Programs.{IsComingFor, IsComingIn, IsOfBlobs, IsRequestFor, IsPerformed, folder_in_parts, left_of}
+use Rattle.ovl_program.specs.Reported.{IsComing, IsComingOver, IsComingDown, IsComingDownOver, IsReported, IsTold, has_report}
 use Rattle.ovl_program.proofs.Unread.{unread_of_more}
 
 -- a report of what was read
@@ -40,8 +41,8 @@ module _ (line : Line) (before after : Option (List ℕ)) where
 
 -- what comes of a command is what may come for the line
 pub coming_for : (line : Line) (from : Option (String Global)) → from ≡ folder_in_parts line → (request : Request) (result : Result Answer EngineFault)
-    → IsComingIn from request result → IsComingFor line request result
-coming_for line from is request result comes = subst (λ (o : Option (String Global)). IsComingIn o request result) is comes
+    → IsComingIn (left_of line.what line.down_to) from request result → IsComingFor line request result
+coming_for line from is request result comes = subst (λ (o : Option (String Global)). IsComingIn (left_of line.what line.down_to) o request result) is comes
 
 -- a line whose blobs are read in parts has a folder of them
 pub asked_folder : (line : Line) (folder : String Global) → folder_in_parts line ≡ Some folder → line.blobs ≡ Some folder
@@ -128,3 +129,14 @@ few_coming request (Err fault) is = tt
 pub few_coming_over : (request : Request) (answered : Result Answer EngineFault) → IsComingOver request answered → IfOk answered (λ answer. length answer.layers.items ≤ 255)
 few_coming_over request (Ok answer) is = few_layers _ _ _ answer is.1.is
 few_coming_over request (Err fault) is = tt
+
+-- nor has one of merges until so many layers are left
+pub few_coming_down : (left : Option ℕ) (request : Request) (answered : Result Answer EngineFault) → IsComingDown left request answered → IfOk answered (λ answer. length answer.layers.items ≤ 255)
+few_coming_down None request answered is = few_coming request answered is
+few_coming_down (Some left) request (Ok answer) is = few_layers Merge is.1.last (findings request.blobs is.1.last) answer is.1.run
+few_coming_down (Some left) request (Err fault) is = tt
+
+pub few_coming_down_over : (left : Option ℕ) (request : Request) (answered : Result Answer EngineFault) → IsComingDownOver left request answered → IfOk answered (λ answer. length answer.layers.items ≤ 255)
+few_coming_down_over None request answered is = few_coming_over request answered is
+few_coming_down_over (Some left) request (Ok answer) is = few_layers Merge is.1.1.1.last (findings is.1.0 is.1.1.1.last) answer is.1.1.1.run
+few_coming_down_over (Some left) request (Err fault) is = tt

@@ -4,7 +4,7 @@ use Rattle.std.specs.Prelude.{Contains}
 use Rattle.std.specs.Fork.{slice_chunk}
 use Rattle.std.proofs.lemmas.List.{map-append, take-append-drop}
 use Rattle.std.proofs.lemmas.List.Elements.{Contains-append_left, Contains-append_right}
-use Rattle.ovl_engine.proofs.ShareLemmas.{share_here}
+use Rattle.ovl_reports.proofs.ShareLemmas.{share_here}
 
 -- one share more
 pub one_more : {X Y : Type 0} (xs : List X) (size : ℕ) (read : List Y) (next : Y) (share : List X) → share ≡ slice_chunk xs size (length read)

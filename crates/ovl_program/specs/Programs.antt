@@ -4,15 +4,17 @@ use Rattle.std.specs.Global.{Global}
 use Rattle.std.specs.Io.KnownBytes.{Keeps}
 use Rattle.ovl_check.specs.Blobs.{are_in_order}
 use Rattle.ovl_engine.specs.Requests.{Request}
-use Rattle.ovl_engine.specs.declared.requests.Answer.{Answer}
+use Rattle.ovl_commands.specs.declared.requests.Command.{Command}
+use Rattle.ovl_commands.specs.declared.requests.Command.TheVariants.{Show, Fsck, Vacuum, Deref, Merge, Flatten}
+use Rattle.ovl_commands.specs.declared.requests.Answer.{Answer}
 use Rattle.ovl_engine.specs.declared.faults.EngineFault.{EngineFault}
-use Rattle.ovl_program.specs.declared.command_line.options.Line.{Line}
+use Rattle.ovl_command_line.specs.declared.options.Line.{Line}
 use Rattle.ovl_program.specs.declared.output.status.Ending.{Ending}
 use Rattle.ovl_program.specs.declared.faults.ProgramFault.{ProgramFault}
 use Rattle.ovl_program.specs.declared.faults.ProgramFault.TheVariants.{Usage, Words, Input, Unread, Unwritten, Output, Engine}
 use Rattle.ovl_program.specs.Faults.{IsMemory}
 use Rattle.ovl_program.specs.BlobFolders.{IsInFolder}
-use Rattle.ovl_program.specs.Reported.{IsComing, IsComingOver, IsReported}
+use Rattle.ovl_program.specs.Reported.{IsComingDown, IsComingDownOver, IsReported}
 
 -- the line's folder of blobs, or a blob in it
 abbrev pub IsOfBlobs : Line → List ℕ → Type 0
@@ -37,13 +39,22 @@ abbrev pub folder_in_parts : Line → Option (String Global)
 folder_in_parts line = if line.any_size then line.blobs else None
 
 -- this may come of a request: of its blobs; or where a folder is read in parts, of a request without any, over its contents
-abbrev pub IsComingIn : Option (String Global) → Request → Result Answer EngineFault → Type 0
-IsComingIn (Some folder) request result = (request.blobs ≡ []) × IsComingOver request result
-IsComingIn None request result = IsComing request result
+abbrev pub IsComingIn : Option ℕ → Option (String Global) → Request → Result Answer EngineFault → Type 0
+IsComingIn left (Some folder) request result = (request.blobs ≡ []) × IsComingDownOver left request result
+IsComingIn left None request result = IsComingDown left request result
+
+-- how many layers are to be left by merges, if that is asked of a command
+abbrev pub left_of : Command → Option ℕ → Option ℕ
+left_of Show down_to = None
+left_of Fsck down_to = None
+left_of Vacuum down_to = None
+left_of Deref down_to = None
+left_of Merge down_to = down_to
+left_of Flatten down_to = None
 
 -- this may come of a request that is read for a line
 abbrev pub IsComingFor : Line → Request → Result Answer EngineFault → Type 0
-IsComingFor line request result = IsComingIn (folder_in_parts line) request result
+IsComingFor line request result = IsComingIn (left_of line.what line.down_to) (folder_in_parts line) request result
 
 -- a request that can be read for a line is reported
 abbrev pub IsDone : Line → Option (List ℕ) → Option (List ℕ) → Result Ending ProgramFault → Type 0

@@ -1,15 +1,16 @@
 -- What the program makes of manifests and blobs that are read.
-use Rattle.std.specs.Prelude.{◌≡◌, ◌⊎◌, ◌<◌, ℕ, Bool, true, false, Option, Result, Ok, Err, List, [], ◌∷◌, length, take, string_bytes, String, Vec}
+use Rattle.std.specs.Prelude.{◌≡◌, ◌⊎◌, ◌<◌, ℕ, Bool, true, false, Option, Some, None, Result, Ok, Err, List, [], ◌∷◌, length, take, string_bytes, String, Vec}
 use Rattle.std.specs.Global.{Global}
 use Rattle.std.specs.Io.KnownBytes.{Appends, Keeps}
 use Rattle.ovl_board.specs.declared.pieces.Piece.{Piece}
-use Rattle.ovl_engine.specs.declared.requests.Command.TheVariants.{Show}
-use Rattle.ovl_engine.specs.declared.requests.Answer.{Answer}
+use Rattle.ovl_commands.specs.declared.requests.Command.TheVariants.{Show}
+use Rattle.ovl_commands.specs.declared.requests.Answer.{Answer}
 use Rattle.ovl_engine.specs.declared.faults.EngineFault.{EngineFault}
 use Rattle.ovl_engine.specs.declared.faults.EngineFault.TheVariants.{Faulty as FaultyLayers}
 use Rattle.ovl_engine.specs.Requests.{Request}
 use Rattle.ovl_engine.specs.Outcomes.{IsOutcome}
 use Rattle.ovl_engine.specs.Told.{IsOutcomeTold}
+use Rattle.ovl_engine.specs.MergesDown.{IsOutcomeDown, IsOutcomeDownTold}
 use Rattle.ovl_program.specs.declared.output.status.Ending.{Ending}
 use Rattle.ovl_program.specs.declared.output.status.Ending.TheVariants.{Faulty}
 use Rattle.ovl_program.specs.declared.faults.ProgramFault.{ProgramFault}
@@ -17,7 +18,7 @@ use Rattle.ovl_program.specs.declared.faults.ProgramFault.TheVariants.{Usage, Wo
 use Rattle.ovl_program.specs.Status.{ending_of}
 use Rattle.ovl_program.specs.Faults.{IsMemory}
 use Rattle.ovl_program.specs.BlobFolders.{anything}
-use Rattle.ovl_program.specs.Commands.{default_workers}
+use Rattle.ovl_command_line.specs.Commands.{default_workers}
 use Rattle.ovl_program.specs.LayerFiles.{IsOutFile}
 
 -- the program's gate refuses nothing
@@ -31,6 +32,15 @@ IsComing request result = IsOutcome request refuses_nothing result
 -- this may come of a request over contents that are told of the files of a folder
 abbrev pub IsComingOver : Request → Result Answer EngineFault → Type 0
 IsComingOver request result = IsOutcomeTold request anything refuses_nothing result
+
+-- the same of its merges until so many layers are left, where that is asked
+abbrev pub IsComingDown : Option ℕ → Request → Result Answer EngineFault → Type 0
+IsComingDown None request result = IsComing request result
+IsComingDown (Some left) request result = IsOutcomeDown left request refuses_nothing result
+
+abbrev pub IsComingDownOver : Option ℕ → Request → Result Answer EngineFault → Type 0
+IsComingDownOver None request result = IsComingOver request result
+IsComingDownOver (Some left) request result = IsOutcomeDownTold left request anything refuses_nothing result
 
 -- the fault is told by a report
 abbrev pub has_report : EngineFault → Bool

@@ -1,12 +1,12 @@
 //! The work of `show`, walked by one thread, and commands by one worker and by two.
 
 use crate::board::root_of;
-use crate::samples::{MOVED, stack_of};
+use crate::samples::{MOVED, ROOT, stack_of};
 use ovl_board::plain_walk;
 use ovl_check::Content;
 use ovl_engine::{
     Command, CommandFault, Contents, EngineFault, ShowWork, command, command_of, command_over,
-    finish_show, named_blobs, report_of, report_of_walk,
+    finish_show, merge_down, named_blobs, question_down, report_of, report_of_walk,
 };
 use ovl_inode::Digest;
 use ovl_lookup::Stack;
@@ -122,6 +122,23 @@ fn commands_are_answered_by_one_worker(rt: HostRuntime) -> Result<(), Fail> {
 #[test]
 fn commands_are_answered_by_two_workers(rt: HostRuntime) -> Result<(), Fail> {
     assert!(rt; are_answered(&rt, rt.alloc(), 2)?);
+    Ok(())
+}
+
+// Whether three layers are merged down to one, at once and as far as no contents are wanted.
+fn is_merged_down<R: Threads + Wait + Sync>(rt: &R, alloc: Global) -> Result<bool, EngineFault> {
+    let blobs = named_blobs(alloc, &manifests_of(alloc, "a")?)?;
+    let lines = format!(in alloc; "{ROOT}{MOVED}")?;
+    let manifests = manifests_of(alloc, lines.as_str())?;
+    let answer = merge_down(rt, alloc, manifests, 0, &blobs, 1, 2, &OpenGate)?;
+    let again = manifests_of(alloc, lines.as_str())?;
+    let question = question_down(rt, alloc, again, 0, 1, 2)?;
+    Ok(answer.report.ends_with(b"\nentries 6\n") && question.names.len() == 1)
+}
+
+#[test]
+fn three_layers_are_merged_down(rt: HostRuntime) -> Result<(), Fail> {
+    assert!(rt; again!(is_merged_down(&rt, rt.alloc()), EngineFault::Memory)?);
     Ok(())
 }
 

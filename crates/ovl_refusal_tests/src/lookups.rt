@@ -1,7 +1,7 @@
 //! What a stack shows: by walks, looks, names and views, and its whole tree.
 
 use crate::samples::{MOVED, stack_of};
-use ovl_lookup::{DirView, Look, Stack, walk};
+use ovl_lookup::{DirView, Look, Stack, Trail, walk};
 use ovl_names::{Name, NameFault, Path, PathFault};
 use std::alloc::{AllocError, Global};
 use std::test::Fail;
@@ -12,23 +12,26 @@ fn is_walked(alloc: Global, stack: &Stack, path: &Path) -> Result<bool, AllocErr
         return Ok(false);
     }
     let step = walk(alloc, stack.sheet(0), path)?;
-    let own = stack.own_walk(alloc, 0, path)?;
+    let own = stack.own_walk(alloc, 0, Trail::of(alloc, &path.names())?)?;
+    let next = own.next.path(alloc)?;
     let names = stack.own_names(alloc, 0, path)?;
     let place = stack.data_place(alloc, path)?;
-    Ok(step.next.len() == 1 && own.next == step.next && names.is_empty() && place.is_none())
+    Ok(step.next.len() == 1 && next == step.next && names.is_empty() && place.is_none())
 }
 
 // Of the moved directory too.
 fn is_shown(alloc: Global, stack: &Stack, path: &Path) -> Result<bool, AllocError> {
     let look = stack.look(alloc, 0, path)?;
+    let sight = stack.sight(alloc, 0, Trail::of(alloc, &path.names())?)?;
     let names = stack.names(alloc, 0, path)?;
     let list = stack.list(alloc)?;
-    Ok(look.is_shown_directory() && names.len() == 1 && list.len() == 6)
+    Ok(look.is_shown_directory() && sight.is_directory() && names.len() == 1 && list.len() == 6)
 }
 
 // A metacopy file in the root.
 fn is_viewed(alloc: Global, stack: &Stack, file: &Name) -> Result<bool, AllocError> {
-    let Some(view) = DirView::of(alloc, stack, 0, &Path::root(alloc))? else {
+    let root = Path::root(alloc);
+    let Some(view) = DirView::of(alloc, stack, 0, &root)? else {
         return Ok(false);
     };
     let look = view.look(alloc, stack, file)?;
@@ -38,7 +41,8 @@ fn is_viewed(alloc: Global, stack: &Stack, file: &Name) -> Result<bool, AllocErr
 
 // A directory in the root.
 fn is_entered(alloc: Global, stack: &Stack, dir: &Name) -> Result<bool, AllocError> {
-    let Some(view) = DirView::of(alloc, stack, 0, &Path::root(alloc))? else {
+    let root = Path::root(alloc);
+    let Some(view) = DirView::of(alloc, stack, 0, &root)? else {
         return Ok(false);
     };
     let Some(child) = view.child(alloc, stack, dir)? else {

@@ -2,7 +2,8 @@
 
 use crate::samples::MOVED;
 use ovl_json::is_json;
-use ovl_manifest::{Layer, LayerFault, Sheet, from_entries, read_layer, read_sheet, write_layer};
+use ovl_layer::{Layer, LayerFault, Sheet, from_entries};
+use ovl_manifest::{read_layer, read_sheet, write_layer};
 use ovl_names::Path;
 use std::alloc::{AllocError, Global};
 use std::test::Fail;

@@ -4,13 +4,13 @@ use Rattle.std.specs.Prelude.{Result, Ok, Err, IfOk, nat_lt}
 use Rattle.std.proofs.lemmas.List.{append-nil}
 use Rattle.ovl_names.specs.Order.{ascends}
 use Rattle.ovl_inode.specs.declared.inodes.Inode.{Inode}
-use Rattle.ovl_manifest.specs.Layers.{Entry, Entries, entry_cmp, entry_limit, IsLayer}
-use Rattle.ovl_manifest.specs.Manifest.{entry_fault, entry_after, entries_after, is_miscounted, is_statable, stated_pair, layer_of_pairs, IsFaultOf}
-use Rattle.ovl_manifest.specs.declared.faults.LayerFault.{LayerFault}
-use Rattle.ovl_manifest.specs.declared.faults.LayerFault.TheVariants.{NotJson, Shape, Version, Count, Entry as WrongEntry, Order, NoParent, Root, Escaped, Memory}
-use Rattle.ovl_manifest.specs.Builders.{pair_after}
-use Rattle.ovl_manifest.proofs.BackLemmas.{pairs-back}
-use Rattle.ovl_manifest.proofs.BuilderLemmas.{pair-taken}
+use Rattle.ovl_layer.specs.Layers.{Entry, Entries, entry_cmp, entry_limit, IsLayer}
+use Rattle.ovl_layer.specs.Entries.{entry_fault, entry_after, entries_after, is_miscounted, is_statable, stated_pair, layer_of_pairs, IsFaultOf}
+use Rattle.ovl_layer.specs.declared.faults.LayerFault.{LayerFault}
+use Rattle.ovl_layer.specs.declared.faults.LayerFault.TheVariants.{NotJson, Shape, Version, Count, Entry as WrongEntry, Order, NoParent, Root, Escaped, Memory}
+use Rattle.ovl_layer.specs.Builders.{pair_after}
+use Rattle.ovl_layer.proofs.BackLemmas.{pairs-back}
+use Rattle.ovl_layer.proofs.BuilderLemmas.{pair-taken}
 use Rattle.ovl_board.specs.Parcels.{IsPlain}
 use Rattle.ovl_board.proofs.LawsOfWalks.{IsPlain-from_preorder, HasReachedPieces-holds}
 use Rattle.ovl_rewrite.specs.Passes.{Tree, IsTree, tree_kids, tree_out, entries_under, View, views_under, WalksUnder, StopsUnder}

@@ -6,8 +6,8 @@ use Rattle.ovl_names.specs.Names.{PathName, name_cmp}
 use Rattle.ovl_names.specs.Order.{ascends}
 use Rattle.ovl_names.specs.Paths.{PathNames, child_path, path_eq, path_cmp}
 use Rattle.ovl_inode.specs.declared.inodes.Inode.{Inode}
-use Rattle.ovl_manifest.specs.Layers.{Entries, Entry, entry_at, entry_cmp}
-use Rattle.ovl_manifest.proofs.LayerLemmas.{path_cmp-same}
+use Rattle.ovl_layer.specs.Layers.{Entries, Entry, entry_at, entry_cmp}
+use Rattle.ovl_layer.proofs.LayerLemmas.{path_cmp-same}
 use Rattle.ovl_board.proofs.LawsOfMembers.{In, Rises, In-flat_map, In-flat_map-cases, Rises-flat_map, In-Contains}
 use Rattle.ovl_board.proofs.LawsOfPieces.{prefix_before, fork_before}
 use Rattle.ovl_rewrite.specs.Directories.{NamedInode}

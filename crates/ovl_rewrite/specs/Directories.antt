@@ -1,5 +1,5 @@
--- The directories of a new layer as work: a piece is a directory, its kids are the directories in it, and its output is
--- each name in it with its inode.
+-- The directories of a new layer as work: a piece is a directory, its kids are the directories in
+-- it, and its output is each name in it with its inode.
 use Rattle.std.specs.Prelude.{List, map, filter, Vec}
 use Rattle.std.specs.Global.{Global}
 use Rattle.std.specs.Coded.{Coded-set, codes}
@@ -17,9 +17,11 @@ NamedInode = PathName × Inode
 abbrev pub piece_in : Piece → NamedInode → Piece
 piece_in piece entry = record { space = piece.space; dir = child_path piece.dir entry.0 }
 
--- the kids of a directory are the directories in it, and its output is each name in it, in order, with its inode
+-- the kids of a directory are the directories in it, and its output is each name in it, in order,
+-- with its inode
 abbrev pub directories_among : Piece → List NamedInode → List Piece
-directories_among piece entries = map (piece_in piece) (filter (λ entry. is_directory entry.1) entries)
+directories_among piece entries =
+    map (piece_in piece) (filter (λ entry. is_directory entry.1) entries)
 
 -- what is seen of the entries that a directory puts out
 abbrev pub inodes_seen : Vec NamedInode Global → List NamedInode

@@ -8,7 +8,7 @@ use Rattle.ovl_names.specs.Order.{ascends}
 use Rattle.ovl_names.specs.Paths.{PathNames, child_path}
 use Rattle.ovl_inode.specs.declared.inodes.Inode.{Inode}
 use Rattle.ovl_inode.specs.Marks.{is_directory}
-use Rattle.ovl_manifest.specs.Layers.{Entries, entry_at}
+use Rattle.ovl_layer.specs.Layers.{Entries, entry_at}
 use Rattle.ovl_board.specs.declared.pieces.Piece.{Piece}
 use Rattle.ovl_board.specs.Parcels.{IsPlain}
 use Rattle.ovl_rewrite.specs.Directories.{NamedInode, directories_among}
@@ -30,30 +30,37 @@ abbrev pub has_directory : NewLayer → PathNames → Bool
 has_directory new path = is_directory_found (new path)
 
 -- the entries of a directory: each name that has an entry in it once, in order, with its inode
-pub record AreEntriesOf (new : NewLayer) (directory : PathNames) (entries : List NamedInode) : Type 0 where
+pub record AreEntriesOf (new : NewLayer) (directory : PathNames)
+    (entries : List NamedInode) : Type 0 where
   pub in_order : ascends name_cmp (map (λ entry. entry.0) entries) ≡ true
   pub same : (name : PathName) → lookup (name_eq name) entries ≡ new (child_path directory name)
 
--- a work's visits tell a new layer: a piece puts out the entries of its directory, and its kids are those of them that
--- are directories
-pub record TellsLayer (new : NewLayer) (kids : Piece → List Piece) (out : Piece → List NamedInode) : Type 0 where
+-- a work's visits tell a new layer: a piece puts out the entries of its directory, and its kids are
+-- those of them that are directories
+pub record TellsLayer (new : NewLayer) (kids : Piece → List Piece)
+    (out : Piece → List NamedInode) : Type 0 where
   pub output : (piece : Piece) → AreEntriesOf new piece.dir (out piece)
   pub directories : (piece : Piece) → kids piece ≡ directories_among piece (out piece)
 
 -- its tree by the names that may have an entry in each directory
 abbrev pub named_entry : NewLayer → PathNames → PathName → Option NamedInode
-named_entry new directory name = option_map (λ inode. (name, inode)) (new (child_path directory name))
+named_entry new directory name =
+    option_map (λ inode. (name, inode)) (new (child_path directory name))
 
 abbrev pub tree_by : NewLayer → (PathNames → List PathName) → Tree
 tree_by new names directory = filter_map (named_entry new directory) (names directory)
 
--- these names are in order, and each entry of a directory has one of them; what has an entry in it is a directory, and
--- no directory has more than `deepest` names
+-- these names are in order, and each entry of a directory has one of them; what has an entry in it
+-- is a directory, and no directory has more than `deepest` names
 pub record IsTold (new : NewLayer) (names : PathNames → List PathName) (deepest : ℕ) : Type 0 where
   pub in_order : (directory : PathNames) → ascends name_cmp (names directory) ≡ true
-  pub named : (directory : PathNames) (name : PathName) (inode : Inode) → new (child_path directory name) ≡ Some inode → list_any (name_eq name) (names directory) ≡ true
-  pub closed : (directory : PathNames) (name : PathName) (inode : Inode) → new (child_path directory name) ≡ Some inode → has_directory new directory ≡ true
-  pub shallow : (directory : PathNames) → has_directory new directory ≡ true → length directory ≤ deepest
+  pub named : (directory : PathNames) (name : PathName) (inode : Inode)
+      → new (child_path directory name) ≡ Some inode
+      → list_any (name_eq name) (names directory) ≡ true
+  pub closed : (directory : PathNames) (name : PathName) (inode : Inode)
+      → new (child_path directory name) ≡ Some inode → has_directory new directory ≡ true
+  pub shallow : (directory : PathNames) → has_directory new directory ≡ true
+      → length directory ≤ deepest
 
 -- the root as a piece
 abbrev pub root_piece : Piece

@@ -1,9 +1,10 @@
--- The entries of a tree that is told directory by directory, and how they are taken from the parcels of its plain walk.
+-- The entries of a tree that is told directory by directory, and how they are taken from the
+-- parcels of its plain walk.
 use Rattle.std.specs.Prelude.{◌≡◌, ◌≤◌, ℕ, zero, suc, ◌-◌, false, List, [], ◌∷◌, ◌++◌, length, map, Contains}
 use Rattle.std.specs.List.{flat_map}
 use Rattle.ovl_names.specs.Paths.{PathNames, child_path}
 use Rattle.ovl_inode.specs.Marks.{is_directory}
-use Rattle.ovl_manifest.specs.Layers.{Entries, IsLayer}
+use Rattle.ovl_layer.specs.Layers.{Entries, IsLayer}
 use Rattle.ovl_board.specs.declared.pieces.Piece.{Piece}
 use Rattle.ovl_board.specs.Pieces.{HasLawfulKids}
 use Rattle.ovl_board.specs.Walks.{preorder}
@@ -24,13 +25,15 @@ tree_out tree piece = tree piece.dir
 pub record IsTree (tree : Tree) (deepest : ℕ) : Type 0 where
   pub lawful : HasLawfulKids (tree_kids tree) deepest
   pub bounded : (directory : PathNames) → deepest ≤ length directory → tree directory ≡ []
-  pub files : (directory : PathNames) (entry : NamedInode) → Contains (tree directory) entry → is_directory entry.1 ≡ false → tree (child_path directory entry.0) ≡ []
+  pub files : (directory : PathNames) (entry : NamedInode) → Contains (tree directory) entry
+      → is_directory entry.1 ≡ false → tree (child_path directory entry.0) ≡ []
 
 -- the entries at most `depth` names below a directory, in path order
 abbrev pub entries_under : Tree → ℕ → PathNames → Entries
 entries_under tree zero directory = []
 entries_under tree (suc depth) directory =
-    flat_map (λ entry. (child_path directory entry.0, entry.1) ∷ entries_under tree depth (child_path directory entry.0)) (tree directory)
+    flat_map (λ entry. (child_path directory entry.0, entry.1)
+    ∷ entries_under tree depth (child_path directory entry.0)) (tree directory)
 
 -- what is seen of a directory's parcel, and the parcels of a directory and of what lies under it
 abbrev pub View : Type 0
@@ -38,16 +41,22 @@ View = ParcelView (List NamedInode)
 
 abbrev pub views_under : Tree → ℕ → Piece → List View
 views_under tree deepest piece =
-    map (own_view (tree_kids tree) (tree_out tree)) (preorder (tree_kids tree) (deepest - length piece.dir) piece)
+    map (own_view (tree_kids tree) (tree_out tree))
+    (preorder (tree_kids tree) (deepest - length piece.dir) piece)
 
--- where parcels begin with those of a directory of a tree, these are taken off, and the entries under it are added
+-- where parcels begin with those of a directory of a tree, these are taken off, and the entries
+-- under it are added
 abbrev pub WalksUnder : List View → List View → Entries → Entries → Type 0
 WalksUnder before after old new =
-    (tree : Tree) (deepest : ℕ) → IsTree tree deepest → (piece : Piece) (rest : List View) → before ≡ views_under tree deepest piece ++ rest →
+    (tree : Tree) (deepest : ℕ) → IsTree tree deepest → (piece : Piece) (rest : List View)
+    → before ≡ views_under tree deepest piece ++ rest →
     (after ≡ rest) × (new ≡ old ++ entries_under tree (deepest - length piece.dir) piece.dir)
 
--- where parcels begin with those of a directory of a tree, no layer goes on with the entries under it
+-- where parcels begin with those of a directory of a tree, no layer goes on with the entries under
+-- it
 abbrev pub StopsUnder : List View → Entries → Type 0
 StopsUnder before old =
-    (tree : Tree) (deepest : ℕ) → IsTree tree deepest → (piece : Piece) (rest : List View) → before ≡ views_under tree deepest piece ++ rest →
-    (more : Entries) → IsLayer (old ++ (entries_under tree (deepest - length piece.dir) piece.dir ++ more)) → ⊥
+    (tree : Tree) (deepest : ℕ) → IsTree tree deepest → (piece : Piece) (rest : List View)
+    → before ≡ views_under tree deepest piece ++ rest →
+    (more : Entries)
+    → IsLayer (old ++ (entries_under tree (deepest - length piece.dir) piece.dir ++ more)) → ⊥

@@ -7,7 +7,8 @@ use thiserror::Error;
 /// Why no new layer is given.
 #[derive(Clone, Copy, Debug, PartialEq, Eq, Error)]
 pub enum RewriteFault {
-    /// The new layer has more entries than a manifest may have, or a path with more names or a longer text.
+    /// The new layer has more entries than a manifest may have, or a path with more names or a
+    /// longer text.
     #[error("result over the limits")]
     LimitOut,
     /// Out of memory.

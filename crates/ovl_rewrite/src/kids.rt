@@ -6,7 +6,8 @@ use ovl_inode::{Inode, is_directory};
 use ovl_names::Name;
 use std::alloc::{AllocError, Global};
 
-/// The pieces of those entries of a piece's directory that are directories themselves; fails only when out of memory.
+/// The pieces of those entries of a piece's directory that are directories themselves; fails only
+/// when out of memory.
 pub fn directories(
     alloc: Global,
     piece: &Piece,

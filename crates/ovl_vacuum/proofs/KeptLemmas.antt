@@ -13,7 +13,7 @@ use Rattle.ovl_inode.specs.declared.inodes.Inode.{Inode}
 use Rattle.ovl_inode.specs.Attributes.{has_escaped_name}
 use Rattle.ovl_inode.specs.Marks.{mark_of}
 use Rattle.ovl_inode.specs.Sound.{is_sound_inode}
-use Rattle.ovl_manifest.specs.Layers.{Entries, Entry, entry_at, entry_cmp, is_directory_at, has_parent, is_within_limits, entry_limit, IsLayer}
+use Rattle.ovl_layer.specs.Layers.{Entries, Entry, entry_at, entry_cmp, is_directory_at, has_parent, is_within_limits, entry_limit, IsLayer}
 use Rattle.ovl_lookup.specs.declared.steps.Step.{Step}
 use Rattle.ovl_lookup.specs.Walk.{turn, is_shut, walk, walk_beyond, nothing_found, natural_path}
 use Rattle.ovl_lookup.specs.Stacks.{StackView}

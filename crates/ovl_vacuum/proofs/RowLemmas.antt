@@ -18,11 +18,11 @@ use Rattle.ovl_names.specs.Order.{ascends}
 use Rattle.ovl_names.specs.Paths.{PathNames, child_path, parent_path, path_cmp}
 use Rattle.ovl_names.proofs.Ascending.{both, list_all-get, list_all-from_each}
 use Rattle.ovl_inode.specs.declared.inodes.Inode.{Inode}
-use Rattle.ovl_manifest.specs.Layers.{Entries, Entry, entry_at, entry_cmp, is_directory_at, name_below, names_below, IsLayer}
-use Rattle.ovl_manifest.specs.Builders.{pair_after}
-use Rattle.ovl_manifest.specs.Sheets.{path_of, path_at, last_name}
-use Rattle.ovl_manifest.proofs.BuilderLemmas.{pair-taken}
-use Rattle.ovl_manifest.proofs.SheetLemmas.{none-past, number-one, last_name-child, entry_at-number}
+use Rattle.ovl_layer.specs.Layers.{Entries, Entry, entry_at, entry_cmp, is_directory_at, name_below, names_below, IsLayer}
+use Rattle.ovl_layer.specs.Builders.{pair_after}
+use Rattle.ovl_layer.specs.Sheets.{path_of, path_at, last_name}
+use Rattle.ovl_layer.proofs.BuilderLemmas.{pair-taken}
+use Rattle.ovl_layer.proofs.SheetLemmas.{none-past, number-one, last_name-child, entry_at-number}
 use Rattle.ovl_lookup.specs.Stacks.{StackView}
 use Rattle.ovl_lookup.specs.Words.{top_layer, lower_layers, is_at_or_under}
 use Rattle.ovl_lookup.proofs.LawsOfPaths.{last-name, parent_path-child, under-append, under-parts, all-entries, lookup-all}

@@ -10,7 +10,7 @@ use Rattle.ovl_names.specs.Paths.{PathNames, child_path, path_eq, path_cmp}
 use Rattle.ovl_names.proofs.Ascending.{both, not_true}
 use Rattle.ovl_inode.specs.declared.inodes.Inode.{Inode}
 use Rattle.ovl_inode.specs.Marks.{is_directory}
-use Rattle.ovl_manifest.specs.Layers.{Entries, entry_at, is_directory_at, IsLayer}
+use Rattle.ovl_layer.specs.Layers.{Entries, entry_at, is_directory_at, IsLayer}
 use Rattle.ovl_lookup.specs.declared.steps.Step.{Step}
 use Rattle.ovl_lookup.specs.Walk.{mark_at, turn, is_shut, walk, walk_beyond, nothing_found}
 use Rattle.ovl_lookup.specs.Stacks.{StackView}

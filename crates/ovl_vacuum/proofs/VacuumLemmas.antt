@@ -16,7 +16,7 @@ use Rattle.ovl_inode.specs.declared.marks.Redirect.{Redirect}
 use Rattle.ovl_inode.specs.Attributes.{attribute, redirect_name}
 use Rattle.ovl_inode.specs.Redirects.{read_redirect}
 use Rattle.ovl_inode.specs.Marks.{mark_of, is_directory, is_regular, is_whiteout, has_opaque, has_metacopy, redirect_reading, directory_mark, metacopy_mark}
-use Rattle.ovl_manifest.specs.Layers.{Entries, entry_at, is_directory_at, IsLayer}
+use Rattle.ovl_layer.specs.Layers.{Entries, entry_at, is_directory_at, IsLayer}
 use Rattle.ovl_lookup.specs.declared.steps.Step.{Step}
 use Rattle.ovl_lookup.specs.Walk.{mark_at, turn, is_shut, walk, walk_beyond, nothing_found, natural_path}
 use Rattle.ovl_lookup.specs.Stacks.{StackView}

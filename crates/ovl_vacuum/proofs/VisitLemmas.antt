@@ -16,9 +16,9 @@ use Rattle.ovl_inode.specs.declared.marks.Mark.{Mark}
 use Rattle.ovl_inode.specs.declared.marks.Mark.TheVariants.{Whiteout, DirOpaque, DirMoved, DirBad, DirPlain, Meta, MetaBad, Leaf}
 use Rattle.ovl_inode.specs.Inodes.{visible}
 use Rattle.ovl_inode.specs.Marks.{mark_of, is_directory, is_regular, is_whiteout, has_opaque, has_metacopy, redirect_reading, directory_mark, metacopy_mark}
-use Rattle.ovl_manifest.specs.Layers.{Entries, entry_at, is_directory_at, names_below, IsLayer}
-use Rattle.ovl_manifest.specs.Sheets.{path_at, last_name}
-use Rattle.ovl_manifest.proofs.SheetLemmas.{last_name-child}
+use Rattle.ovl_layer.specs.Layers.{Entries, entry_at, is_directory_at, names_below, IsLayer}
+use Rattle.ovl_layer.specs.Sheets.{path_at, last_name}
+use Rattle.ovl_layer.proofs.SheetLemmas.{last_name-child}
 use Rattle.ovl_lookup.specs.declared.looks.Look.{Look}
 use Rattle.ovl_lookup.specs.declared.looks.Look.TheVariants.{Nothing, Shown, Broken}
 use Rattle.ovl_lookup.specs.declared.steps.Step.{Step}

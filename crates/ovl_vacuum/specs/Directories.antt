@@ -8,7 +8,7 @@ use Rattle.std.specs.Map.{lookup}
 use Rattle.ovl_names.specs.Names.{PathName, name_eq, name_cmp}
 use Rattle.ovl_names.specs.Order.{ascends}
 use Rattle.ovl_names.specs.Paths.{PathNames, child_path}
-use Rattle.ovl_manifest.specs.Layers.{entry_at, is_directory_at, names_below}
+use Rattle.ovl_layer.specs.Layers.{entry_at, is_directory_at, names_below}
 use Rattle.ovl_lookup.specs.Stacks.{StackView}
 pub use Rattle.ovl_lookup.specs.Words.{top_layer, lower_layers}
 use Rattle.ovl_board.specs.declared.pieces.Piece.{Piece}

@@ -5,7 +5,7 @@ use Rattle.ovl_names.specs.Paths.{PathNames, parent_path, is_root}
 use Rattle.ovl_inode.specs.declared.marks.Mark.{Mark}
 use Rattle.ovl_inode.specs.declared.marks.Mark.TheVariants.{Whiteout, DirOpaque, DirMoved, DirBad}
 use Rattle.ovl_inode.specs.Marks.{mark_of}
-use Rattle.ovl_manifest.specs.Layers.{Entries, Entry}
+use Rattle.ovl_layer.specs.Layers.{Entries, Entry}
 use Rattle.ovl_lookup.specs.Walk.{walk, natural_path}
 use Rattle.ovl_lookup.specs.Stacks.{StackView}
 use Rattle.ovl_lookup.specs.Merged.{look}

@@ -3,8 +3,8 @@ use Rattle.std.specs.Prelude.{◌≡◌, ◌<◌, ◌||◌, Bool, true, false, n
 use Rattle.ovl_names.specs.Paths.{PathNames}
 use Rattle.ovl_inode.specs.declared.marks.Mark.{Mark}
 use Rattle.ovl_inode.specs.declared.marks.Mark.TheVariants.{Meta, MetaBad}
-use Rattle.ovl_manifest.specs.Layers.{is_directory_at}
-use Rattle.ovl_manifest.specs.Sheets.{path_at}
+use Rattle.ovl_layer.specs.Layers.{is_directory_at}
+use Rattle.ovl_layer.specs.Sheets.{path_at}
 use Rattle.ovl_lookup.specs.declared.views.DirView.{DirView}
 use Rattle.ovl_lookup.specs.Walk.{walk}
 use Rattle.ovl_lookup.specs.Stacks.{StackView}

@@ -1,7 +1,7 @@
 ghost use Rattle.std.specs.Prelude.{◌≡◌, ◌<◌, [], length, map, unwrap_or, IfOk, IfSome, MatchOption};
 ghost use Rattle.ovl_names.specs.Paths.{child_path};
-ghost use Rattle.ovl_manifest.specs.Layers.{names_below};
-ghost use Rattle.ovl_manifest.specs.Sheets.{path_at};
+ghost use Rattle.ovl_layer.specs.Layers.{names_below};
+ghost use Rattle.ovl_layer.specs.Sheets.{path_at};
 ghost use Rattle.ovl_inode.specs.Inodes.{visible as visible_inode};
 ghost use Rattle.ovl_lookup.specs.declared.looks.Look.TheVariants.{Shown};
 ghost use Rattle.ovl_lookup.specs.Equal.{look_eq};
@@ -27,7 +27,7 @@ pub(crate) struct Directory<'a> {
     // The number of its row.
     row: u32,
     // The view of the layers below where its walk goes on; `None` where that is closed, or they show no directory there.
-    below: Option<DirView>,
+    below: Option<DirView<'a>>,
 }
 
 impl<'a> Directory<'a> {
@@ -99,7 +99,7 @@ impl<'a> Directory<'a> {
     fn is_idle(
         &self,
         alloc: Global,
-        whole: &mut Option<DirView>,
+        whole: &mut Option<DirView<'a>>,
         row: u32,
         name: &Name,
     ) -> Result<bool, AllocError>
@@ -144,13 +144,13 @@ fn own_directory<'a>(
 }
 
 // The view of the layers below the topmost one at a path, or where marks turn that to, unless they are hidden there.
-fn view_below(
+fn view_below<'a>(
     alloc: Global,
-    stack: &Stack,
-    path: &Path,
-    turned: Option<Trail<'_>>,
+    stack: &'a Stack,
+    path: &'a Path,
+    turned: Option<Trail<'a>>,
     closed: bool,
-) -> Result<Option<DirView>, AllocError>
+) -> Result<Option<DirView<'a>>, AllocError>
     ensures { IfOk result (IsBelow stack.now (unwrap_or turned.entry path.now) closed) }
 {
     // A stack has a topmost layer.
@@ -159,10 +159,7 @@ fn view_below(
         return Ok(None);
     }
     match turned {
-        Some(next) => {
-            let next = next.path(alloc)?;
-            DirView::of(alloc, stack, 1, &next)
-        }
+        Some(next) => DirView::at(alloc, stack, 1, next),
         None => DirView::of(alloc, stack, 1, path),
     }
 }

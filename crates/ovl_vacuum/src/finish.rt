@@ -2,7 +2,7 @@ ghost use Rattle.std.specs.Prelude.{◌≡◌, ◌<◌, [], Ok, IfOk, length};
 ghost use Rattle.ovl_names.specs.Paths.{child_path};
 ghost use Rattle.ovl_board.specs.Parcels.{parcel_views};
 ghost use Rattle.ovl_lookup.specs.Words.{top_layer, lower_layers};
-ghost use Rattle.ovl_manifest.specs.Builders.{pair_after};
+ghost use Rattle.ovl_layer.specs.Builders.{pair_after};
 ghost use Rattle.ovl_vacuum.specs.Directories.{names_seen, IsVacuumWalk};
 ghost use Rattle.ovl_vacuum.specs.Passes.{idle_flags, gone_flags, names_told, TellsBelow};
 ghost use Rattle.ovl_vacuum.specs.Vacuum.{vacuumed_layer, removed_paths};
@@ -11,8 +11,8 @@ use crate::places::{directory_of, path_in, path_of};
 use crate::works::VacuumWork;
 use ovl_board::Parcel;
 use ovl_inode::{Inode, is_directory};
+use ovl_layer::{Layer, LayerBuilder};
 use ovl_lookup::Stack;
-use ovl_manifest::{Layer, LayerBuilder};
 use ovl_names::{Name, Path};
 use std::alloc::{AllocError, Global};
 

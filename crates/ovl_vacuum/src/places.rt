@@ -1,8 +1,8 @@
 ghost use Rattle.std.specs.Prelude.{◌≡◌, ◌<◌, length, IfOk};
-ghost use Rattle.ovl_manifest.specs.Sheets.{path_at};
+ghost use Rattle.ovl_layer.specs.Sheets.{path_at};
 ghost use Rattle.ovl_names.specs.Paths.{parent_path};
 
-use ovl_manifest::Sheet;
+use ovl_layer::Sheet;
 use ovl_names::Path;
 use std::alloc::{AllocError, Global};
 

@@ -1,16 +1,19 @@
-ghost use Rattle.std.specs.Prelude.{◌≡◌, [], true, option_map, IfOk, IfErr, IfNone};
+ghost use Rattle.std.specs.Prelude.{◌≡◌, [], true, option_map, IfOk, IfErr, IfNone, IfSome};
 ghost use Rattle.ovl_check.specs.Blobs.{blob_views, are_in_order};
+ghost use Rattle.ovl_commands.specs.declared.requests.Command.TheVariants.{Merge};
+ghost use Rattle.ovl_engine.specs.Requests.{request_of};
 ghost use Rattle.ovl_program.specs.Faults.{IsUnread};
-ghost use Rattle.ovl_program.specs.Programs.{IsOfBlobs, IsPerformed, folder_in_parts as the_folder_in_parts};
+ghost use Rattle.ovl_program.specs.Reported.{IsComingDown};
+ghost use Rattle.ovl_program.specs.Programs.{IsOfBlobs, IsPerformed, folder_in_parts as the_folder_in_parts, left_of as the_left_of};
 
-use crate::command_line::options::Line;
 use crate::faults::ProgramFault;
 use crate::files::blob_folder::read_blobs;
 use crate::files::manifests::{SharedFiles, read_files};
 use crate::output::report::write_report;
 use crate::output::status::Ending;
 use crate::runs::in_parts::perform_in_parts;
-use ovl_engine::{Blob, command_of};
+use ovl_command_line::Line;
+use ovl_engine::{Answer, Blob, Command, EngineFault, command_of, merge_down};
 use ovl_pool::OpenGate;
 use std::io::Write;
 use std::rt::Files;
@@ -32,17 +35,54 @@ pub fn perform<
         return perform_in_parts(rt, line, folder, manifests, writer);
     }
     let blobs = blobs_of_line(rt, line)?;
-    let answered = command_of(
-        rt,
-        rt.alloc(),
-        line.what,
-        manifests,
-        line.data_layers,
-        &blobs,
-        line.workers,
-        &OpenGate,
-    );
+    let answered = answer_held(rt, line, manifests, &blobs);
     write_report(rt, answered, &line.out, writer)
+}
+
+// What the line's command gives of these manifests and blobs.
+fn answer_held<R: AllocGlobal + Threads + Wait + Sync>(
+    rt: &R,
+    line: &Line,
+    manifests: Vec<Vec<u8>>,
+    blobs: &[Blob],
+) -> Result<Answer, EngineFault>
+    ensures { IsComingDown (the_left_of line.now.what line.now.down_to)
+        (request_of line.now.what manifests.items line.now.data_layers blobs.now line.now.workers) result }
+{
+    let data_layers = line.data_layers;
+    match left_of(line) {
+        Some(left) => merge_down(
+            rt,
+            rt.alloc(),
+            manifests,
+            data_layers,
+            blobs,
+            left,
+            line.workers,
+            &OpenGate,
+        ),
+        None => command_of(
+            rt,
+            rt.alloc(),
+            line.what,
+            manifests,
+            data_layers,
+            blobs,
+            line.workers,
+            &OpenGate,
+        ),
+    }
+}
+
+/// How many layers the line's merges are to leave, if it asks for that.
+pub(crate) fn left_of(line: &Line) -> Option<usize>
+    ensures left { result ≡ the_left_of line.now.what line.now.down_to }
+    ensures merge { IfSome result (λ _. line.now.what ≡ Merge) }
+{
+    match line.what {
+        Command::Merge => line.down_to,
+        Command::Show | Command::Fsck | Command::Vacuum | Command::Deref | Command::Flatten => None,
+    }
 }
 
 // The folder whose blobs are read in parts, if the line asks for that.

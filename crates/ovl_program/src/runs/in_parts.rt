@@ -1,16 +1,18 @@
 ghost use Rattle.std.specs.Prelude.{◌≡◌, [], Some, IfOk, IfErr, length};
+ghost use Rattle.ovl_commands.specs.declared.requests.Command.TheVariants.{Merge};
 ghost use Rattle.ovl_engine.specs.Requests.{request_of};
 ghost use Rattle.ovl_program.specs.Faults.{IsUnread};
-ghost use Rattle.ovl_program.specs.Reported.{IsComingOver};
-ghost use Rattle.ovl_program.specs.Programs.{IsOfBlobs, IsPerformed, folder_in_parts};
+ghost use Rattle.ovl_program.specs.Reported.{IsComingDownOver, IsComingOver};
+ghost use Rattle.ovl_program.specs.Programs.{IsOfBlobs, IsPerformed, folder_in_parts, left_of as the_left_of};
 
-use crate::command_line::options::Line;
 use crate::faults::ProgramFault;
 use crate::files::folder_in_parts::tell_blobs;
 use crate::files::manifests::SharedFiles;
 use crate::output::report::write_report;
 use crate::output::status::Ending;
-use ovl_engine::{Answer, EngineFault, answer_told, question_of};
+use crate::runs::command::left_of;
+use ovl_command_line::Line;
+use ovl_engine::{Answer, EngineFault, answer_told, merge_down_told, question_down, question_of};
 use ovl_pool::OpenGate;
 use std::io::Write;
 use std::rt::Files;
@@ -36,6 +38,46 @@ pub fn perform_in_parts<R: Files + SharedFiles + AllocGlobal + Threads + Wait + 
 
 // What the line's command gives of these manifests and the blobs of this folder, where it can be told what these are.
 fn answer_in_parts<R: Files + SharedFiles + AllocGlobal + Threads + Wait + Sync>(
+    rt: &R,
+    line: &Line,
+    folder: &String,
+    manifests: Vec<Vec<u8>>,
+) -> Result<Result<Answer, EngineFault>, ProgramFault>
+    requires { folder_in_parts line.now ≡ Some folder.now }
+    ensures coming { IfOk result (IsComingDownOver (the_left_of line.now.what line.now.down_to)
+        (request_of line.now.what manifests.items line.now.data_layers [] line.now.workers)) }
+    ensures fault { IfErr result (λ fault. IsUnread (IsOfBlobs line.now) fault) }
+{
+    match left_of(line) {
+        Some(left) => merged_in_parts(rt, line, folder, manifests, left),
+        None => done_in_parts(rt, line, folder, manifests),
+    }
+}
+
+// The same of merges until so many layers are left.
+fn merged_in_parts<R: Files + SharedFiles + AllocGlobal + Threads + Wait + Sync>(
+    rt: &R,
+    line: &Line,
+    folder: &String,
+    manifests: Vec<Vec<u8>>,
+    left: usize,
+) -> Result<Result<Answer, EngineFault>, ProgramFault>
+    requires { folder_in_parts line.now ≡ Some folder.now }
+    ensures coming { IfOk result (IsComingDownOver (Some left)
+        (request_of Merge manifests.items line.now.data_layers [] line.now.workers)) }
+    ensures fault { IfErr result (λ fault. IsUnread (IsOfBlobs line.now) fault) }
+{
+    let alloc = rt.alloc();
+    let question = match question_down(rt, alloc, manifests, line.data_layers, left, line.workers) {
+        Ok(question) => question,
+        Err(fault) => return Ok(Err(fault)),
+    };
+    let told = tell_blobs(rt, folder.as_str(), &question.names, line.workers)?;
+    Ok(merge_down_told(rt, alloc, question, told, left, line.workers, &OpenGate))
+}
+
+// The same of one command.
+fn done_in_parts<R: Files + SharedFiles + AllocGlobal + Threads + Wait + Sync>(
     rt: &R,
     line: &Line,
     folder: &String,

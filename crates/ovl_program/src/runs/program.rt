@@ -1,11 +1,10 @@
-use crate::command_line::arguments;
-use crate::command_line::options::LineFault;
-use crate::command_line::parser::line;
 use crate::faults::ProgramFault;
 use crate::files::manifests::SharedFiles;
 use crate::output::status::Ending;
+use crate::runs::arguments;
 use crate::runs::command::perform;
 use crate::runs::standard_input::show_input;
+use ovl_command_line::{LineFault, line};
 use ovl_engine::{EngineFault, emit};
 use std::io;
 use std::rt::{Env, Files};

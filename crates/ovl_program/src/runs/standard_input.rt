@@ -4,11 +4,11 @@ ghost use Rattle.ovl_engine.specs.declared.faults.EngineFault.TheVariants.{Memor
 ghost use Rattle.ovl_program.specs.declared.faults.ProgramFault.TheVariants.{Input, Output, Engine};
 ghost use Rattle.ovl_program.specs.Reported.{IsComing, IsReported, input_request};
 
-use crate::command_line::commands::DEFAULT_WORKERS;
 use crate::faults::ProgramFault;
 use crate::files::reads::{INPUT_LIMIT, read_all};
 use crate::output::report::write_report;
 use crate::output::status::Ending;
+use ovl_command_line::DEFAULT_WORKERS;
 use ovl_engine::{Command, command_of};
 use ovl_pool::OpenGate;
 use std::io::{Read, Write};

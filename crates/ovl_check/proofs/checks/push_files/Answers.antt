@@ -1,7 +1,7 @@
 use Rattle.std.proofs.Common.{◌≡◌, ◌∙◌, ◌++◌, arith, Bool, Some, List, length, get_or, sym, ap, subst, take_all}
 use Rattle.std.specs.List.{flat_map}
 use Rattle.ovl_names.specs.Paths.{child_path}
-use Rattle.ovl_manifest.specs.Layers.{entry_at}
+use Rattle.ovl_layer.specs.Layers.{entry_at}
 use Rattle.ovl_check.specs.declared.directories.Child.{Child}
 use Rattle.ovl_check.specs.declared.findings.Finding.{Finding}
 use Rattle.ovl_check.specs.Checks.{layer_at}

@@ -2,7 +2,7 @@ use Rattle.std.proofs.Common.{◌∙◌, [], ap, map, List, ℕ, take_all, arith
 use Rattle.std.specs.List.{flat_map}
 use Rattle.ovl_names.specs.Names.{PathName}
 use Rattle.ovl_inode.specs.declared.inodes.Inode.{Inode}
-use Rattle.ovl_manifest.specs.Sheets.{path_at}
+use Rattle.ovl_layer.specs.Sheets.{path_at}
 use Rattle.ovl_check.specs.Facts.{child_seen, seen_at}
 use Rattle.ovl_check.proofs.HeldLemmas.{held-numbers}
 use Rattle.ovl_check.proofs.ListFacts.{flat-more}

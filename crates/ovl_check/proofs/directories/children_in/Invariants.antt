@@ -1,6 +1,6 @@
 use Rattle.std.proofs.Common.{◌≡◌, map, take, All}
 use Rattle.std.specs.List.{flat_map}
-use Rattle.ovl_manifest.specs.Sheets.{path_at}
+use Rattle.ovl_layer.specs.Sheets.{path_at}
 use Rattle.ovl_check.specs.Facts.{child_seen, seen_at, IsMarked}
 use Rattle.ovl_check.proofs.directories.children_in.Given as goal
 

@@ -1,6 +1,6 @@
 use Rattle.std.proofs.Common.{All, sym, subst}
 use Rattle.std.proofs.lemmas.List.Elements.{All-push}
-use Rattle.ovl_manifest.specs.Sheets.{path_at}
+use Rattle.ovl_layer.specs.Sheets.{path_at}
 use Rattle.ovl_check.specs.Facts.{IsMarked}
 use Rattle.ovl_check.proofs.HeldLemmas.{marked-row}
 use Rattle.ovl_check.proofs.directories.push_child.Goals as goal

@@ -3,7 +3,7 @@ use Rattle.std.specs.Option.{option_map}
 use Rattle.ovl_names.specs.Paths.{PathNames, is_root}
 use Rattle.ovl_inode.specs.declared.marks.Mark.{Mark}
 use Rattle.ovl_inode.specs.Marks.{mark_of}
-use Rattle.ovl_manifest.specs.Layers.{entry_at}
+use Rattle.ovl_layer.specs.Layers.{entry_at}
 use Rattle.ovl_check.proofs.GatherLemmas.{root-told, mark-root, mark-below}
 use Rattle.ovl_check.proofs.places.mark_in.Goals as goal
 

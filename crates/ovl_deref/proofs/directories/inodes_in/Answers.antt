@@ -1,8 +1,8 @@
 use Rattle.std.proofs.Common.{◌≡◌, ◌∙◌, ◌<◌, ℕ, true, [], length, ap, subst}
 use Rattle.std.proofs.lemmas.Result.{IfOk-weaker}
 use Rattle.ovl_names.specs.Paths.{PathNames}
-use Rattle.ovl_manifest.specs.Layers.{Entries, names_below}
-use Rattle.ovl_manifest.proofs.NodeLemmas.{names_below-under}
+use Rattle.ovl_layer.specs.Layers.{Entries, names_below}
+use Rattle.ovl_layer.proofs.NodeLemmas.{names_below-under}
 use Rattle.ovl_lookup.specs.Stacks.{StackView}
 use Rattle.ovl_lookup.specs.Words.{top_layer}
 use Rattle.ovl_deref.specs.Directories.{is_at_moved}

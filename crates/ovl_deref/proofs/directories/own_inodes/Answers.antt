@@ -1,8 +1,8 @@
 use Rattle.std.proofs.Common.{◌∙◌, List, ℕ, ap, arith, length, take_all}
 use Rattle.std.specs.List.{filter_map}
 use Rattle.ovl_names.specs.Paths.{PathNames}
-use Rattle.ovl_manifest.specs.Layers.{Entries, names_below}
-use Rattle.ovl_manifest.specs.Sheets.{path_at}
+use Rattle.ovl_layer.specs.Layers.{Entries, names_below}
+use Rattle.ovl_layer.specs.Sheets.{path_at}
 use Rattle.ovl_lookup.specs.Words.{top_layer}
 use Rattle.ovl_deref.specs.Visits.{named_at}
 use Rattle.ovl_deref.proofs.VisitLemmas.{rows-below, each-kid, rows-listed, kept-more}

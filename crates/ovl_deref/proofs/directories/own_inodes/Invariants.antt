@@ -1,7 +1,7 @@
 use Rattle.std.proofs.Common.{◌≡◌, take}
 use Rattle.std.specs.Prelude.{IfSome}
 use Rattle.std.specs.List.{filter_map}
-use Rattle.ovl_manifest.specs.Sheets.{path_at}
+use Rattle.ovl_layer.specs.Sheets.{path_at}
 use Rattle.ovl_lookup.specs.DirViews.{IsViewOf}
 use Rattle.ovl_lookup.specs.Words.{top_layer}
 use Rattle.ovl_deref.specs.Visits.{named_at}

@@ -3,8 +3,8 @@ use Rattle.std.specs.Option.{option_map}
 use Rattle.ovl_names.specs.Names.{PathName}
 use Rattle.ovl_names.specs.Paths.{PathNames, child_path}
 use Rattle.ovl_inode.specs.Marks.{mark_of}
-use Rattle.ovl_manifest.specs.Layers.{Entries, entry_at}
-use Rattle.ovl_manifest.specs.Sheets.{path_at}
+use Rattle.ovl_layer.specs.Layers.{Entries, entry_at}
+use Rattle.ovl_layer.specs.Sheets.{path_at}
 use Rattle.ovl_lookup.specs.Sound.{is_moved}
 use Rattle.ovl_deref.specs.declared.directories.OwnPlace.TheVariants.{Moved, Row, Absent}
 use Rattle.ovl_deref.specs.Directories.{is_at_moved}

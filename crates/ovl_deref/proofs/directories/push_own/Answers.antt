@@ -3,8 +3,8 @@ use Rattle.std.proofs.lemmas.List.{append-nil}
 use Rattle.ovl_names.specs.Names.{PathName}
 use Rattle.ovl_names.specs.Paths.{PathNames}
 use Rattle.ovl_inode.specs.declared.inodes.Inode.{Inode}
-use Rattle.ovl_manifest.specs.Layers.{Entries}
-use Rattle.ovl_manifest.specs.Sheets.{path_at, last_name}
+use Rattle.ovl_layer.specs.Layers.{Entries}
+use Rattle.ovl_layer.specs.Sheets.{path_at, last_name}
 use Rattle.ovl_lookup.specs.Words.{top_layer}
 use Rattle.ovl_rewrite.specs.Directories.{NamedInode}
 use Rattle.ovl_deref.proofs.VisitLemmas.{row-entry, none-named, named-own}

@@ -1,7 +1,7 @@
 use Rattle.std.proofs.Common.{ℕ, ◌<◌, length, subst}
 use Rattle.std.specs.Prelude.{All}
 use Rattle.std.proofs.lemmas.Result.{IfOk-weaker}
-use Rattle.ovl_manifest.specs.Layers.{Entries, IsLayer}
+use Rattle.ovl_layer.specs.Layers.{Entries, IsLayer}
 use Rattle.ovl_lookup.specs.Stacks.{StackView}
 use Rattle.ovl_lookup.specs.Words.{top_layer, lower_layers}
 use Rattle.ovl_board.specs.Parcels.{parcel_views}

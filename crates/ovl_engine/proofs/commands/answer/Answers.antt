@@ -1,5 +1,5 @@
 use Rattle.std.proofs.Common.{sym, subst}
-use Rattle.ovl_engine.specs.declared.requests.Command.{Command}
+use Rattle.ovl_commands.specs.declared.requests.Command.{Command}
 use Rattle.ovl_engine.specs.Outcomes.{IsRun, MayRefuseOwn}
 use Rattle.ovl_engine.proofs.commands.answer.Goals as goal
 

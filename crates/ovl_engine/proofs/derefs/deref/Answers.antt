@@ -1,6 +1,6 @@
 use Rattle.std.proofs.Common.{◌<◌, ℕ, [], ◌∷◌, refl, subst}
 use Rattle.std.proofs.lemmas.Result.{err_from_is_err_and}
-use Rattle.ovl_engine.specs.declared.requests.Command.TheVariants.{Deref}
+use Rattle.ovl_commands.specs.declared.requests.Command.TheVariants.{Deref}
 use Rattle.ovl_engine.specs.Outcomes.{MayRefuseOwn}
 use Rattle.ovl_engine.proofs.OutcomeLemmas.{unclean}
 use Rattle.ovl_engine.proofs.KeptLemmas.{keeps_tree, keeps_soundness, deref_same, deref_sound}

@@ -1,5 +1,5 @@
 use Rattle.std.proofs.lemmas.Result.{err_from_is_err_and}
-use Rattle.ovl_engine.specs.declared.requests.Command.TheVariants.{Deref}
+use Rattle.ovl_commands.specs.declared.requests.Command.TheVariants.{Deref}
 use Rattle.ovl_engine.specs.Outcomes.{MayRefuseOwn}
 use Rattle.ovl_engine.proofs.OutcomeLemmas.{unwalked}
 use Rattle.ovl_engine.proofs.derefs.dereferenced.Goals as goal

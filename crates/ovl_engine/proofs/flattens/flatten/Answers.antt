@@ -1,7 +1,7 @@
 use Rattle.std.proofs.Common.{[], ◌∷◌, refl}
 use Rattle.std.proofs.lemmas.Result.{err_from_is_err_and}
 use Rattle.ovl_check.specs.Findings.{findings}
-use Rattle.ovl_engine.specs.declared.requests.Command.TheVariants.{Flatten}
+use Rattle.ovl_commands.specs.declared.requests.Command.TheVariants.{Flatten}
 use Rattle.ovl_engine.specs.Outcomes.{MayRefuseOwn}
 use Rattle.ovl_engine.proofs.OutcomeLemmas.{unclean}
 use Rattle.ovl_engine.proofs.KeptLemmas.{clean-faultless, keeps_whole_tree, whole_soundness, whole_quiet}

@@ -5,7 +5,7 @@ use Rattle.std.proofs.lemmas.Grind.{div_ceil_times}
 use Rattle.std.proofs.lemmas.List.{take_all}
 use Rattle.ovl_check.specs.declared.findings.Finding.{Finding}
 use Rattle.ovl_engine.specs.FsckReports.{finding_line, fault_count, note_count}
-use Rattle.ovl_engine.proofs.ShareLemmas.{shares_told}
+use Rattle.ovl_reports.proofs.ShareLemmas.{shares_told}
 use Rattle.ovl_engine.proofs.fsck_reports.fsck_report_by.Goals as goal
 
 pub returns : goal.returns

@@ -1,9 +1,9 @@
 use Rattle.std.proofs.Common.{◌∙◌, [], ◌∷◌, Ok, refl, ap}
 use Rattle.std.proofs.lemmas.Result.{err_from_is_err_and}
-use Rattle.ovl_manifest.specs.Layers.{Entries}
+use Rattle.ovl_layer.specs.Layers.{Entries}
 use Rattle.ovl_merge.specs.Places.{merge_of}
 use Rattle.ovl_merge.specs.MergeDown.{merged_top}
-use Rattle.ovl_engine.specs.declared.requests.Command.TheVariants.{Merge}
+use Rattle.ovl_commands.specs.declared.requests.Command.TheVariants.{Merge}
 use Rattle.ovl_engine.specs.Outcomes.{MayRefuseOwn}
 use Rattle.ovl_engine.proofs.OutcomeLemmas.{unclean}
 use Rattle.ovl_engine.proofs.KeptLemmas.{keeps_tree, merge_same}
@@ -23,6 +23,18 @@ returns-clause-tree g c =
     (c.in_ok-rewritten.ensures.back ∙ ap (λ (top : Entries). Ok top ∷ Ok lower ∷ []) c.in_ok-top.ensures.top) c.requires.several
     (merge_same stack c.ordinary-layers.ensures.each c.merge_keeps_the_tree.ensures c.requires.several (c.requires.sound c.in_ok-expect_clean.ensures.clean)
     lower c.in_ok-rewritten.ensures.report.1 c.in_ok-top.ensures.lower) Merge refl
+
+pub returns-clause-two : goal.returns-clause-two
+returns-clause-two g c =
+    let stack = c.args.stack in
+    let lower = c.in_ok-top.field-0.lower in
+    record {
+      top = merged_top (merge_of stack);
+      lower = lower;
+      read = c.in_ok-rewritten.ensures.back ∙ ap (λ (top : Entries). Ok top ∷ Ok lower ∷ []) c.in_ok-top.ensures.top;
+      same = merge_same stack c.ordinary-layers.ensures.each c.merge_keeps_the_tree.ensures c.requires.several (c.requires.sound c.in_ok-expect_clean.ensures.clean)
+          lower c.in_ok-rewritten.ensures.report.1 c.in_ok-top.ensures.lower;
+    }
 
 pub returns-in_err-top-clause-outcome : goal.returns-in_err-top-clause-outcome
 returns-in_err-top-clause-outcome g c =

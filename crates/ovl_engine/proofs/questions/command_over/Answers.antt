@@ -1,7 +1,7 @@
 use Rattle.std.proofs.Common.{◌≡◌, [], Ok, Err, true, sym, subst}
 use Rattle.std.proofs.lemmas.Result.{err_from_is_err_and}
-use Rattle.ovl_engine.specs.declared.requests.Command.{Command}
-use Rattle.ovl_engine.specs.Commands.{makes_layers, stays_sound, stands_alone}
+use Rattle.ovl_commands.specs.declared.requests.Command.{Command}
+use Rattle.ovl_commands.specs.Commands.{makes_layers, stays_sound, stands_alone}
 use Rattle.ovl_engine.specs.Requests.{Request, request_of}
 use Rattle.ovl_engine.proofs.LawsOfTold.{outcome_told, run_told}
 use Rattle.ovl_engine.proofs.questions.command_over.Goals as goal

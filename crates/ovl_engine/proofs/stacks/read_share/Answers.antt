@@ -1,6 +1,7 @@
 use Rattle.std.proofs.Common.{◌≡◌, ◌∙◌, ◌++◌, ◌∷◌, List, ℕ, sym, ap, subst, Ok, map, length, arith, length-append}
 use Rattle.std.specs.Vec.Iter.{into_iter_items}
-use Rattle.ovl_manifest.specs.Manifest.{read_layer, IsFaultOf}
+use Rattle.ovl_manifest.specs.Manifest.{read_layer}
+use Rattle.ovl_layer.specs.Entries.{IsFaultOf}
 use Rattle.ovl_engine.specs.Refusals.{layers_from}
 use Rattle.ovl_engine.proofs.ManifestLemmas.{counted_by, further, fails_here, taken, told}
 use Rattle.ovl_engine.proofs.stacks.read_share.Goals as goal

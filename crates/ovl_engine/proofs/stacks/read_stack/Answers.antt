@@ -1,6 +1,6 @@
 use Rattle.std.proofs.Common.{◌≡◌, ◌∙◌, ◌-◌, ◌*◌, ◌≤◌, ℕ, List, map, take, drop, length, sym, ap, subst, arith, length-drop, length-take-le}
 use Rattle.std.proofs.lemmas.Grind.{div_ceil_times}
-use Rattle.ovl_manifest.specs.Layers.{Entries}
+use Rattle.ovl_layer.specs.Layers.{Entries}
 use Rattle.ovl_lookup.specs.Stacks.{layer_limit, stack_with}
 use Rattle.ovl_engine.proofs.ManifestLemmas.{all_read, all_stated, counted_by, some_share}
 use Rattle.ovl_engine.proofs.OutcomeLemmas.{not_refused}

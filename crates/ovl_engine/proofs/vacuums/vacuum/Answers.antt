@@ -1,7 +1,7 @@
 use Rattle.std.proofs.Common.{◌∙◌, ◌<◌, ℕ, [], ◌∷◌, Ok, refl, ap, subst}
 use Rattle.std.proofs.lemmas.Result.{err_from_is_err_and}
-use Rattle.ovl_manifest.specs.Layers.{Entries}
-use Rattle.ovl_engine.specs.declared.requests.Command.TheVariants.{Vacuum}
+use Rattle.ovl_layer.specs.Layers.{Entries}
+use Rattle.ovl_commands.specs.declared.requests.Command.TheVariants.{Vacuum}
 use Rattle.ovl_engine.specs.Outcomes.{MayRefuseOwn, left_by_vacuum}
 use Rattle.ovl_engine.proofs.OutcomeLemmas.{unclean, unwalked}
 use Rattle.ovl_engine.proofs.KeptLemmas.{keeps_tree, keeps_soundness, vacuum_same, vacuum_sound}

@@ -31,8 +31,8 @@ returns-then-len-gt-MEMBER_LIMIT c =
     let many : member_limit < members_len found = omega (arith, count_kept found c.insert.new.self.entries are, c.len.ensures.len, c.if-len-gt-MEMBER_LIMIT.true) in
     let all : read_members c.args.depth no_members c.args.reader.now ≡ read_members c.args.depth found c.read_member.new.reader =
     sym l.invariant.1 ∙ (turn.more ∙ ap (read_members c.args.depth found) own.0) in
-    subst (λ o. IsSomeAnd o (λ read. (read.1 ≡ c.pass_members.new.reader) × (None ≡ object_kept (object read.0)))) (sym all)
-    (too_many c.args.depth found c.read_member.new.reader c.pass_members.new.reader many (sym (ap is_some all) ∙ c.requires) c.in_ok-pass_members.ensures.value)
+    subst (λ o. IsSomeAnd o (λ read. (read.1 ≡ c.skip_members.new.reader) × (None ≡ object_kept (object read.0)))) (sym all)
+    (too_many c.args.depth found c.read_member.new.reader c.skip_members.new.reader many (sym (ap is_some all) ∙ c.requires) c.in_ok-skip_members.ensures.value)
 
 pub loop-members-smaller : goal.loop-members-smaller
 loop-members-smaller c =

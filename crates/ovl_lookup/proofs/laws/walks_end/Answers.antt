@@ -1,6 +1,6 @@
 use Rattle.std.proofs.Common.{refl}
 use Rattle.ovl_names.specs.Paths.{child_path}
-use Rattle.ovl_manifest.specs.Layers.{entry_at}
+use Rattle.ovl_layer.specs.Layers.{entry_at}
 use Rattle.ovl_lookup.proofs.LawsOfWalks.{walk-child_end}
 use Rattle.ovl_lookup.proofs.laws.walks_end.Goals as goal
 

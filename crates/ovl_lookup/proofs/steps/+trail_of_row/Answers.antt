@@ -1,6 +1,6 @@
 use Rattle.std.proofs.Common.{◌≡◌, sym, ◌∙◌, subst, arith, IfOk}
 use Rattle.ovl_names.specs.Paths.{PathNames, child_path}
-use Rattle.ovl_manifest.specs.Layers.{Entries}
+use Rattle.ovl_layer.specs.Layers.{Entries}
 use Rattle.ovl_lookup.proofs.RowLemmas.{row-root, row-child, row-inside, row-deeper}
 use Rattle.ovl_lookup.proofs.steps.+trail_of_row.Goals as goal
 

@@ -3,7 +3,7 @@ use Rattle.std.proofs.lemmas.List.{length_push}
 use Rattle.ovl_names.specs.Names.{PathName}
 use Rattle.ovl_names.specs.Paths.{PathNames, child_path}
 use Rattle.ovl_inode.specs.declared.marks.Mark.TheVariants.{DirPlain}
-use Rattle.ovl_manifest.specs.Layers.{Entries, is_directory_at}
+use Rattle.ovl_layer.specs.Layers.{Entries, is_directory_at}
 use Rattle.ovl_lookup.specs.Passes.{IsNumberAt, IsOwnDirectory}
 use Rattle.ovl_lookup.proofs.LawsOfWalks.{directory_found, none-is}
 use Rattle.ovl_lookup.proofs.WalkFacts.{plain-entered, root-own, sought, length-seam}

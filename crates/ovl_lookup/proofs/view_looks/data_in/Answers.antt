@@ -1,3 +1,4 @@
+use Rattle.std.specs.Option.{option_map}
 use Rattle.std.proofs.Common.{◌≡◌, ◌+◌, ◌∙◌, Some, None, Option, List, IfOk, drop, length, sym, ap, subst, arith}
 use Rattle.ovl_names.specs.Names.{PathName}
 use Rattle.ovl_names.specs.Paths.{PathNames}
@@ -24,8 +25,7 @@ returns-then-is_whiteout c =
 
 pub returns-then-is_data : goal.returns-then-is_data
 returns-then-is_data c =
-    ap (λ (found : Inode). Some found) c.in_ok-copy.ensures
-    ∙ sym (sym c.loop-place.invariant ∙ data-holds c.args.stack.now c.loop-place.own.now c.args.places.now c.loop-place.place-index c.loop-place-test.true c.in-Some.entry c.in-Some.ensures (sym c.is_whiteout.ensures ∙ c.if-is_whiteout.false) (sym c.is_data.ensures ∙ c.if-is_data.true))
+    sym (sym c.loop-place.invariant ∙ data-holds c.args.stack.now c.loop-place.own.now c.args.places.now c.loop-place.place-index c.loop-place-test.true c.in-Some.entry c.in-Some.ensures (sym c.is_whiteout.ensures ∙ c.if-is_whiteout.false) (sym c.is_data.ensures ∙ c.if-is_data.true))
 
 pub returns-then-not-is_well_formed_metacopy : goal.returns-then-not-is_well_formed_metacopy
 returns-then-not-is_well_formed_metacopy c =
@@ -53,7 +53,7 @@ returns-in-At c =
     let onward = metacopy-holds c.args.stack.now c.loop-place.own.now c.args.places.now c.loop-place.place-index c.loop-place-test.true c.in-Some.entry c.in-Some.ensures (sym c.is_whiteout.ensures ∙ c.if-is_whiteout.false) (sym c.is_well_formed_metacopy.ensures ∙ c.if-not-is_well_formed_metacopy.false) in
     let same = ap (λ (p : PathNames). data_below stack.data_only (Some origin) (from_root p)) (c.in_ok-trail-in-At.ensures ∙ c.names.ensures.value)
     ∙ sym (sym c.loop-place.invariant ∙ (onward ∙ onward-placed stack.data_only mark (Some origin) _ _ (sym c.is_well_formed_metacopy.ensures ∙ c.if-not-is_well_formed_metacopy.false) (sym c.in-At.ensures.at) (on-path c.loop-place.own.now from_root (λ other. found_below stack.layers other (drop (k + 1) (places_in stack places))) mark origin (sym c.in-At.ensures.at)))) in
-    subst (λ (wanted : Option Inode). IfOk c.data.result (λ found. found ≡ wanted)) same c.data.ensures
+    subst (λ (wanted : Option Inode). IfOk c.data.result (λ found. option_map (λ inode. inode.now) found ≡ wanted)) same c.data.ensures
 
 pub returns-in-Nowhere : goal.returns-in-Nowhere
 returns-in-Nowhere c =

@@ -53,9 +53,10 @@ returns-in-At c =
     let step = below-step stack name places c.loop-place.place-index c.loop-place-test.true c.in-Some.entry c.in-Some.ensures (sym c.is_directory.ensures ∙ c.if-not-is_directory.false) c.args.below.now.items c.loop-place.below.items c.push.new.self.items in
     let origin : PathNames = c.in-At.origin.now in
     let rest : List Reached = let own : DirPlace = place_read places c.loop-place.place-index in reached (drop (own.layer + 1) stack.layers) (own.layer + 1) origin in
+    let from_root : PathNames → List Reached = λ path. let own : DirPlace = place_read places c.loop-place.place-index in places_in stack c.push.new.self.items ++ reached (drop (own.layer + 1) stack.layers) (own.layer + 1) path in
     on_ok_weaker c.push_reached.result
     (λ adds. record {
-      places = adds.places ∙ step rest more pushes (on-path name _ _ c.in-Some.entry.mark.now origin (sym c.in-At.ensures.at)) c.loop-place.invariant.places;
+      places = adds.places ∙ ap from_root (c.in_ok-trail-in-At.ensures ∙ c.names.ensures.value) ∙ step rest more pushes (on-path name _ _ c.in-Some.entry.mark.now origin (sym c.in-At.ensures.at)) c.loop-place.invariant.places;
       over = λ all. adds.over (over all);
     }) c.push_reached.ensures
 

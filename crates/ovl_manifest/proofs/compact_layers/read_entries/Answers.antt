@@ -3,9 +3,9 @@ use Rattle.std.specs.Prelude.{◌&&◌}
 use Rattle.std.specs.List.{list_all}
 use Rattle.std.proofs.lemmas.List.Folds.{list_all-append}
 use Rattle.serde_json.specs.Written.{items_text}
-use Rattle.ovl_manifest.specs.Layers.{Entry, Entries}
+use Rattle.ovl_layer.specs.Layers.{Entry, Entries}
 use Rattle.ovl_manifest.specs.Text.{entry_items}
-use Rattle.ovl_manifest.specs.SheetDrafts.{drafted, last_path}
+use Rattle.ovl_layer.specs.SheetDrafts.{drafted, last_path}
 use Rattle.ovl_manifest.specs.Versions.{depth_of, is_stated_by}
 use Rattle.ovl_manifest.specs.Compact.{entries_text}
 use Rattle.ovl_manifest.proofs.CompactLemmas.{some-taken, none-taken, entries-onto, items-entries}

@@ -1,10 +1,10 @@
 use Rattle.std.proofs.Common.{◌≡◌, ◌<◌, ◌-◌, ◌≤◌, ◌++◌, true, false, length}
 use Rattle.std.specs.List.{list_all}
 use Rattle.std.specs.Cow.{cow_str_bytes}
-use Rattle.ovl_manifest.specs.Layers.{entry_limit}
+use Rattle.ovl_layer.specs.Layers.{entry_limit}
 use Rattle.ovl_manifest.specs.Versions.{is_stated_by}
-use Rattle.ovl_manifest.specs.TextPaths.{slashed, AreEnds}
-use Rattle.ovl_manifest.specs.SheetDrafts.{drafted, last_path, IsSheetDraft}
+use Rattle.ovl_layer.specs.TextPaths.{slashed, AreEnds}
+use Rattle.ovl_layer.specs.SheetDrafts.{drafted, last_path, IsSheetDraft}
 use Rattle.ovl_manifest.specs.Compact.{entries_text}
 use Rattle.ovl_manifest.proofs.compact_layers.read_entries.Given as goal
 

@@ -3,7 +3,7 @@ use Rattle.std.specs.Prelude.{codes, MatchOption}
 use Rattle.std.specs.List.{list_all}
 use Rattle.std.specs.Str.{IsUtf8}
 use Rattle.serde_json.specs.Written.{compact_text}
-use Rattle.ovl_manifest.specs.Layers.{Entries, IsLayer}
+use Rattle.ovl_layer.specs.Layers.{Entries, IsLayer}
 use Rattle.ovl_manifest.specs.Manifest.{read_layer}
 use Rattle.ovl_manifest.specs.Versions.{is_stated_by}
 use Rattle.ovl_manifest.specs.declared.versions.Version.{Version}

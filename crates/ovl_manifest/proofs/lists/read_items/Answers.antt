@@ -5,8 +5,8 @@ use Rattle.json.specs.Reads.{skip_items}
 use Rattle.serde_json.specs.Data.{item}
 use Rattle.serde_json.specs.Read.{of_items}
 use Rattle.ovl_json.specs.Reading.{read_items}
-use Rattle.ovl_json.proofs.Turns.{item_turn, item_end, passed}
-use Rattle.ovl_manifest.specs.Layers.{entry_limit}
+use Rattle.ovl_json.proofs.Turns.{item_turn, item_end, end_of_skipped}
+use Rattle.ovl_layer.specs.Layers.{entry_limit}
 use Rattle.ovl_manifest.specs.Fields.{entry_of}
 use Rattle.ovl_manifest.specs.Lists.{made, entry_on, IsProgress, item_depth}
 use Rattle.ovl_manifest.proofs.ListLemmas.{told, told-one, told-end, some-list, nothing_at_end, made_at_end, refused_at_end, too_many_items}
@@ -52,12 +52,12 @@ returns-then-count-eq-ENTRY_LIMIT c =
     let l = c.loop-alloc in
     let going : (after_end_array l.reader ≡ None) × (c.take_end_array.new.self ≡ l.reader) = grind arith in
     let turn = item_turn item_depth l.reader going.0 l.invariant.some in
-    let rest = c.pass_items.new.reader in
+    let rest = c.skip_items.new.reader in
     let full : l.count ≡ entry_limit = c.if-count-eq-ENTRY_LIMIT.true in
     let same : told c.args.version 0 (Ok []) (read_items item_depth c.args.reader.now) ≡ told c.args.version entry_limit (made l.progress) (parse_map (item turn.one.datum) (read_items item_depth turn.one.rest)) =
     l.invariant.same ∙ (ap (λ n. told c.args.version n (made l.progress) (read_items item_depth l.reader)) full ∙ ap (told c.args.version entry_limit (made l.progress)) turn.more) in
-    let skipped : skip_items item_depth l.reader ≡ Some rest = rw (← going.1) c.in_ok-pass_items.ensures.value in
-    let ended = passed of_items (items (value item_depth) (length l.reader) l.reader) rest skipped l.invariant.some in
+    let skipped : skip_items item_depth l.reader ≡ Some rest = rw (← going.1) c.in_ok-skip_items.ensures.value in
+    let ended = end_of_skipped of_items (items (value item_depth) (length l.reader) l.reader) rest skipped l.invariant.some in
     too_many_items c.args.version (read_items item_depth c.args.reader.now) (read_items item_depth turn.one.rest) (made l.progress) turn.one.datum rest same (subst (λ o. IsSomeAnd o (λ read. read.1 ≡ rest)) turn.more ended)
 
 pub returns-in-Nothing : goal.returns-in-Nothing

@@ -1,7 +1,7 @@
 use Rattle.std.proofs.Common.{◌≡◌, ◌≤◌, true, Ok, [], length}
 use Rattle.std.specs.Prelude.{is_some}
 use Rattle.ovl_json.specs.Reading.{read_items}
-use Rattle.ovl_manifest.specs.Layers.{entry_limit}
+use Rattle.ovl_layer.specs.Layers.{entry_limit}
 use Rattle.ovl_manifest.specs.Lists.{made, IsProgress, item_depth}
 use Rattle.ovl_manifest.proofs.ListLemmas.{told}
 use Rattle.ovl_manifest.proofs.lists.read_items.Given as goal

@@ -1,13 +1,13 @@
 use Rattle.std.proofs.Common.{◌≡◌, ◌+◌, Ok, length, subst}
 use Rattle.ovl_json.specs.Reading.{read_value}
-use Rattle.ovl_manifest.specs.Drafts.{draft_entries, IsDraft}
+use Rattle.ovl_layer.specs.Drafts.{draft_entries, IsDraft}
 use Rattle.ovl_manifest.specs.Lists.{made, IsProgress, item_depth}
-use Rattle.ovl_manifest.specs.Manifest.{entry_after}
+use Rattle.ovl_layer.specs.Entries.{entry_after}
 use Rattle.ovl_manifest.proofs.ListLemmas.{progress-ok, first-ok, item-made, item_statable}
 use Rattle.ovl_manifest.proofs.lists.with_item.Goals as goal
 
-pub start-requires : goal.start-requires
-start-requires c = item_statable c.args.version (read_value item_depth c.args.reader.now) c.read_item.new.reader c.in_ok-entry-in-Nothing.entry c.in_ok-entry-in-Nothing.ensures
+pub start_draft-requires : goal.start_draft-requires
+start_draft-requires c = item_statable c.args.version (read_value item_depth c.args.reader.now) c.read_item.new.reader c.in_ok-entry-in-Nothing.entry c.in_ok-entry-in-Nothing.ensures
 
 pub with_entry-requires-clause-stated : goal.with_entry-requires-clause-stated
 with_entry-requires-clause-stated c = item_statable c.args.version (read_value item_depth c.args.reader.now) c.read_item-in-Made.new.reader c.in_ok-entry-in-Made.entry c.in_ok-entry-in-Made.ensures

@@ -1,8 +1,8 @@
 use Rattle.std.proofs.Common.{◌∙◌, ◌++◌, ◌∷◌, [], ℕ, List, sym, ap, subst}
 use Rattle.ovl_names.specs.Paths.{child_path}
 use Rattle.std.proofs.Common.{take}
-use Rattle.ovl_manifest.specs.TextPaths.{AreEnds}
-use Rattle.ovl_manifest.proofs.WayLemmas.{ends-on}
+use Rattle.ovl_layer.specs.TextPaths.{AreEnds}
+use Rattle.ovl_layer.proofs.WayLemmas.{ends-on}
 use Rattle.ovl_manifest.proofs.text_paths.go_on.Goals as goal
 
 pub returns : goal.returns

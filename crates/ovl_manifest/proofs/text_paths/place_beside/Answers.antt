@@ -7,9 +7,9 @@ use Rattle.std.proofs.lemmas.Option.{slice_get-get_or}
 use Rattle.std.proofs.lemmas.Slice.Eq.{strip_prefix_is}
 use Rattle.std.proofs.lemmas.Str.Pattern.{strip_prefix_char}
 use Rattle.ovl_names.specs.Names.{slash}
-use Rattle.ovl_manifest.specs.TextPaths.{slashed}
-use Rattle.ovl_manifest.proofs.SheetLemmas.{some-same}
-use Rattle.ovl_manifest.proofs.WayLemmas.{slashed-child, slashed-front}
+use Rattle.ovl_layer.specs.TextPaths.{slashed}
+use Rattle.ovl_layer.proofs.SheetLemmas.{some-same}
+use Rattle.ovl_layer.proofs.WayLemmas.{slashed-child, slashed-front}
 use Rattle.ovl_manifest.proofs.text_paths.place_beside.Goals as goal
 
 pub returns : goal.returns

@@ -1,4 +1,4 @@
-use Rattle.std.proofs.Common.{◌≡◌, ℕ, ◌∷◌, [], ◌++◌, ◌∙◌, List, true, take, sym, ap, append_assoc, string_bytes}
+use Rattle.std.proofs.Common.{◌≡◌, ℕ, ◌∷◌, [], ◌++◌, ◌∙◌, List, true, length, take, sym, ap, arith, append_assoc, string_bytes}
 use Rattle.std.specs.Prelude.{codes}
 use Rattle.std.proofs.lemmas.List.Concat.{flat_map-append}
 use Rattle.std.proofs.lemmas.List.{append-nil, take_all}
@@ -7,12 +7,12 @@ use Rattle.ovl_names.specs.Names.{slash}
 use Rattle.ovl_names.specs.Paths.{PathNames, child_path, path_text}
 use Rattle.ovl_inode.specs.declared.inodes.Inode.{Inode}
 use Rattle.ovl_manifest.specs.Compact.{entries_text}
-use Rattle.ovl_manifest.specs.Layers.{Entries}
-use Rattle.ovl_manifest.specs.LayerTrees.{NodeView, entries_of_nodes, under, entries_from, placed}
+use Rattle.ovl_layer.specs.Layers.{Entries}
+use Rattle.ovl_layer.specs.LayerTrees.{NodeView, entries_of_nodes, under, entries_from, placed}
 use Rattle.ovl_manifest.specs.Text.{entry_value}
-use Rattle.ovl_manifest.specs.TextPaths.{slashed}
+use Rattle.ovl_layer.specs.TextPaths.{slashed}
 use Rattle.ovl_manifest.specs.Versions.{written}
-use Rattle.ovl_manifest.proofs.NodeLemmas.{entries_of_nodes-more, placed-under, placed-append}
+use Rattle.ovl_layer.proofs.NodeLemmas.{entries_of_nodes-more, fewer_below, placed-under, placed-append}
 use Rattle.ovl_manifest.proofs.CompactLemmas.{Grows, onto, entries-append}
 use Rattle.ovl_manifest.proofs.writing.+push_under.Goals as goal
 
@@ -33,10 +33,16 @@ spelled path above name directory is same = is ∙ (append_assoc above (codes "/
 spelled-whole : (path above name : List ℕ) (directory : PathNames) → LiesIn path above name → above ≡ slashed directory → path ≡ path_text (child_path directory name)
 spelled-whole path above name directory is same = is ∙ (append_assoc above (codes "/") name ∙ (ap (λ (t : List ℕ). t ++ slash ∷ name) same ∙ text-below directory name))
 
+pub push_under-requires : goal.push_under-requires
+push_under-requires n c =
+    let fewer = fewer_below c.children-child-items.result.now c.loop-child.child-index c.child-item.result c.loop-child-test.true c.child-item.is in
+    let count = ap length c.children-child-items.ensures in
+    (omega (arith, fewer, count), tt)
+
 pub loop-child-preserved : goal.loop-child-preserved
 loop-child-preserved n c = (
   λ directory same.
-      let nodes : List NodeView = c.deref-child-items.result.now in
+      let nodes : List NodeView = c.children-child-items.result.now in
       let node : NodeView = c.child-item.result in
       let path : PathNames = child_path directory c.args.node.now.name in
       let done : Entries = entries_of_nodes (take c.loop-child.child-index nodes) in
@@ -44,7 +50,7 @@ loop-child-preserved n c = (
       let before : List ℕ = string_bytes c.push_entry.new.text in
       let more = entries_of_nodes-more nodes c.loop-child.child-index node c.loop-child-test.true c.child-item.is in
       let lies : LiesIn (string_bytes c.push_str-2.new.self) (string_bytes c.args.path.now) c.args.node.now.name =
-      c.in_ok-push_str-2.ensures.bytes ∙ (λ j. c.in_ok-push_str.ensures.bytes j ++ (c.as_str.ensures.value ∙ ap (λ (own : NodeView). own.name) c.node.view_is) j) in
+      c.in_ok-push_str-2.ensures.bytes ∙ (λ j. c.in_ok-push_str.ensures.bytes j ++ (c.as_str.ensures.value ∙ c.name.ensures) j) in
       let text : string_bytes c.loop-child.path ≡ slashed path =
       c.loop-child.invariant.1 ∙ spelled (string_bytes c.push_str-2.new.self) (string_bytes c.args.path.now) c.args.node.now.name directory lies same in
       let below = sym (placed-under path node.name (entries_from node.inode node.below)) in
@@ -59,19 +65,18 @@ loop-child-preserved n c = (
 
 pub returns-clause-text : goal.returns-clause-text
 returns-clause-text n c directory same =
-    let nodes : List NodeView = c.deref-child-items.result.now in
+    let nodes : List NodeView = c.children-child-items.result.now in
     let path : PathNames = child_path directory c.args.node.now.name in
-    let inode : Inode = c.node.inside.inode in
+    let inode : Inode = c.inode.result.now in
     let before : List ℕ = string_bytes c.args.text.now in
     let below : Entries = entries_of_nodes (take c.loop-child.child-index nodes) in
     let lies : LiesIn (string_bytes c.push_str-2.new.self) (string_bytes c.args.path.now) c.args.node.now.name =
-    c.in_ok-push_str-2.ensures.bytes ∙ (λ j. c.in_ok-push_str.ensures.bytes j ++ (c.as_str.ensures.value ∙ ap (λ (own : NodeView). own.name) c.node.view_is) j) in
+    c.in_ok-push_str-2.ensures.bytes ∙ (λ j. c.in_ok-push_str.ensures.bytes j ++ (c.as_str.ensures.value ∙ c.name.ensures) j) in
     let text : c.as_str-2.result.now ≡ path_text path =
     c.as_str-2.ensures.value ∙ spelled-whole (string_bytes c.push_str-2.new.self) (string_bytes c.args.path.now) c.args.node.now.name directory lies same in
+    let seen : below ≡ c.args.node.now.below = ap entries_of_nodes (take_all c.loop-child.child-index nodes c.loop-child-test.false) ∙ c.children-child-items.ensures in
     let whole : (path, inode) ∷ placed path below ≡ placed path (entries_from c.args.node.now.inode c.args.node.now.below) =
-    ap (λ (ns : List NodeView). (path, inode) ∷ placed path (entries_of_nodes ns)) (take_all c.loop-child.child-index nodes c.loop-child-test.false ∙ c.deref-child-items.ensures.value)
-    ∙ (ap (λ (p : PathNames). (p, inode) ∷ placed path (entries_of_nodes c.node.inside.children.items)) (sym (append-nil path))
-    ∙ ap (λ (own : NodeView). placed path (entries_from own.inode own.below)) c.node.view_is) in
+    λ j. (sym (append-nil path) j, c.inode.ensures j) ∷ placed path (seen j) in
     let comma : Grows before (codes ",") (string_bytes c.push_str-3.new.self) = record { is = c.in_ok-push_str-3.ensures.bytes } in
     let first : Grows (string_bytes c.push_str-3.new.self) (compact_text (entry_value written (path, inode))) (string_bytes c.push_entry.new.text) = record { is = c.in_ok-push_entry.ensures path text } in
     let rest : Grows (string_bytes c.push_entry.new.text) (entries_text written true (placed path below)) (string_bytes c.loop-child.text) = record { is = c.loop-child.invariant.0 directory same } in

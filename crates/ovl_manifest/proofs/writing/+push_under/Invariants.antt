@@ -1,10 +1,13 @@
-use Rattle.std.proofs.Common.{◌≡◌, ◌++◌, true, take, string_bytes}
+use Rattle.std.proofs.Common.{◌≡◌, ◌++◌, true, length, take, string_bytes}
 use Rattle.ovl_names.specs.Paths.{PathNames, child_path}
 use Rattle.ovl_manifest.specs.Compact.{entries_text}
-use Rattle.ovl_manifest.specs.LayerTrees.{entries_of_nodes, placed}
-use Rattle.ovl_manifest.specs.TextPaths.{slashed}
+use Rattle.ovl_layer.specs.LayerTrees.{entries_of_nodes, placed}
+use Rattle.ovl_layer.specs.TextPaths.{slashed}
 use Rattle.ovl_manifest.specs.Versions.{written}
 use Rattle.ovl_manifest.proofs.writing.+push_under.Given as goal
+
+abbrev pub decreases-push_under : goal.decreases-push_under
+decreases-push_under l = length l.node.now.below
 
 -- what lies under the nodes so far, and the path is the node's again
 abbrev pub invariant-loop-child : goal.invariant-loop-child

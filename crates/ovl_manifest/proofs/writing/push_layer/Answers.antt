@@ -3,7 +3,7 @@ use Rattle.std.specs.Prelude.{codes, decimal}
 use Rattle.std.proofs.lemmas.Result.{on_ok_weaker}
 use Rattle.serde_json.specs.Written.{compact_text}
 use Rattle.ovl_manifest.specs.Compact.{entries_text}
-use Rattle.ovl_manifest.specs.Layers.{Entries}
+use Rattle.ovl_layer.specs.Layers.{Entries}
 use Rattle.ovl_manifest.specs.Text.{layer_value}
 use Rattle.ovl_manifest.specs.Versions.{version_number, written}
 use Rattle.ovl_manifest.proofs.CompactLemmas.{Grows, onto, items-entries, layer_text}

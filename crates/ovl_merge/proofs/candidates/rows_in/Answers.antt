@@ -1,8 +1,8 @@
 use Rattle.std.proofs.Common.{◌≡◌, ◌∙◌, ◌+◌, List, arith, take, take_all, sym, ap, subst}
 use Rattle.std.specs.List.{AllByRecursion}
 use Rattle.ovl_names.specs.Paths.{PathNames}
-use Rattle.ovl_manifest.specs.Layers.{names_below}
-use Rattle.ovl_manifest.specs.Sheets.{path_at}
+use Rattle.ovl_layer.specs.Layers.{names_below}
+use Rattle.ovl_layer.specs.Sheets.{path_at}
 use Rattle.ovl_merge.specs.declared.candidates.Candidate.{Candidate}
 use Rattle.ovl_merge.specs.Candidates.{candidates_told, names_of}
 use Rattle.ovl_merge.proofs.RowLemmas.{IsOwnRow, kid-named, kids-many, row-more, rows-all}

@@ -1,5 +1,5 @@
 use Rattle.std.proofs.Common.{◌≡◌, ◌++◌, string_bytes}
-use Rattle.ovl_manifest.specs.TextPaths.{slashed}
+use Rattle.ovl_layer.specs.TextPaths.{slashed}
 use Rattle.ovl_merge.proofs.entries.path_text.Given as goal
 
 -- the text so far, with that of the names that are left

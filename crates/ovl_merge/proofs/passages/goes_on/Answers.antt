@@ -15,8 +15,8 @@ returns-then-not-is_nothing_or_directory c path there =
 pub returns-then-is_directory : goal.returns-then-is_directory
 returns-then-is_directory c path there =
     let m = merge_of c.args.stack.now in
-    goes-directory m c.args.found.now.inode.now (told_in c.args.passed.now) path (sym c.if-is_directory.ensures) true c.if-not-is_nothing_or_directory.ensures c.is_shown_directory.result
-    (c.is_shown_directory.ensures ∙ ap is_shown_directory (c.in_ok-shown.ensures path there))
+    goes-directory m c.args.found.now.inode.now (told_in c.args.passed.now) path (sym c.if-is_directory.ensures) true c.if-not-is_nothing_or_directory.ensures c.is_directory-then-is_directory.result
+    (c.is_directory-then-is_directory.ensures (look m.rest path) (c.in_ok-sight.ensures path there))
 
 pub returns-then-not-is_well_formed_metacopy : goal.returns-then-not-is_well_formed_metacopy
 returns-then-not-is_well_formed_metacopy c path there =
@@ -34,4 +34,4 @@ pub returns : goal.returns
 returns c path there =
     let m = merge_of c.args.stack.now in
     goes-file m c.args.found.now.inode.now (told_in c.args.passed.now) path (sym c.if-is_directory.ensures) true (c.if-not-is_well_formed_metacopy.ensures ∙ ap is_metacopy_mark c.requires.marked)
-    true c.if-not-is_nothing_or_metacopy.ensures c.is_shown_regular.result (c.is_shown_regular.ensures ∙ ap is_shown_regular (c.in_ok-shown-2.ensures path there))
+    true c.if-not-is_nothing_or_metacopy.ensures c.is_shown_regular.result (c.is_shown_regular.ensures (look m.rest path) (c.in_ok-sight-2.ensures path there))

@@ -2,8 +2,8 @@ use Rattle.std.proofs.Common.{ℕ, Option, ◌≡◌, ◌<◌, [], length, subst
 use Rattle.std.specs.Prelude.{MatchOption}
 use Rattle.ovl_names.specs.Names.{PathName}
 use Rattle.ovl_names.specs.Paths.{child_path}
-use Rattle.ovl_manifest.specs.LayerTrees.{entries_under}
-use Rattle.ovl_manifest.specs.Sheets.{path_at}
+use Rattle.ovl_layer.specs.LayerTrees.{entries_under}
+use Rattle.ovl_layer.specs.Sheets.{path_at}
 use Rattle.ovl_merge.specs.Stands.{StandsAt}
 use Rattle.ovl_lookup.proofs.LawsOfWalks.{nothing-below}
 use Rattle.ovl_merge.proofs.StandLemmas.{sought-inside, sought-row}

@@ -1,12 +1,12 @@
 use Rattle.std.proofs.Common.{◌≡◌, false, sym, ◌∙◌, subst, IfSome}
 use Rattle.ovl_board.proofs.LawsOfWalks.{own_permuted}
 use Rattle.ovl_pool.specs.declared.hauls.Haul.{Haul}
-use Rattle.ovl_pool.specs.Hauls.{IsClean, AreInOrder}
+use Rattle.ovl_pool.specs.Hauls.{IsClean, AreInPieceOrder}
 use Rattle.ovl_pool.proofs.FlowLemmas.{tied_permuted, within_permuted, counted_permuted}
 use Rattle.ovl_pool.proofs.workers.labor.Goals as goal
 
 -- where a haul is clean it was clean before it was sorted
-was_clean : {O : Type 0} (haul sorted : Haul O) → (sorted.starved ≡ false → (haul.starved ≡ false) × AreInOrder sorted.parcels.items) → sorted.refused ≡ haul.refused → IsClean sorted → IsClean haul
+was_clean : {O : Type 0} (haul sorted : Haul O) → (sorted.starved ≡ false → (haul.starved ≡ false) × AreInPieceOrder sorted.parcels.items) → sorted.refused ≡ haul.refused → IsClean sorted → IsClean haul
 was_clean haul sorted fed refused clean = ((fed clean.0).0, sym refused ∙ clean.1)
 
 -- the haul is the worker's own in any order

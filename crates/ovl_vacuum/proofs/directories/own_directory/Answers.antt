@@ -1,6 +1,6 @@
 use Rattle.std.proofs.Common.{◌≡◌, Option, IfOk, IfSome, MatchOption, false, length-append, subst, arith}
 use Rattle.std.proofs.lemmas.Result.{IfOk-weaker}
-use Rattle.ovl_manifest.specs.Layers.{Entries, is_directory_at}
+use Rattle.ovl_layer.specs.Layers.{Entries, is_directory_at}
 use Rattle.ovl_lookup.specs.Passes.{IsOwnDirectory}
 use Rattle.ovl_lookup.specs.Words.{top_layer}
 use Rattle.ovl_lookup.proofs.LawsOfLooks.{top-layer}

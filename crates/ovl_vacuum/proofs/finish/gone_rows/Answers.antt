@@ -1,8 +1,8 @@
 use Rattle.std.proofs.Common.{◌≡◌, ◌∙◌, ◌-◌, ◌<◌, ℕ, Bool, List, false, true, get_or, length, sym, ap, subst, arith}
 use Rattle.std.proofs.lemmas.List.{get_or_read}
 use Rattle.ovl_names.specs.Paths.{parent_path}
-use Rattle.ovl_manifest.specs.Layers.{Entries}
-use Rattle.ovl_manifest.specs.Sheets.{path_at}
+use Rattle.ovl_layer.specs.Layers.{Entries}
+use Rattle.ovl_layer.specs.Sheets.{path_at}
 use Rattle.ovl_lookup.proofs.LawsOfLooks.{top-layer}
 use Rattle.ovl_vacuum.proofs.RowLemmas.{PassedTo, pass-starts, pass-goes, pass-stays, pass-ends}
 use Rattle.ovl_vacuum.proofs.finish.gone_rows.Goals as goal

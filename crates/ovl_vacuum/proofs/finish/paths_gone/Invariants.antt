@@ -1,5 +1,5 @@
 use Rattle.std.proofs.Common.{◌≡◌}
-use Rattle.ovl_manifest.specs.Sheets.{path_at}
+use Rattle.ovl_layer.specs.Sheets.{path_at}
 use Rattle.ovl_lookup.specs.Words.{top_layer}
 use Rattle.ovl_vacuum.proofs.RowLemmas.{gone_to}
 use Rattle.ovl_vacuum.proofs.finish.paths_gone.Given as goal

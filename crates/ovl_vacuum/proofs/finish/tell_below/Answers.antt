@@ -3,8 +3,8 @@ use Rattle.ovl_lookup.specs.Words.{top_layer}
 use Rattle.std.proofs.Common.{◌≡◌, subst, List, map}
 use Rattle.std.specs.List.{All}
 use Rattle.ovl_names.specs.Paths.{child_path}
-use Rattle.ovl_manifest.specs.Layers.{Entries, names_below}
-use Rattle.ovl_manifest.specs.Sheets.{path_at}
+use Rattle.ovl_layer.specs.Layers.{Entries, names_below}
+use Rattle.ovl_layer.specs.Sheets.{path_at}
 use Rattle.ovl_lookup.proofs.LawsOfLooks.{top-layer}
 use Rattle.ovl_vacuum.proofs.RowLemmas.{ToldAmong, names-inside, among-more, among-all}
 use Rattle.std.proofs.Common.{◌+◌, set}

@@ -1,6 +1,6 @@
 use Rattle.std.proofs.Common.{◌∙◌, sym}
 use Rattle.ovl_names.specs.Paths.{PathNames, child_path}
-use Rattle.ovl_manifest.specs.Sheets.{path_at}
+use Rattle.ovl_layer.specs.Sheets.{path_at}
 use Rattle.ovl_vacuum.proofs.RowLemmas.{named-path, unnamed-path}
 use Rattle.ovl_vacuum.proofs.places.+path_of.Goals as goal
 

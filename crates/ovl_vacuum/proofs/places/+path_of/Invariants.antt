@@ -1,5 +1,5 @@
 use Rattle.std.proofs.Common.{length}
-use Rattle.ovl_manifest.specs.Sheets.{path_at}
+use Rattle.ovl_layer.specs.Sheets.{path_at}
 use Rattle.ovl_vacuum.proofs.places.+path_of.Given as goal
 
 abbrev pub decreases-path_of : goal.decreases-path_of

@@ -1,7 +1,7 @@
 use Rattle.std.proofs.Common.{ℕ, ◌<◌, ◌≤◌, Option, Some, None, Bor, IsSome, MatchOption, length, rules, arith}
-use Rattle.ovl_manifest.specs.declared.sheets.SheetRow.{SheetRow}
-use Rattle.ovl_manifest.specs.Layers.{Entries}
-use Rattle.ovl_manifest.specs.Sheets.{IsRowOf}
+use Rattle.ovl_layer.specs.declared.sheets.SheetRow.{SheetRow}
+use Rattle.ovl_layer.specs.Layers.{Entries}
+use Rattle.ovl_layer.specs.Sheets.{IsRowOf}
 use Rattle.ovl_vacuum.proofs.RowLemmas.{parent-row}
 use Rattle.ovl_vacuum.proofs.places.directory_of.Goals as goal
 

@@ -1,6 +1,6 @@
 use Rattle.std.proofs.Common.{◌≡◌, ◌∙◌, sym, ap, map, List, ℕ, false, arith}
 use Rattle.std.specs.Prelude.{filter}
-use Rattle.ovl_manifest.specs.Layers.{is_directory_at}
+use Rattle.ovl_layer.specs.Layers.{is_directory_at}
 use Rattle.ovl_names.specs.Names.{PathName}
 use Rattle.ovl_names.specs.Paths.{child_path}
 use Rattle.ovl_inode.specs.Marks.{is_directory}

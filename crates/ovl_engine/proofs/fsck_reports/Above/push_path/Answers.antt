@@ -4,8 +4,8 @@ use Rattle.std.specs.Prelude.{codes}
 use Rattle.ovl_names.specs.Names.{PathName}
 use Rattle.ovl_names.specs.Paths.{PathNames}
 use Rattle.ovl_names.specs.Escapes.{escaped, shown_path}
-use Rattle.ovl_engine.specs.Reports.{shown_names}
-use Rattle.ovl_engine.proofs.ListingSteps.{shown-child}
+use Rattle.ovl_reports.specs.Reports.{shown_names}
+use Rattle.ovl_reports.proofs.ListingSteps.{shown-child}
 use Rattle.ovl_engine.proofs.fsck_reports.Above.push_path.Goals as goal
 
 pub returns : goal.returns

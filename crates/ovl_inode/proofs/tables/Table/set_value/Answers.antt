@@ -1,26 +1,22 @@
-use Rattle.std.proofs.Common.{◌≡◌, ◌∙◌, ◌+◌, ◌<◌, ℕ, List, [], Some, refl, sym, ap, subst, arith, length, set, append-nil, string_bytes}
-use Rattle.std.specs.Prelude.{slice_get}
-use Rattle.std.specs.Option.{option_map}
-use Rattle.std.proofs.lemmas.List.{length-map}
-use Rattle.std.proofs.lemmas.Option.{slice_get_read}
-use Rattle.ovl_inode.specs.declared.tables.Place.{Place}
-use Rattle.ovl_inode.specs.Attributes.{Attributes}
-use Rattle.ovl_inode.specs.Tables.{bytes_of, attribute_of, attributes_of}
-use Rattle.ovl_inode.proofs.TableLemmas.{attributes_of-grown, attributes_of-set, bytes_of-behind}
+use Rattle.std.proofs.Common.{ℕ, List, sym, ap}
+use Rattle.std.proofs.lemmas.Bool.{eq-eqb}
+use Rattle.std.specs.Prelude.{if◌then◌else◌}
+use Rattle.ovl_inode.proofs.TableLemmas.{differ, set_from, set-step, set-whole}
 use Rattle.ovl_inode.proofs.tables.Table.set_value.Goals as goal
 
+pub loop-name-preserved-in-Continue-1 : goal.loop-name-preserved-in-Continue-1
+loop-name-preserved-in-Continue-1 c =
+    let own : List ℕ × List ℕ = (c.in-Some.name.now, c.in-Some.own.now) in
+    set-step c.loop-name.table c.insert.new.self c.loop-name.name-iterator c.next.new.self (set_from 0 c.args.place c.args.value.now c.args.self.now) c.args.place c.len-number.result c.args.value.now own (own.0, c.args.value.now)
+    c.len-number.ensures c.in_ok-insert.ensures.done c.in-Some.ensures.steps
+    (sym (ap (λ b. if b then (own.0, c.args.value.now) else own) (eq-eqb c.len-number.result c.args.place c.if-number-place.true))) c.loop-name.invariant
+
+pub loop-name-preserved : goal.loop-name-preserved
+loop-name-preserved c =
+    let own : List ℕ × List ℕ = (c.in-Some.name.now, c.in-Some.own.now) in
+    set-step c.loop-name.table c.insert-else-number-place.new.self c.loop-name.name-iterator c.next.new.self (set_from 0 c.args.place c.args.value.now c.args.self.now) c.args.place c.len-number.result c.args.value.now own own
+    c.len-number.ensures c.in_ok-insert-2.ensures.done c.in-Some.ensures.steps
+    (sym (ap (λ b. if b then (own.0, c.args.value.now) else own) (differ c.len-number.result c.args.place c.if-number-place.false))) c.loop-name.invariant
+
 pub returns-clause-done : goal.returns-clause-done
-returns-clause-done c =
-    let names : List ℕ = string_bytes c.self.inside.names in
-    let values : List ℕ = c.self.inside.values.items in
-    let more_values : List ℕ = c.extend_from_slice.new.self.items in
-    let places : List Place = c.self.inside.places.items in
-    let own : Place = record { name = c.index.result.now.name; value = c.in_ok-behind.field-0 } in
-    let inside : c.args.place < length places = omega (arith, c.requires, ap length c.self.view_is, length-map places (attribute_of names values)) in
-    let at = slice_get_read places (length places) c.args.place c.index.result.now refl inside c.index.ensures in
-    let grown = attributes_of-grown names values [] c.args.value.now places names more_values (sym (append-nil names)) c.in_ok-extend_from_slice.ensures.items c.self.invariant in
-    let bytes : c.len.result ≡ length values = c.len.ensures ∙ c.self.inside.values.ok.0 in
-    let value = ap (λ (bytes : List ℕ). bytes_of bytes own.value) c.in_ok-extend_from_slice.ensures.items
-    ∙ bytes_of-behind values c.args.value.now own.value (c.in_ok-behind.ensures.0 ∙ bytes) (c.in_ok-behind.ensures.1 ∙ ap (λ n. n + length c.args.value.now) bytes) in
-    subst (λ (attrs : Attributes). option_map (λ own. set attrs c.args.place (own.0, c.args.value.now)) (slice_get attrs c.args.place) ≡ Some (attributes_of names more_values (set places c.args.place own))) c.self.view_is
-    (attributes_of-set names values more_values c.args.value.now places c.args.place c.index.result.now own at refl value grown)
+returns-clause-done c = set-whole c.args.self.now c.loop-name.table c.loop-name.name-iterator c.args.place c.args.value.now c.requires c.in-None.ensures.steps.0 c.loop-name.invariant

@@ -8,7 +8,7 @@ use Rattle.ovl_names.specs.Paths.{PathNames}
 use Rattle.ovl_inode.specs.declared.inodes.Inode.{Inode}
 use Rattle.ovl_inode.specs.Marks.{mark_of, is_metacopy, is_metacopy_mark}
 use Rattle.ovl_lookup.specs.declared.steps.Found.{Found}
-use Rattle.ovl_manifest.specs.Layers.{Entries}
+use Rattle.ovl_layer.specs.Layers.{Entries}
 use Rattle.ovl_lookup.specs.Trace.{things_found}
 use Rattle.ovl_lookup.specs.Passes.{data_below, step_of}
 use Rattle.ovl_lookup.proofs.FoundLemmas.{found-first, found-closed, found-open, found-first_open, found-first_closed}
@@ -32,8 +32,7 @@ returns-then-is_data c =
     let data_only : List Entries = c.args.self.now.data_only in
     let told : Option PathNames = option_map (λ path. path.now) c.loop-place.origin in
     let inside : c.loop-place.place < length layers = omega arith in
-    ap (λ (own : Inode). Some own) c.in_ok-copy.ensures
-    ∙ sym (sym c.loop-place.invariant
+    sym (sym c.loop-place.invariant
     ∙ (ap (data_below data_only told) (found-first layers c.loop-place.place c.loop-place.next (step_of c.in_ok-found.field-0) inside c.in_ok-found.ensures.value c.in-Some.found.inode.now (ap inode_of c.in-Some.is))
     ∙ data_below-data data_only told c.in-Some.found.inode.now (cond c.in_ok-found.field-0.closed [] (things_found (drop (c.loop-place.place + 1) layers) c.in_ok-found.field-0.next)) (sym c.is_data.ensures ∙ c.if-is_data.true)))
 
@@ -57,8 +56,8 @@ returns-then-closed c =
     let data_only : List Entries = c.args.self.now.data_only in
     let told : Option PathNames = option_map (λ path. path.now) c.loop-place.origin in
     let inside : c.loop-place.place < length layers = omega arith in
-    subst (λ (wanted : Option Inode). IfOk c.data_at.result (λ found. found ≡ wanted))
-    (elim c.match-found.branch [
+    c.data_at.ensures
+    ∙ (elim c.match-found.branch [
       | in-Some+else-is_data+else-not-is_well_formed_metacopy w ↦
           ap (data_at_place data_only) (ap (option_map (λ path. path.now)) w.origin-is ∙ place c.in_ok-found.field-0.found _ _ w.in-Some.is c.in_ok-found.ensures.marked w.place_of_data-origin.ensures)
           ∙ sym (sym c.loop-place.invariant
@@ -69,7 +68,6 @@ returns-then-closed c =
           ∙ sym (sym c.loop-place.invariant
           ∙ ap (data_below data_only told) (found-closed layers c.loop-place.place c.loop-place.next (step_of c.in_ok-found.field-0) inside c.in_ok-found.ensures.value (ap inode_of w.in_default.is) c.if-closed.true))
     ])
-    c.data_at.ensures
 
 pub loop-place-preserved : goal.loop-place-preserved
 loop-place-preserved c =

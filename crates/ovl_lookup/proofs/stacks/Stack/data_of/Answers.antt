@@ -1,3 +1,4 @@
+use Rattle.std.specs.Option.{option_map}
 use Rattle.std.proofs.Common.{◌≡◌, IfOk, Option, List, [], ◌∷◌, sym, ap, ◌∙◌, subst, cond}
 use Rattle.ovl_inode.specs.declared.inodes.Inode.{Inode}
 use Rattle.ovl_inode.specs.Marks.{is_metacopy_mark}
@@ -22,7 +23,7 @@ returns-then-closed c =
     let told = c.place_of_data-origin.ensures ∙ ap place_of_data c.requires.marked in
     let same = ap (λ b. data_of c.args.self.now.data_only (c.args._inode.now ∷ cond b [] (things_found (drop c.args.i c.args.self.now.layers) c.args.next))) c.if-closed.true
     ∙ data_of-metacopy c.args.self.now.data_only c.args._inode.now [] (sym (ap is_metacopy_mark c.requires.marked) ∙ (sym c.is_well_formed_metacopy.ensures ∙ c.if-not-is_well_formed_metacopy.false)) bare.0 bare.1 in
-    subst (λ (wanted : Option Inode). IfOk c.data_at.result (λ f. f ≡ wanted)) (ap (data_at_place c.args.self.now.data_only) told ∙ sym same) c.data_at.ensures
+    c.data_at.ensures ∙ (ap (data_at_place c.args.self.now.data_only) told ∙ sym same)
 
 pub returns : goal.returns
 returns c =
@@ -31,4 +32,4 @@ returns c =
     let found : List Inode = things_found (drop c.args.i c.args.self.now.layers) c.args.next in
     let same = ap (λ b. data_of c.args.self.now.data_only (c.args._inode.now ∷ cond b [] found)) c.if-closed.false
     ∙ data_of-metacopy c.args.self.now.data_only c.args._inode.now found (sym (ap is_metacopy_mark c.requires.marked) ∙ (sym c.is_well_formed_metacopy.ensures ∙ c.if-not-is_well_formed_metacopy.false)) bare.0 bare.1 in
-    subst (λ (wanted : Option Inode). IfOk c.data.result (λ f. f ≡ wanted)) (ap (λ (p : Option PathNames). data_below c.args.self.now.data_only p found) told ∙ sym same) c.data.ensures
+    subst (λ (wanted : Option Inode). IfOk c.data.result (λ f. option_map (λ inode. inode.now) f ≡ wanted)) (ap (λ (p : Option PathNames). data_below c.args.self.now.data_only p found) told ∙ sym same) c.data.ensures

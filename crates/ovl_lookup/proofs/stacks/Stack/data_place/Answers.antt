@@ -7,7 +7,7 @@ use Rattle.ovl_names.specs.declared.paths.Path.{Path}
 use Rattle.ovl_inode.specs.declared.inodes.Inode.{Inode}
 use Rattle.ovl_inode.specs.Marks.{mark_of, is_metacopy, is_metacopy_mark}
 use Rattle.ovl_lookup.specs.declared.steps.Found.{Found}
-use Rattle.ovl_manifest.specs.Layers.{Entries}
+use Rattle.ovl_layer.specs.Layers.{Entries}
 use Rattle.ovl_lookup.specs.Trace.{things_found}
 use Rattle.ovl_lookup.specs.Merged.{place_of_data}
 use Rattle.ovl_lookup.specs.Passes.{step_of}

@@ -1,6 +1,6 @@
 use Rattle.std.proofs.Common.{◌<◌, subst, ◌∙◌, ◌+◌, ◌*◌, ◌++◌, length}
 use Rattle.std.specs.List.{All}
-use Rattle.ovl_manifest.specs.Layers.{IsLayer}
+use Rattle.ovl_layer.specs.Layers.{IsLayer}
 use Rattle.ovl_names.specs.Paths.{depth_limit}
 use Rattle.ovl_lookup.specs.Stacks.{StackView}
 use Rattle.ovl_lookup.specs.Passes.{looks_from, looks_placed}

@@ -3,7 +3,7 @@ use Rattle.std.specs.List.{All}
 use Rattle.std.proofs.lemmas.Bool.Decides.{nat_tests}
 use Rattle.std.proofs.lemmas.List.Elements.{All-nil}
 use Rattle.ovl_names.specs.Paths.{PathNames, child_path}
-use Rattle.ovl_manifest.specs.Layers.{IsLayer}
+use Rattle.ovl_layer.specs.Layers.{IsLayer}
 use Rattle.ovl_lookup.specs.declared.views.DirPlace.{DirPlace}
 use Rattle.ovl_lookup.specs.Stacks.{StackView}
 use Rattle.ovl_lookup.specs.Views.{Reached, reached, reached_below}
@@ -44,13 +44,14 @@ returns c =
     ∙ ((λ j. places_in stack (c.new-places.ensures.items j) ++ reached_below stack.layers c.args.name.now (below j))
     ∙ sym (views-go_on stack each from c.args.self.now.path c.args.name.now)) in
     let some : 0 < length items = grind (arith, nat_tests, c.is_empty.ensures, c.if-is_empty.false, c.push_below.new.below.ok.0) in
+    let named : c.in_ok-path.path ≡ path = c.in_ok-path.ensures ∙ (λ j. child_path (c.in_ok-copy.ensures j) (c.as_str.ensures.value j)) in
     record {
       over = record {
         within = c.requires.within;
         over = adds.over (subst (λ (ps : List DirPlace). All (IsPlaceOver stack) ps) (sym c.new-places.ensures.items) (All-nil (IsPlaceOver stack)));
-        reached = same ∙ ap (reached (drop from stack.layers) from) (sym c.in_ok-path.ensures);
+        reached = same ∙ ap (reached (drop from stack.layers) from) (sym named);
       };
       starts = refl;
-      stands = c.in_ok-path.ensures;
+      stands = named;
       shown = views-show stack each from path ∙ some-places stack items (reached (drop from stack.layers) from path) same some;
     }

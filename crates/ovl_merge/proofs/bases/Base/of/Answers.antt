@@ -1,10 +1,8 @@
 use Rattle.std.proofs.Common.{◌≡◌, ◌∙◌, Bool, false, cond, Option, Some, None, sym, ap, subst}
-use Rattle.std.specs.Prelude.{MatchOption}
 use Rattle.ovl_names.specs.Paths.{PathNames}
-use Rattle.ovl_lookup.specs.declared.views.DirView.{DirView}
 use Rattle.ovl_lookup.specs.Stacks.{from_layer}
 use Rattle.ovl_lookup.specs.Merged.{shows_directory}
-use Rattle.ovl_lookup.specs.DirViews.{IsViewOf}
+use Rattle.ovl_lookup.specs.DirViews.{IsSought}
 use Rattle.ovl_merge.specs.Places.{merge_of, reach}
 use Rattle.ovl_merge.specs.Reckoned.{reach_from}
 use Rattle.ovl_merge.proofs.FinishLemmas.{merge-each}
@@ -25,7 +23,8 @@ returns-in-Some-2 c =
     let stack = c.args.stack.now in
     let m = merge_of stack in
     let next : PathNames = c.in-Some.next.now in
-    let told = view-reached stack next c.in-Some-2.view (subst (λ (o : Option DirView). MatchOption o (shows_directory (from_layer 2 stack) next ≡ false) (λ view. IsViewOf stack 2 next view)) c.in-Some-2.is c.in_ok-view.ensures) in
+    let sought : IsSought stack 2 next c.in_ok-view.field-0 = subst (λ (path : PathNames). IsSought stack 2 path c.in_ok-view.field-0) c.in_ok-copy.ensures c.in_ok-view.ensures in
+    let told = view-reached stack next c.in-Some-2.view (subst (IsSought stack 2 next) c.in-Some-2.is sought) in
     (c.requires.reach ∙ (ap (reach_from m.rest) (sym c.in-Some.ensures) ∙ told.0), told.1)
 
 pub returns-in-None : goal.returns-in-None
@@ -34,6 +33,7 @@ returns-in-None c =
     let m = merge_of stack in
     let each = merge-each stack c.requires.several c.ordinary-layers.ensures.each in
     let next : PathNames = c.in-Some.next.now in
-    let shown : shows_directory (from_layer 2 stack) next ≡ false = subst (λ (o : Option DirView). MatchOption o (shows_directory (from_layer 2 stack) next ≡ false) (λ view. IsViewOf stack 2 next view)) c.in-None.is c.in_ok-view.ensures in
+    let sought : IsSought stack 2 next c.in_ok-view.field-0 = subst (λ (path : PathNames). IsSought stack 2 path c.in_ok-view.field-0) c.in_ok-copy.ensures c.in_ok-view.ensures in
+    let shown : shows_directory (from_layer 2 stack) next ≡ false = subst (IsSought stack 2 next) c.in-None.is sought in
     let none : reach m c.args._dir.now ≡ None = c.requires.reach ∙ (ap (reach_from m.rest) (sym c.in-Some.ensures) ∙ ap (λ (b : Bool). cond b (Some next) None) shown) in
     (none, base-apart m (upper m each) (lower m each) c.args._dir.now c.requires.shown none)

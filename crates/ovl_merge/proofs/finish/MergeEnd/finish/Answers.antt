@@ -1,7 +1,7 @@
 use Rattle.std.proofs.Common.{◌≡◌, ◌∙◌, Err, [], ◌∷◌, sym, ap, subst}
 use Rattle.std.proofs.lemmas.Result.{err_from_is_err_and}
 use Rattle.ovl_inode.specs.declared.inodes.Inode.{Inode}
-use Rattle.ovl_manifest.specs.Layers.{IsLayer}
+use Rattle.ovl_layer.specs.Layers.{IsLayer}
 use Rattle.ovl_board.specs.Parcels.{parcel_views}
 use Rattle.ovl_rewrite.specs.Directories.{inodes_seen}
 use Rattle.ovl_merge.specs.declared.faults.MergeFault.TheVariants.{NoLower, LimitOut}

@@ -1,7 +1,7 @@
 use Rattle.std.proofs.Common.{◌<◌, Option, length, sym, subst}
 use Rattle.std.specs.Prelude.{IfSome}
 use Rattle.ovl_names.specs.Paths.{PathNames, child_path}
-use Rattle.ovl_manifest.specs.Layers.{Entries}
+use Rattle.ovl_layer.specs.Layers.{Entries}
 use Rattle.ovl_merge.specs.Places.{merge_of}
 use Rattle.ovl_merge.specs.Stands.{IsRowAt, StandsAt, IsPassing}
 use Rattle.ovl_merge.specs.Reckoned.{onward_at, upper_onward}

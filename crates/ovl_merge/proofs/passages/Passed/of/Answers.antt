@@ -1,7 +1,7 @@
 use Rattle.std.proofs.Common.{Option, Some, sym, ap, subst}
 use Rattle.std.specs.Prelude.{IfOk}
 use Rattle.ovl_names.specs.Paths.{PathNames}
-use Rattle.ovl_manifest.specs.Layers.{Entries}
+use Rattle.ovl_layer.specs.Layers.{Entries}
 use Rattle.ovl_merge.specs.Places.{merge_of}
 use Rattle.ovl_merge.specs.Stands.{onward_to}
 use Rattle.ovl_merge.specs.Reckoned.{onward_at, upper_onward}

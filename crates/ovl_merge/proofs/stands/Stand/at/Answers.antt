@@ -1,5 +1,4 @@
-use Rattle.std.proofs.Common.{Bool, Some, sym, subst}
-use Rattle.ovl_names.specs.Paths.{PathNames}
+use Rattle.std.proofs.Common.{Bool, subst}
 use Rattle.ovl_merge.specs.Stands.{StandsAt, onward_on}
 use Rattle.ovl_merge.proofs.StandLemmas.{arrival-stands}
 use Rattle.ovl_merge.proofs.stands.Stand.at.Goals as goal
@@ -15,6 +14,5 @@ pub returns : goal.returns
 returns c =
     let layer = c.args.sheet.now in
     let at = c.in_ok-row.field-0 in
-    subst (λ (path : PathNames). StandsAt layer c.args.trail at.row (Some path)) (sym c.in_ok-next.ensures)
-    (subst (λ (b : Bool). StandsAt layer c.args.trail at.row (onward_on at.next b)) c.if-closed.false
-    (arrival-stands layer c.root_number-root.ensures.layer c.args.trail at.row at.next at.closed c.in_ok-row.ensures))
+    subst (λ (b : Bool). StandsAt layer c.args.trail at.row (onward_on at.next b)) c.if-closed.false
+    (arrival-stands layer c.root_number-root.ensures.layer c.args.trail at.row at.next at.closed c.in_ok-row.ensures)

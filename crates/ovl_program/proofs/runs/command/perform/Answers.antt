@@ -1,18 +1,18 @@
 use Rattle.std.proofs.Common.{◌∙◌, ◌≡◌, ℕ, None, refl, sym, subst, ap, length, Vec, Global, Result}
 use Rattle.std.proofs.lemmas.List.{length-map}
-use Rattle.ovl_engine.specs.declared.requests.Answer.{Answer}
+use Rattle.ovl_commands.specs.declared.requests.Answer.{Answer}
 use Rattle.ovl_engine.specs.declared.faults.EngineFault.{EngineFault}
 use Rattle.ovl_engine.specs.Requests.{Request, request_of}
-use Rattle.ovl_program.specs.Reported.{IsComing}
-use Rattle.ovl_program.specs.Programs.{IsComingFor, IsRequestFor}
-use Rattle.ovl_program.proofs.Performed.{coming_for, few_coming, performed, reported_more}
+use Rattle.ovl_program.specs.Reported.{IsComingDown}
+use Rattle.ovl_program.specs.Programs.{IsComingFor, IsRequestFor, left_of}
+use Rattle.ovl_program.proofs.Performed.{coming_for, few_coming_down, performed, reported_more}
 use Rattle.ovl_program.proofs.Telling.{not_some}
 use Rattle.ovl_program.proofs.runs.command.perform.Goals as goal
 
 pub write_report-requires : goal.write_report-requires
 write_report-requires g c =
     let line = c.args.line.now in
-    few_coming (request_of line.what c.in_ok-manifests.manifests.items line.data_layers c.in_ok-blobs.blobs.items line.workers) c.command_of-answered.result (rw c.deref-2.ensures.value at c.command_of-answered.ensures.outcome)
+    few_coming_down (left_of line.what line.down_to) (request_of line.what c.in_ok-manifests.manifests.items line.data_layers c.in_ok-blobs.blobs.items line.workers) c.answer_held-answered.result (rw c.deref-2.ensures.value at c.answer_held-answered.ensures)
 
 pub returns : goal.returns
 returns g c =
@@ -27,6 +27,6 @@ returns g c =
       none = c.in_ok-blobs.ensures.none;
     } in
     performed line _ _ c.write_report.result request made
-    (reported_more (λ (outcome : Result Answer EngineFault). outcome ≡ c.command_of-answered.result) (IsComingFor line request)
-    (λ outcome is. coming_for line None (rw (not_some c.folder_in_parts.result c.in_default.not-Some) at c.folder_in_parts.ensures) request outcome (subst (IsComing request) (sym is) (rw c.deref-2.ensures.value at c.command_of-answered.ensures.outcome)))
+    (reported_more (λ (outcome : Result Answer EngineFault). outcome ≡ c.answer_held-answered.result) (IsComingFor line request)
+    (λ outcome is. coming_for line None (rw (not_some c.folder_in_parts.result c.in_default.not-Some) at c.folder_in_parts.ensures) request outcome (subst (IsComingDown (left_of line.what line.down_to) request) (sym is) (rw c.deref-2.ensures.value at c.answer_held-answered.ensures)))
     line.out _ _ c.write_report.result c.write_report.ensures)

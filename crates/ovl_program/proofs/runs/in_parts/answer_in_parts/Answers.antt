@@ -1,31 +1,24 @@
-use Rattle.std.proofs.Common.{[]}
-use Rattle.std.proofs.lemmas.Result.{err_from_is_err_and}
-use Rattle.ovl_engine.proofs.LawsOfTold.{asked_ascend, outcome_told, run_told}
+use Rattle.std.proofs.Common.{ℕ, Option, Some, [], sym, subst}
+use Rattle.std.proofs.lemmas.Result.{IfOk-weaker}
+use Rattle.ovl_commands.specs.declared.requests.Command.{Command}
 use Rattle.ovl_engine.specs.Requests.{Request, request_of}
-use Rattle.ovl_program.specs.BlobFolders.{IsInFolder, anything}
-use Rattle.ovl_program.specs.Programs.{IsOfBlobs}
-use Rattle.ovl_program.specs.Reported.{refuses_nothing}
-use Rattle.ovl_program.proofs.Performed.{asked_folder}
-use Rattle.ovl_program.proofs.Unread.{unread_of_more}
+use Rattle.ovl_program.specs.Reported.{IsComingDownOver}
 use Rattle.ovl_program.proofs.runs.in_parts.answer_in_parts.Goals as goal
 
-pub tell_blobs-requires-clause-ascend : goal.tell_blobs-requires-clause-ascend
-tell_blobs-requires-clause-ascend g c lifetimes live =
-    rw c.deref.ensures.value (asked_ascend c.in-Ok.question.what c.in-Ok.question.stack c.in-Ok.question.names.items c.in-Ok.ensures.question.names)
-
-pub returns-in_err-told-clause-fault : goal.returns-in_err-told-clause-fault
-returns-in_err-told-clause-fault g c =
-    let line = c.args.line.now in
-    let out = err_from_is_err_and c.from_residual.result c.from_residual.ensures.1 in
-    rw (out.1, out.2) (unread_of_more (IsInFolder c.as_str.result.now) (IsOfBlobs line)
-    (λ path inside. (c.args.folder.now, (asked_folder line c.args.folder.now c.requires, rw c.as_str.ensures.value at inside)))
-    c.in_err-told.field-0.0 c.in_err-told.ensures.fault)
-
-pub returns-clause-coming : goal.returns-clause-coming
-returns-clause-coming g c =
+pub returns-in-Some-clause-coming : goal.returns-in-Some-clause-coming
+returns-in-Some-clause-coming g c =
     let line = c.args.line.now in
     let request : Request = request_of line.what c.args.manifests.items line.data_layers [] line.workers in
-    let question = c.in-Ok.question in
-    outcome_told anything request question refuses_nothing c.answer_told.result c.in-Ok.ensures.accepted c.in-Ok.ensures.question
-    (run_told anything question.what question.stack refuses_nothing question.names.items c.in_ok-told.told.items c.answer_told.result c.in-Ok.ensures.question.names
-    (rw c.deref.ensures.value at c.in_ok-told.ensures.told) c.answer_told.ensures.outcome)
+    IfOk-weaker c.merged_in_parts.result _ _
+    (λ outcome comes. subst (λ (left : Option ℕ). IsComingDownOver left request outcome) c.in-Some.ensures.left
+    (subst (λ (what : Command). IsComingDownOver (Some c.in-Some.left) (request_of what c.args.manifests.items line.data_layers [] line.workers) outcome)
+    (sym c.in-Some.ensures.merge) comes))
+    c.merged_in_parts.ensures.coming
+
+pub returns-in-None-clause-coming : goal.returns-in-None-clause-coming
+returns-in-None-clause-coming g c =
+    let line = c.args.line.now in
+    let request : Request = request_of line.what c.args.manifests.items line.data_layers [] line.workers in
+    IfOk-weaker c.done_in_parts.result _ _
+    (λ outcome comes. subst (λ (left : Option ℕ). IsComingDownOver left request outcome) c.in-None.ensures.left comes)
+    c.done_in_parts.ensures.coming

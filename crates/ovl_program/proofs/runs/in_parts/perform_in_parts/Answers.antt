@@ -1,17 +1,17 @@
 use Rattle.std.proofs.Common.{◌∙◌, ◌≡◌, ℕ, [], Some, refl, sym, subst, Vec, Global, Result}
 use Rattle.std.proofs.lemmas.List.{length-map}
-use Rattle.ovl_engine.specs.declared.requests.Answer.{Answer}
+use Rattle.ovl_commands.specs.declared.requests.Answer.{Answer}
 use Rattle.ovl_engine.specs.declared.faults.EngineFault.{EngineFault}
 use Rattle.ovl_engine.specs.Requests.{Request, request_of}
-use Rattle.ovl_program.specs.Reported.{IsComingOver}
-use Rattle.ovl_program.specs.Programs.{IsComingFor, IsRequestFor}
-use Rattle.ovl_program.proofs.Performed.{coming_for, few_coming_over, none_asked, performed, reported_more}
+use Rattle.ovl_program.specs.Reported.{IsComingDownOver}
+use Rattle.ovl_program.specs.Programs.{IsComingFor, IsRequestFor, left_of}
+use Rattle.ovl_program.proofs.Performed.{coming_for, few_coming_down_over, none_asked, performed, reported_more}
 use Rattle.ovl_program.proofs.runs.in_parts.perform_in_parts.Goals as goal
 
 pub write_report-requires : goal.write_report-requires
 write_report-requires g c =
     let line = c.args.line.now in
-    few_coming_over (request_of line.what c.args.manifests.items line.data_layers [] line.workers) c.in_ok-answered.answered c.in_ok-answered.ensures.coming
+    few_coming_down_over (left_of line.what line.down_to) (request_of line.what c.args.manifests.items line.data_layers [] line.workers) c.in_ok-answered.answered c.in_ok-answered.ensures.coming
 
 pub returns : goal.returns
 returns g c =
@@ -27,5 +27,5 @@ returns g c =
     } in
     performed line _ _ c.write_report.result request made
     (reported_more (λ (outcome : Result Answer EngineFault). outcome ≡ c.in_ok-answered.answered) (IsComingFor line request)
-    (λ outcome is. coming_for line (Some c.args.folder.now) (sym c.requires.folder) request outcome (refl, subst (IsComingOver request) (sym is) c.in_ok-answered.ensures.coming))
+    (λ outcome is. coming_for line (Some c.args.folder.now) (sym c.requires.folder) request outcome (refl, subst (IsComingDownOver (left_of line.what line.down_to) request) (sym is) c.in_ok-answered.ensures.coming))
     line.out _ _ c.write_report.result c.write_report.ensures)

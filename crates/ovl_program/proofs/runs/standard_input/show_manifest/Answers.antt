@@ -1,6 +1,6 @@
 use Rattle.std.proofs.Common.{◌≡◌, ◌∙◌, ◌++◌, ◌∷◌, [], ℕ, None, List, Result, Vec, Global, ap, sym, subst}
-use Rattle.ovl_engine.specs.declared.requests.Answer.{Answer}
-use Rattle.ovl_engine.specs.declared.requests.Command.TheVariants.{Show}
+use Rattle.ovl_commands.specs.declared.requests.Answer.{Answer}
+use Rattle.ovl_commands.specs.declared.requests.Command.TheVariants.{Show}
 use Rattle.ovl_engine.specs.declared.faults.EngineFault.{EngineFault}
 use Rattle.ovl_engine.specs.Requests.{request_of}
 use Rattle.ovl_program.specs.Reported.{IsComing, input_request}

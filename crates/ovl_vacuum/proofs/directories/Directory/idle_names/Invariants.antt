@@ -1,6 +1,6 @@
 use Rattle.std.proofs.Common.{◌≡◌, map, take}
 use Rattle.std.specs.Prelude.{IfSome}
-use Rattle.ovl_manifest.specs.Layers.{names_below}
+use Rattle.ovl_layer.specs.Layers.{names_below}
 use Rattle.ovl_lookup.specs.DirViews.{IsViewOf}
 use Rattle.ovl_lookup.specs.Words.{top_layer}
 use Rattle.ovl_vacuum.specs.Directories.{idle_name}

@@ -2,8 +2,8 @@ use Rattle.std.proofs.Common.{◌∙◌, ◌++◌, ◌∷◌, [], ℕ, List, get
 use Rattle.std.specs.Prelude.{filter}
 use Rattle.ovl_names.specs.Names.{PathName}
 use Rattle.ovl_names.specs.Paths.{PathNames, child_path, parent_path}
-use Rattle.ovl_manifest.specs.Layers.{Entries, is_directory_at, names_below}
-use Rattle.ovl_manifest.specs.Sheets.{path_at}
+use Rattle.ovl_layer.specs.Layers.{Entries, is_directory_at, names_below}
+use Rattle.ovl_layer.specs.Sheets.{path_at}
 use Rattle.ovl_lookup.specs.Stacks.{StackView}
 use Rattle.ovl_lookup.specs.Words.{top_layer}
 use Rattle.ovl_lookup.proofs.LawsOfLooks.{top-layer}

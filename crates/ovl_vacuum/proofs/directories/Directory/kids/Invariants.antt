@@ -1,7 +1,7 @@
 use Rattle.std.proofs.Common.{◌≡◌, map, take}
 use Rattle.std.specs.Prelude.{filter}
 use Rattle.ovl_names.specs.Paths.{child_path}
-use Rattle.ovl_manifest.specs.Layers.{is_directory_at, names_below}
+use Rattle.ovl_layer.specs.Layers.{is_directory_at, names_below}
 use Rattle.ovl_lookup.specs.Words.{top_layer}
 use Rattle.ovl_vacuum.specs.Directories.{directory_piece, piece_in}
 use Rattle.ovl_vacuum.proofs.directories.Directory.kids.Given as goal

@@ -1,5 +1,5 @@
 use Rattle.std.proofs.Common.{ℕ, ◌<◌, subst}
-use Rattle.ovl_manifest.specs.Layers.{is_directory_at}
+use Rattle.ovl_layer.specs.Layers.{is_directory_at}
 use Rattle.ovl_lookup.specs.Words.{top_layer}
 use Rattle.ovl_vacuum.proofs.DirectoryLemmas.{kids-lawful}
 use Rattle.ovl_lookup.proofs.LawsOfLooks.{top-layer}

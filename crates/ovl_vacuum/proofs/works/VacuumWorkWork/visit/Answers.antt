@@ -1,6 +1,6 @@
 use Rattle.std.proofs.Common.{◌≡◌, ◌∙◌, [], Option, subst}
 use Rattle.std.specs.Prelude.{MatchOption}
-use Rattle.ovl_manifest.specs.Layers.{names_below}
+use Rattle.ovl_layer.specs.Layers.{names_below}
 use Rattle.ovl_lookup.specs.Words.{top_layer}
 use Rattle.ovl_vacuum.specs.declared.directories.Directory.{Directory}
 use Rattle.ovl_vacuum.specs.Directories.{directory_piece, vacuum_kids, vacuum_out}

@@ -1,0 +1,5 @@
+pub mod Accepted
+pub mod Numbers
+pub mod OptionLemmas
+pub mod Outcomes
+pub mod Taken

@@ -1,9 +1,0 @@
-use Rattle.std.proofs.Common.{◌≡◌, take, string_bytes}
-use Rattle.std.specs.List.{flat_map}
-use Rattle.ovl_manifest.specs.LayerTrees.{entries_of_nodes}
-use Rattle.ovl_engine.specs.LayerReports.{entry_line}
-use Rattle.ovl_engine.proofs.layer_reports.layer_report_of.Given as goal
-
--- the lines of what lies under the nodes so far
-abbrev pub invariant-loop-node : goal.invariant-loop-node
-invariant-loop-node l = string_bytes l.report ≡ flat_map entry_line (entries_of_nodes (take l.node-index l.node-items))

@@ -1,5 +1,0 @@
-use Rattle.ovl_engine.proofs.DirectoryLemmas.{kids_lawful}
-use Rattle.ovl_engine.proofs.works.ShowWorkWork.deepest.Goals as goal
-
-pub returns-clause-lawful : goal.returns-clause-lawful
-returns-clause-lawful c = rw (← c.self.view_is) (kids_lawful c.self.inside.stack.now c.ordinary.ensures.each)

@@ -1,0 +1,13 @@
+pub mod AfterLemmas
+pub mod BackLemmas
+pub mod BuilderLemmas
+pub mod DraftLemmas
+pub mod EntryLemmas
+pub mod KidListLemmas
+pub mod LayerLemmas
+pub mod NodeLemmas
+pub mod OpenLemmas
+pub mod SheetDraftLemmas
+pub mod SheetLemmas
+pub mod SheetPassLemmas
+pub mod WayLemmas

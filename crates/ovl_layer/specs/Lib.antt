@@ -1,0 +1,12 @@
+pub mod Layers
+pub mod LayerTrees
+pub mod TreeFalls
+pub mod Entries
+pub mod TextPaths
+pub mod Drafts
+pub mod Builders
+pub mod Sheets
+pub mod KidLists
+pub mod MarkLists
+pub mod SheetPasses
+pub mod SheetDrafts

@@ -1,0 +1,232 @@
+ghost use Rattle.std.specs.Prelude.{◌≡◌, ◌<◌, ◌≤◌, ◌↔◌, Ok, Err, Some, IfSome, IsTrue, MatchResult, [], length, take};
+ghost use Rattle.ovl_names.specs.Paths.{child_path};
+ghost use Rattle.ovl_inode.specs.Attributes.{has_escaped_name as escaped_test, is_escaped_name as escaped_name_test};
+ghost use Rattle.ovl_layer.specs.Layers.{entry_limit, is_within_limits as within_limits_test};
+ghost use Rattle.ovl_layer.specs.Entries.{is_statable, stated_pair, entry_after, layer_of_pairs, is_miscounted, first_fault, is_of_first, IsFaultOf};
+ghost use Rattle.ovl_layer.specs.declared.faults.LayerFault.{LayerFault};
+ghost use Rattle.ovl_layer.specs.declared.faults.LayerFault.TheVariants.{Count};
+ghost use Rattle.ovl_layer.specs.Drafts.{draft_entries, IsDraft};
+
+use crate::drafts::Draft;
+use crate::faults::LayerFault;
+use crate::trees::Layer;
+use ovl_inode::{Attrs, Inode, is_directory, overlay, sound};
+use ovl_names::{DEPTH_LIMIT, Name, Path, TEXT_LIMIT};
+use std::alloc::Global;
+
+/// The most entries of a layer.
+pub const ENTRY_LIMIT: usize = 1_048_576;
+
+/// The layer of these entries. It is refused with `Count`, or with the first fault of the first
+/// entry that has one, in the order of tests that `docs/FORMATS.md` tells; `Memory` can come in
+/// place of a layer or of a later entry's fault, but `Count` and the faults of the first entry need
+/// none. `Entry` is told of a path past the limits of its names or its text, and of an inode that
+/// isn't sound.
+pub fn from_entries(alloc: Global, entries: Vec<(Path, Inode)>) -> Result<Layer, LayerFault>
+    ensures value { MatchResult result
+        (λ layer. layer_of_pairs entries.items ≡ Ok layer)
+        (λ fault. IsFaultOf (layer_of_pairs entries.items) fault) }
+    ensures count { (result ≡ Err Count) ↔ IsTrue (is_miscounted (length entries.items)) }
+    ensures first { (fault : LayerFault)
+        → (first_fault entries.items ≡ Some fault)
+        ↔ ((result ≡ Err fault) × IsTrue (is_of_first fault)) }
+{
+    if entries.len() > ENTRY_LIMIT {
+        return Err(LayerFault::Count);
+    }
+    let mut entries = entries.into_iter();
+    let Some(root) = entries.next() else {
+        return Err(LayerFault::Count);
+    };
+    let mut draft = start_draft(alloc, stated(root))?;
+    let mut number = 0;
+    for entry in entries {
+        number += 1;
+        add_entry(alloc, &mut draft, number, stated(entry))?;
+    }
+    Ok(draft.finish()?)
+}
+
+/// The draft of the first entry, if one is stated.
+pub fn start_draft(alloc: Global, entry: Option<(Path, Inode)>) -> Result<Draft, LayerFault>
+    requires { IfSome entry (λ stated. IsTrue (is_statable stated)) }
+    ensures { MatchResult result
+        (λ draft. (entry_after [] entry ≡ Ok (draft_entries draft)) × IsDraft draft)
+        (λ fault. entry_after [] entry ≡ Err fault) }
+{
+    let Some((path, inode)) = entry else {
+        return Err(LayerFault::Entry(0));
+    };
+    if has_escaped_name(&inode.attrs) {
+        return Err(LayerFault::Escaped(0));
+    }
+    if !path.is_empty() || !is_directory(&inode) {
+        return Err(LayerFault::Root);
+    }
+    Ok(Draft::start(alloc, inode))
+}
+
+/// Adds the entry of this number to a draft, if one is stated.
+pub fn add_entry(
+    alloc: Global,
+    draft: &mut Draft,
+    number: u32,
+    entry: Option<(Path, Inode)>,
+) -> Result<(), LayerFault>
+    requires draft { IsDraft draft.old }
+    requires number { number ≡ length (draft_entries draft.old) }
+    requires room { number < entry_limit }
+    requires stated { IfSome entry (λ stated. IsTrue (is_statable stated)) }
+    ensures { MatchResult result
+        (λ _. (entry_after (draft_entries draft.old) entry ≡ Ok (draft_entries draft.new))
+        × IsDraft draft.new)
+        (λ fault. IsFaultOf (entry_after (draft_entries draft.old) entry) fault) }
+{
+    let Some((path, inode)) = entry else {
+        return Err(LayerFault::Entry(number));
+    };
+    if has_escaped_name(&inode.attrs) {
+        return Err(LayerFault::Escaped(number));
+    }
+    if !draft.comes_before(&path) {
+        return Err(LayerFault::Order(number));
+    }
+    if !draft.has_parent(&path) {
+        return Err(LayerFault::NoParent(number));
+    }
+    Ok(draft.enter(alloc, &path, inode)?)
+}
+
+/// The same for the entry `name` of a directory.
+pub(crate) fn add_child(
+    alloc: Global,
+    draft: &mut Draft,
+    number: u32,
+    directory: &Path,
+    name: Name,
+    inode: Inode,
+) -> Result<(), LayerFault>
+    requires draft { IsDraft draft.old }
+    requires number { number ≡ length (draft_entries draft.old) }
+    requires room { number < entry_limit }
+    ensures { MatchResult result
+        (λ _. (entry_after (draft_entries draft.old)
+        (stated_pair (child_path directory.now name, inode)) ≡ Ok (draft_entries draft.new))
+        × IsDraft draft.new)
+        (λ fault. IsFaultOf
+        (entry_after (draft_entries draft.old)
+        (stated_pair (child_path directory.now name, inode))) fault) }
+{
+    if !draft.is_within(directory) {
+        let path = directory.child(alloc, &name)?;
+        return add_entry(alloc, draft, number, stated((path, inode)));
+    }
+    if !is_child_statable(directory, &name, &inode) {
+        return Err(LayerFault::Entry(number));
+    }
+    add_on_way(alloc, draft, number, directory.len(), name, inode)
+}
+
+// The same in the directory of the first `depth` names of the last path, where a manifest can state
+// it.
+fn add_on_way(
+    alloc: Global,
+    draft: &mut Draft,
+    number: u32,
+    depth: usize,
+    name: Name,
+    inode: Inode,
+) -> Result<(), LayerFault>
+    requires draft { IsDraft draft.old }
+    requires number { number ≡ length (draft_entries draft.old) }
+    requires room { number < entry_limit }
+    requires depth { depth ≤ length draft.old.last }
+    requires stated { IsTrue (is_statable (child_path (take depth draft.old.last) name, inode)) }
+    ensures { MatchResult result
+        (λ _. (entry_after (draft_entries draft.old)
+        (Some (child_path (take depth draft.old.last) name, inode))
+        ≡ Ok (draft_entries draft.new)) × IsDraft draft.new)
+        (λ fault. IsFaultOf
+        (entry_after (draft_entries draft.old)
+        (Some (child_path (take depth draft.old.last) name, inode))) fault) }
+{
+    if has_escaped_name(&inode.attrs) {
+        return Err(LayerFault::Escaped(number));
+    }
+    if !draft.comes_before_child(depth, &name) {
+        return Err(LayerFault::Order(number));
+    }
+    if !draft.is_directory_above(depth) {
+        return Err(LayerFault::NoParent(number));
+    }
+    Ok(draft.enter_child(alloc, depth, name, inode)?)
+}
+
+// Whether a manifest can state the entry `name` of a directory.
+fn is_child_statable(directory: &Path, name: &Name, inode: &Inode) -> bool
+    ensures { result ≡ is_statable (child_path directory.now name.now, inode.now) }
+{
+    is_child_within_limits(directory, name) && sound(inode)
+}
+
+/// The entry that a pair states, and `None` where a manifest can't state it.
+pub(crate) fn stated(entry: (Path, Inode)) -> Option<(Path, Inode)>
+    ensures { result ≡ stated_pair entry }
+{
+    if is_within_limits(&entry.0) && sound(&entry.1) {
+        Some(entry)
+    } else {
+        None
+    }
+}
+
+// Whether the path has at most `DEPTH_LIMIT` names, and its text at most `TEXT_LIMIT` bytes.
+fn is_within_limits(path: &Path) -> bool
+    ensures { result ≡ within_limits_test path.now }
+{
+    if path.len() > DEPTH_LIMIT {
+        return false;
+    }
+    let mut bytes = 0;
+    for name in path.names() {
+        bytes += 1 + name.len();
+    }
+    bytes <= TEXT_LIMIT
+}
+
+// The most names of a path that can't pass `TEXT_LIMIT`: each takes at most 256 bytes with its
+// separator.
+const SHORT: usize = 15;
+
+// The same of the path of the entry `name` of a directory.
+fn is_child_within_limits(directory: &Path, name: &Name) -> bool
+    ensures { result ≡ within_limits_test (child_path directory.now name.now) }
+{
+    let names = directory.names();
+    let last = name.as_str();
+    if names.len() < SHORT {
+        return true;
+    }
+    if names.len() >= DEPTH_LIMIT {
+        return false;
+    }
+    let mut bytes = 1 + last.len();
+    for above in names {
+        bytes += 1 + above.len();
+    }
+    bytes <= TEXT_LIMIT
+}
+
+/// Whether the name of some attribute begins with `overlay::ESCAPED_PREFIX`.
+pub fn has_escaped_name(attrs: &Attrs) -> bool
+    ensures { result ≡ escaped_test attrs.now }
+{
+    attrs.pairs().any(|(name, _)| is_escaped_name(name))
+}
+
+fn is_escaped_name(name: &str) -> bool
+    ensures { result ≡ escaped_name_test name.now }
+{
+    name.as_bytes()
+        .starts_with(overlay::ESCAPED_PREFIX.as_bytes())
+}

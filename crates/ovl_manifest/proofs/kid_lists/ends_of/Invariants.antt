@@ -1,5 +1,0 @@
-use Rattle.ovl_manifest.proofs.KidListLemmas.{AreEndsTo}
-use Rattle.ovl_manifest.proofs.kid_lists.ends_of.Given as goal
-
-abbrev pub invariant-loop-number : goal.invariant-loop-number
-invariant-loop-number l = AreEndsTo l.parents l.number l.ends.items

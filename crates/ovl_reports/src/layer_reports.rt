@@ -1,0 +1,128 @@
+ghost use Rattle.std.specs.Prelude.{◌≡◌, ◌+◌, ◌++◌, IfOk, OnOk, codes, length, string_bytes};
+ghost use Rattle.std.specs.List.{flat_map};
+ghost use Rattle.ovl_names.specs.Escapes.{escaped};
+ghost use Rattle.ovl_names.specs.Paths.{PathNames, child_path};
+ghost use Rattle.ovl_inode.specs.Marks.{mark_of as mark_of_inode};
+ghost use Rattle.ovl_layer.specs.LayerTrees.{entries_from, placed};
+ghost use Rattle.ovl_reports.specs.LayerReports.{mark_word as the_mark_word, redirect_word, redirect_end, marked_line, entry_line, layer_report};
+ghost use Rattle.ovl_reports.specs.Reports.{shown_names};
+ghost use Rattle.ovl_layer.specs.Layers.{IsLayer};
+
+use crate::listings::{one_more, push_place, text_of};
+use crate::reports::{push_count, push_path, push_word};
+use ovl_inode::{Inode, Mark, Redirect, mark_of};
+use ovl_layer::{Layer, Node};
+use ovl_names::push_escaped;
+use std::alloc::{AllocError, Global};
+
+/// The report of a new layer: a line for each entry below its root, in their order, by what it means to the overlay, and
+/// the number of all entries. Fails only when out of memory.
+pub fn layer_report_of(alloc: Global, layer: &Layer) -> Result<Vec<u8>, AllocError>
+    ensures value { IfOk result (λ report. report.items ≡ layer_report layer.now) }
+    ensures layer { OnOk result (IsLayer layer.now) }
+{
+    let mut report = String::new(alloc);
+    for node in layer.root().children() {
+        push_under(alloc, &mut report, "", node)?;
+    }
+    push_count(&mut report, entry_count(layer)?)?;
+    Ok(report.into_bytes())
+}
+
+// Appends the lines of the entries at and under a node; `above` is the text of the path up to its name.
+fn push_under(
+    alloc: Global,
+    report: &mut String,
+    above: &str,
+    node: &Node,
+) -> Result<(), AllocError>
+    ensures { OnOk result ((dir : PathNames) → above.now ≡ shown_names dir → string_bytes report.new ≡ string_bytes report.old
+        ++ flat_map entry_line (placed (child_path dir node.now.name) (entries_from node.now.inode node.now.below))) }
+{
+    let name = node.name().as_str();
+    push_entry(alloc, report, above, name, node.inode())?;
+    let children = node.children();
+    if children.is_empty() {
+        return Ok(());
+    }
+    let path = text_of(alloc, above, name)?;
+    for child in children {
+        push_under(alloc, report, path.as_str(), child)?;
+    }
+    Ok(())
+}
+
+/// The number of all entries of a layer. Memory can't hold as many as have none.
+pub fn entry_count(layer: &Layer) -> Result<u64, AllocError>
+    ensures { IfOk result (λ count. count ≡ length layer.now) }
+{
+    let mut entries = 1;
+    for node in layer.root().children() {
+        count_under(node, &mut entries)?;
+    }
+    Ok(entries)
+}
+
+// Counts the entries at and under a node.
+fn count_under(node: &Node, entries: &mut u64) -> Result<(), AllocError>
+    ensures { OnOk result (entries.new ≡ entries.old + length (entries_from node.now.inode node.now.below)) }
+{
+    *entries = one_more(*entries)?;
+    for child in node.children() {
+        count_under(child, entries)?;
+    }
+    Ok(())
+}
+
+// Appends the line of an entry below the root, of whose path `above` is the text up to its name.
+fn push_entry(
+    alloc: Global,
+    report: &mut String,
+    above: &str,
+    name: &str,
+    inode: &Inode,
+) -> Result<(), AllocError>
+    ensures { OnOk result (string_bytes report.new ≡ string_bytes report.old
+        ++ marked_line (mark_of_inode inode.now) (above.now ++ (codes "/" ++ escaped name.now))) }
+{
+    let mark = mark_of(alloc, inode)?;
+    push_word(report, mark_word(&mark))?;
+    push_place(alloc, report, above, name)?;
+    push_redirect_of(alloc, report, &mark)?;
+    report.push_str("\n")
+}
+
+fn mark_word(mark: &Mark) -> &'static str
+    ensures { result.now ≡ the_mark_word mark.now }
+{
+    match mark {
+        Mark::Whiteout => "whiteout",
+        Mark::DirOpaque | Mark::DirBad => "opaque",
+        Mark::DirMoved(_) => "moved",
+        Mark::DirPlain => "plain",
+        Mark::Meta(_) => "meta",
+        Mark::MetaBad | Mark::Leaf => "leaf",
+    }
+}
+
+// Appends the redirect of a mark that has one, and a space before it.
+fn push_redirect_of(alloc: Global, report: &mut String, mark: &Mark) -> Result<(), AllocError>
+    ensures { OnOk result (string_bytes report.new ≡ string_bytes report.old ++ redirect_end mark.now) }
+{
+    match mark {
+        Mark::DirMoved(redirect) | Mark::Meta(Some(redirect)) => {
+            report.push_str(" ")?;
+            push_redirect(alloc, report, redirect)
+        }
+        _ => Ok(()),
+    }
+}
+
+fn push_redirect(alloc: Global, report: &mut String, redirect: &Redirect) -> Result<(), AllocError>
+    ensures { OnOk result (string_bytes report.new ≡ string_bytes report.old ++ redirect_word redirect.now) }
+{
+    match redirect {
+        Redirect::To(path) => push_path(alloc, report, path),
+        Redirect::Beside(name) => push_escaped(alloc, report, name.as_str()),
+    }
+}

@@ -1,0 +1,320 @@
+ghost use Rattle.std.specs.Prelude.{◌≡◌, ℕ, ◌+◌, ◌*◌, ◌<◌, ◌≤◌, ◌++◌, ◌∷◌, [], List, IfOk, OnOk, codes, drop, if◌then◌else◌, length, string_bytes, take};
+ghost use Rattle.std.specs.Fork.{slice_chunk};
+ghost use Rattle.std.specs.List.{flat_map, sum_by};
+ghost use Rattle.ovl_names.specs.Escapes.{escaped as escaped_text};
+ghost use Rattle.ovl_lookup.specs.Stacks.{StackView};
+ghost use Rattle.ovl_board.specs.Parcels.{parcel_views};
+ghost use Rattle.ovl_reports.specs.declared.listings.Open.{Open};
+ghost use Rattle.ovl_reports.specs.Directories.{ShowParcel, IsShowWalk};
+ghost use Rattle.ovl_reports.specs.Listings.{IsShowReport, IsTreeOf, StartsAtDirectory, TellsLeaves, merged_tree};
+ghost use Rattle.ovl_reports.specs.Reports.{line_of, look_line, show_line};
+ghost use Rattle.ovl_reports.specs.Shares.{AreJoined};
+
+use crate::reports::{push_attributes, push_contents, push_count, push_name, push_status};
+use crate::shares::{joined, share_of, side_by_side};
+use crate::works::ShowWork;
+use ovl_board::Parcel;
+use ovl_inode::Inode;
+use ovl_lookup::Look;
+use ovl_names::Name;
+use std::alloc::{AllocError, Global};
+use std::thread::{Threads, map_indices};
+
+// The room that is made for each line: most take less. A text that has to grow may lie in memory twice.
+const LINE_ROOM: usize = 160;
+
+/// The report of `show` of the whole merged tree, with no list of its paths: see [`crate::report_of`].
+/// The parcels are the plain walk of the work from `/` of space 0. Fails only when out of memory.
+pub fn report_of_walk(
+    alloc: Global,
+    work: &ShowWork<'_>,
+    parcels: &[Parcel<Vec<(Name, Look)>>],
+) -> Result<Vec<u8>, AllocError>
+    requires { IsShowWalk work.now (parcel_views (λ looks. looks.items) parcels.now) }
+    ensures { IfOk result (λ report. IsShowReport work.now report.items) }
+{
+    let root = work.root_look(alloc)?;
+    let report = report_of_tree(alloc, &root, parcels)?;
+    Ok(report)
+}
+
+// The report by what is shown at `/` and the parcels.
+fn report_of_tree(
+    alloc: Global,
+    root: &Look,
+    parcels: &[Parcel<Vec<(Name, Look)>>],
+) -> Result<Vec<u8>, AllocError>
+    ensures { IfOk result (λ report. (stack : StackView) → IsTreeOf stack root.now (parcel_views (λ looks. looks.items) parcels.now)
+        → IsShowReport stack report.items) }
+{
+    let entries = entries_of(parcels)?;
+    let mut report = lines_from(alloc, root, parcels, 0, entries)?;
+    push_count(&mut report, entries as u64)?;
+    Ok(report.into_bytes())
+}
+
+/// The report of `show` by what is shown at `/` and the parcels of the walk, written by at most as many threads as there
+/// are workers: each writes a share of the lines. The parcels are let go while these are put together.
+pub fn report_by<R: Threads + Sync>(
+    rt: &R,
+    alloc: Global,
+    root: &Look,
+    parcels: Vec<Parcel<Vec<(Name, Look)>>>,
+    workers: usize,
+) -> Result<Vec<u8>, AllocError>
+    requires { 0 < workers }
+    ensures { IfOk result (λ report. (stack : StackView) → IsTreeOf stack root.now (parcel_views (λ looks. looks.items) parcels.items)
+        → IsShowReport stack report.items) }
+{
+    let walk = parcels.as_slice();
+    let entries = entries_of(walk)?;
+    let share = share_of(entries, workers);
+    if entries <= share {
+        return report_of_tree(alloc, root, walk);
+    }
+    let parts = parts_by(rt, alloc, root, walk, share, entries.div_ceil(share))?;
+    let join = || -> Result<String, AllocError>
+        ensures { IfOk result (λ whole. AreJoined string_bytes parts.items (string_bytes whole)) }
+    { joined(alloc, parts) };
+    let (lines, ()) = side_by_side(rt, workers, join, || drop(parcels));
+    let mut report = lines?;
+    push_count(&mut report, entries as u64)?;
+    Ok(report.into_bytes())
+}
+
+// The number of all paths: `/`, and what stands in the directories. Memory can't hold as many as have none.
+fn entries_of(parcels: &[Parcel<Vec<(Name, Look)>>]) -> Result<usize, AllocError>
+    ensures { IfOk result (λ entries. entries ≡ 1 + sum_by (λ parcel. length parcel.out.items) parcels.now) }
+{
+    let mut entries: usize = 1;
+    for parcel in parcels {
+        entries = entries.checked_add(parcel.out.len()).ok_or(AllocError)?;
+    }
+    Ok(entries)
+}
+
+// The lines of the first paths, in so many shares of `share` lines at most; each is written by a thread of its own.
+fn parts_by<R: Threads + Sync>(
+    rt: &R,
+    alloc: Global,
+    root: &Look,
+    parcels: &[Parcel<Vec<(Name, Look)>>],
+    share: usize,
+    shares: usize,
+) -> Result<Vec<Result<String, AllocError>>, AllocError>
+    requires { 0 < share }
+    ensures { IfOk result (λ parts. (stack : StackView) → IsTreeOf stack root.now (parcel_views (λ looks. looks.items) parcels.now)
+        → (whole : List ℕ) → AreJoined string_bytes parts.items whole → whole ≡ flat_map show_line (take (shares * share) (merged_tree stack))) }
+{
+    let write = |index: usize| -> Result<String, AllocError>
+        requires { 0 < share }
+        ensures { IfOk result (λ lines. (stack : StackView) → IsTreeOf stack root.entry.now (parcel_views (λ looks. looks.items) parcels.entry.now)
+            → string_bytes lines ≡ flat_map show_line (slice_chunk (merged_tree stack) share index)) }
+    { lines_of_share(alloc, root, parcels, index, share) };
+    let parts = map_indices(rt, alloc, shares, &write)?;
+    Ok(parts)
+}
+
+// The lines of the share of this number.
+fn lines_of_share(
+    alloc: Global,
+    root: &Look,
+    parcels: &[Parcel<Vec<(Name, Look)>>],
+    index: usize,
+    share: usize,
+) -> Result<String, AllocError>
+    requires { 0 < share }
+    ensures { IfOk result (λ lines. (stack : StackView) → IsTreeOf stack root.now (parcel_views (λ looks. looks.items) parcels.now)
+        → string_bytes lines ≡ flat_map show_line (slice_chunk (merged_tree stack) share index)) }
+{
+    let first = index.checked_mul(share).ok_or(AllocError)?;
+    lines_from(alloc, root, parcels, first, share)
+}
+
+// The lines of the paths of the merged tree from number `first` on, `share` at most; `/` has number 0.
+fn lines_from(
+    alloc: Global,
+    root: &Look,
+    parcels: &[Parcel<Vec<(Name, Look)>>],
+    first: usize,
+    share: usize,
+) -> Result<String, AllocError>
+    requires { 0 < share }
+    ensures { IfOk result (λ lines. (stack : StackView) → IsTreeOf stack root.now (parcel_views (λ looks. looks.items) parcels.now)
+        → string_bytes lines ≡ flat_map show_line (take share (drop first (merged_tree stack)))) }
+{
+    let end = first.checked_add(share).ok_or(AllocError)?;
+    let mut lines = String::with_capacity(alloc, share.saturating_mul(LINE_ROOM))?;
+    push_wanted(alloc, &mut lines, first == 0, "", "", root)?;
+    let mut told = 1;
+    let mut open = Vec::new(alloc);
+    let mut rest = enter(&mut open, parcels, String::new(alloc))?;
+    while let Some(mut directory) = open.pop() {
+        told = push_leaves(alloc, &mut lines, first, end, told, &mut directory)?;
+        if told == end {
+            break;
+        }
+        let Some((name, look)) = directory.parcel.out.get(directory.told) else {
+            continue;
+        };
+        let above = directory.text.as_str();
+        push_wanted(alloc, &mut lines, first <= told, above, name.as_str(), look)?;
+        let text = text_of(alloc, above, name.as_str())?;
+        told += 1;
+        directory.told += 1;
+        open.push(directory)?;
+        rest = enter(&mut open, rest, text)?;
+    }
+    Ok(lines)
+}
+
+// A directory whose entries are being told: its parcel, how many of them are told, and what stands before each of
+// their names in a report.
+#[derive(Drop)]
+struct Open<'a> {
+    parcel: &'a Parcel<Vec<(Name, Look)>>,
+    told: usize,
+    text: String,
+}
+
+// Opens the directory of the first parcel; gives the other parcels.
+fn enter<'a>(
+    opened: &mut Vec<Open<'a>>,
+    parcels: &'a [Parcel<Vec<(Name, Look)>>],
+    text: String,
+) -> Result<&'a [Parcel<Vec<(Name, Look)>>], AllocError>
+    ensures next { IfOk result (λ rest. (parcel : ShowParcel) (others : List ShowParcel) → parcels.now ≡ parcel ∷ others
+        → (rest.now ≡ others) × ((last : Open) × ((opened.new.items ≡ opened.old.items ++ last ∷ [])
+        × (last.parcel.now ≡ parcel) × (last.told ≡ 0) × (string_bytes last.text ≡ string_bytes text)))) }
+    ensures few { IfOk result (λ _. length opened.new.items ≤ length opened.old.items + 1) }
+{
+    let Some((parcel, rest)) = parcels.split_first() else {
+        return Ok(parcels);
+    };
+    opened.push(Open {
+        parcel,
+        told: 0,
+        text,
+    })?;
+    Ok(rest)
+}
+
+// Tells what isn't a directory in an open directory, up to what is one: appends the lines from number `first` on. So many
+// paths are told before; gives how many are told then, `end` at most.
+fn push_leaves(
+    alloc: Global,
+    lines: &mut String,
+    first: usize,
+    end: usize,
+    told: usize,
+    directory: &mut Open<'_>,
+) -> Result<usize, AllocError>
+    requires { told ≤ end }
+    ensures leaves { IfOk result (λ number. TellsLeaves first (string_bytes directory.old.text)
+        (drop directory.old.told directory.old.parcel.now.out.items) (drop directory.new.told directory.old.parcel.now.out.items)
+        told number (string_bytes lines.old) (string_bytes lines.new)) }
+    ensures within { IfOk result (λ number. number ≤ end) }
+    ensures next { IfOk result (λ number. number < end → StartsAtDirectory (drop directory.new.told directory.old.parcel.now.out.items)) }
+    ensures same { OnOk result ((directory.new.parcel ≡ directory.old.parcel) × (directory.new.text ≡ directory.old.text)) }
+{
+    let mut number = told;
+    while let Some((name, look)) = directory.parcel.out.get(directory.told) {
+        if number == end || look.is_shown_directory() {
+            break;
+        }
+        push_wanted(
+            alloc,
+            lines,
+            first <= number,
+            directory.text.as_str(),
+            name.as_str(),
+            look,
+        )?;
+        number += 1;
+        directory.told += 1;
+    }
+    Ok(number)
+}
+
+// The next number: memory can't hold as many paths as have none.
+pub(crate) fn one_more(entries: u64) -> Result<u64, AllocError>
+    ensures { IfOk result (λ more. more ≡ entries + 1) }
+{
+    entries.checked_add(1).ok_or(AllocError)
+}
+
+// What stands before the names in a directory, by what stands before its own name.
+pub(crate) fn text_of(alloc: Global, above: &str, name: &str) -> Result<String, AllocError>
+    ensures { IfOk result (λ text. string_bytes text ≡ above.now ++ (codes "/" ++ escaped_text name.now)) }
+{
+    // Few names have characters that are escaped.
+    let room = above.len().saturating_add(1).saturating_add(name.len());
+    let mut text = String::with_capacity(alloc, room)?;
+    push_place(alloc, &mut text, above, name)?;
+    Ok(text)
+}
+
+// Appends the line of what is shown at a path, where it is wanted.
+fn push_wanted(
+    alloc: Global,
+    report: &mut String,
+    wanted: bool,
+    above: &str,
+    name: &str,
+    look: &Look,
+) -> Result<(), AllocError>
+    ensures { OnOk result (string_bytes report.new ≡ string_bytes report.old
+        ++ (if wanted then look_line (above.now ++ (codes "/" ++ escaped_text name.now)) look.now else [])) }
+{
+    if !wanted {
+        return Ok(());
+    }
+    push_look(alloc, report, above, name, look)
+}
+
+// Appends the line of what is shown at a path; `above` is the text of the path up to its last name.
+fn push_look(
+    alloc: Global,
+    report: &mut String,
+    above: &str,
+    name: &str,
+    look: &Look,
+) -> Result<(), AllocError>
+    ensures { OnOk result (string_bytes report.new ≡ string_bytes report.old ++ look_line (above.now ++ (codes "/" ++ escaped_text name.now)) look.now) }
+{
+    match look {
+        Look::Shown(inode) => push_entry(alloc, report, above, name, inode, false),
+        Look::Broken(inode) => push_entry(alloc, report, above, name, inode, true),
+        Look::Nothing => Ok(()),
+    }
+}
+
+fn push_entry(
+    alloc: Global,
+    report: &mut String,
+    above: &str,
+    name: &str,
+    inode: &Inode,
+    broken: bool,
+) -> Result<(), AllocError>
+    ensures { OnOk result (string_bytes report.new ≡ string_bytes report.old ++ line_of broken (above.now ++ (codes "/" ++ escaped_text name.now)) inode.now) }
+{
+    push_status(report, inode)?;
+    push_contents(alloc, report, &inode.kind, broken)?;
+    push_place(alloc, report, above, name)?;
+    push_attributes(alloc, report, &inode.attrs)?;
+    report.push_str("\n")
+}
+
+// Appends the text of a path, of which `above` is the text up to its last name.
+pub(crate) fn push_place(
+    alloc: Global,
+    report: &mut String,
+    above: &str,
+    name: &str,
+) -> Result<(), AllocError>
+    ensures { OnOk result (string_bytes report.new ≡ string_bytes report.old ++ (above.now ++ (codes "/" ++ escaped_text name.now))) }
+{
+    report.push_str(above)?;
+    push_name(alloc, report, name)
+}

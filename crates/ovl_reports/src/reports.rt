@@ -1,0 +1,251 @@
+ghost use Rattle.std.specs.Prelude.{◌≡◌, ◌+◌, ◌%◌, ◌++◌, IfOk, OnOk, codes, decimal, replicate, string_bytes};
+ghost use Rattle.std.specs.List.{flat_map};
+ghost use Rattle.ovl_names.specs.Escapes.{escaped as escaped_text, shown_path};
+ghost use Rattle.ovl_inode.specs.Kinds.{kind_word};
+ghost use Rattle.ovl_reports.specs.Reports.{octal_digit as last_digit, octal, size_word, blob_word, device_word, what_word, attribute_word, nine_digits as nine_digits_of, time_word, spaced, inode_line, show_report};
+
+use ovl_inode::{Attrs, Digest, Inode, Kind};
+use ovl_lookup::Look;
+use ovl_names::{Path, push_escaped};
+use std::alloc::{AllocError, Global};
+
+/// The report of `show`: a line for each path of the merged tree, in their order, and their number.
+/// Fails only when out of memory.
+pub fn report_of(alloc: Global, looks: &[(Path, Look)]) -> Result<Vec<u8>, AllocError>
+    ensures { IfOk result (λ report. report.items ≡ show_report looks.now) }
+{
+    let mut report = String::new(alloc);
+    for (path, look) in looks {
+        match look {
+            Look::Shown(inode) => push_line(alloc, &mut report, path, inode, false)?,
+            Look::Broken(inode) => push_line(alloc, &mut report, path, inode, true)?,
+            Look::Nothing => {}
+        }
+    }
+    push_count(&mut report, looks.len() as u64)?;
+    Ok(report.into_bytes())
+}
+
+// Appends the last line, by the number of paths.
+pub(crate) fn push_count(report: &mut String, entries: u64) -> Result<(), AllocError>
+    ensures { OnOk result (string_bytes report.new ≡ string_bytes report.old ++ codes "entries " ++ decimal entries ++ codes "\n") }
+{
+    report.push_str("entries ")?;
+    push_number(report, entries)?;
+    report.push_str("\n")
+}
+
+// Appends the line of a path with an inode, `broken` where that is a metacopy file without its data.
+fn push_line(
+    alloc: Global,
+    report: &mut String,
+    path: &Path,
+    inode: &Inode,
+    broken: bool,
+) -> Result<(), AllocError>
+    ensures { OnOk result (string_bytes report.new ≡ string_bytes report.old ++ inode_line broken path.now inode.now) }
+{
+    push_status(report, inode)?;
+    push_contents(alloc, report, &inode.kind, broken)?;
+    push_path(alloc, report, path)?;
+    push_attributes(alloc, report, &inode.attrs)?;
+    report.push_str("\n")
+}
+
+// The kind, the mode, the owner, the group and the time, with a space after each.
+pub(crate) fn push_status(report: &mut String, inode: &Inode) -> Result<(), AllocError>
+    ensures { OnOk result (string_bytes report.new ≡ string_bytes report.old
+        ++ (spaced (kind_word inode.now.kind) ++ spaced (octal inode.now.mode)
+        ++ spaced (decimal inode.now.uid) ++ spaced (decimal inode.now.gid) ++ spaced (time_word inode.now.mtime inode.now.nsec))) }
+{
+    push_word(report, inode.kind.word())?;
+    push_mode(report, inode.mode)?;
+    push_number_word(report, u64::from(inode.uid))?;
+    push_number_word(report, u64::from(inode.gid))?;
+    push_time(report, inode.mtime, inode.nsec)
+}
+
+/// Appends a word, and a space after it. Fails only when out of memory.
+pub fn push_word(report: &mut String, word: &str) -> Result<(), AllocError>
+    ensures { OnOk result (string_bytes report.new ≡ string_bytes report.old ++ spaced word.now) }
+{
+    report.push_str(word)?;
+    report.push_str(" ")
+}
+
+// The seconds of a time, its nanoseconds where it has any, and a space after them.
+fn push_time(report: &mut String, seconds: i64, nsec: u32) -> Result<(), AllocError>
+    ensures { OnOk result (string_bytes report.new ≡ string_bytes report.old ++ spaced (time_word seconds nsec)) }
+{
+    report.push_str(itoa::Buffer::new().format(seconds))?;
+    if nsec != 0 {
+        report.push_str("+")?;
+        push_nine_digits(report, nsec)?;
+    }
+    report.push_str(" ")
+}
+
+// Nine digits of a number, the first ones zeros where it has fewer.
+fn push_nine_digits(report: &mut String, number: u32) -> Result<(), AllocError>
+    ensures { OnOk result (string_bytes report.new ≡ string_bytes report.old ++ nine_digits_of number) }
+{
+    let mut buffer = itoa::Buffer::new();
+    let digits = buffer.format(number);
+    push_zeros(report, 9_usize.saturating_sub(digits.len()))?;
+    report.push_str(digits)
+}
+
+fn push_zeros(report: &mut String, count: usize) -> Result<(), AllocError>
+    ensures { OnOk result (string_bytes report.new ≡ string_bytes report.old ++ replicate count 48) }
+{
+    for _ in 0..count {
+        report.push_str("0")?;
+    }
+    Ok(())
+}
+
+// The mode, and a space after it.
+fn push_mode(report: &mut String, mode: u16) -> Result<(), AllocError>
+    ensures { OnOk result (string_bytes report.new ≡ string_bytes report.old ++ spaced (octal mode)) }
+{
+    report.push(octal_digit(mode / 512))?;
+    report.push(octal_digit(mode / 64))?;
+    report.push(octal_digit(mode / 8))?;
+    report.push(octal_digit(mode))?;
+    report.push_str(" ")
+}
+
+fn octal_digit(number: u16) -> char
+    ensures { result ≡ last_digit number }
+{
+    (b'0' + (number % 8) as u8) as char
+}
+
+/// Appends a number in decimal digits. Fails only when out of memory.
+/// Appends a number in decimal digits. Fails only when out of memory.
+// Many numbers have one digit, as those of root: it needs no buffer.
+#[tactic(auto, using(std::proofs::lemmas::Fmt::decimal_digit, std::proofs::lemmas::Grind::common_steps))]
+pub fn push_number(report: &mut String, number: u64) -> Result<(), AllocError>
+    ensures { OnOk result (string_bytes report.new ≡ string_bytes report.old ++ decimal number) }
+{
+    if number < 10 {
+        return report.push((b'0' + number as u8) as char);
+    }
+    report.push_str(itoa::Buffer::new().format(number))
+}
+
+/// Appends a number, and a space after it. Fails only when out of memory.
+pub fn push_number_word(report: &mut String, number: u64) -> Result<(), AllocError>
+    ensures { OnOk result (string_bytes report.new ≡ string_bytes report.old ++ spaced (decimal number)) }
+{
+    push_number(report, number)?;
+    report.push_str(" ")
+}
+
+// The size and what else the kind has, with a space after each.
+pub(crate) fn push_contents(
+    alloc: Global,
+    report: &mut String,
+    kind: &Kind,
+    broken: bool,
+) -> Result<(), AllocError>
+    ensures { OnOk result (string_bytes report.new ≡ string_bytes report.old
+        ++ (spaced (size_word kind.now) ++ spaced (what_word broken kind.now))) }
+{
+    push_size(report, kind)?;
+    push_what(alloc, report, kind, broken)?;
+    report.push_str(" ")
+}
+
+// The size, and a space after it.
+fn push_size(report: &mut String, kind: &Kind) -> Result<(), AllocError>
+    ensures { OnOk result (string_bytes report.new ≡ string_bytes report.old ++ spaced (size_word kind.now)) }
+{
+    match kind {
+        Kind::File { size, .. } => push_number_word(report, *size),
+        _ => push_word(report, "-"),
+    }
+}
+
+fn push_what(
+    alloc: Global,
+    report: &mut String,
+    kind: &Kind,
+    broken: bool,
+) -> Result<(), AllocError>
+    ensures { OnOk result (string_bytes report.new ≡ string_bytes report.old ++ what_word broken kind.now) }
+{
+    match kind {
+        Kind::File { blob, .. } => push_blob(report, *blob, broken),
+        Kind::Symlink { target } => push_escaped(alloc, report, target.as_str()),
+        Kind::Char { major, minor } | Kind::Block { major, minor } => {
+            push_device(report, *major, *minor)
+        }
+        Kind::Dir | Kind::Fifo | Kind::Socket => report.push_str("-"),
+    }
+}
+
+fn push_blob(report: &mut String, blob: Option<Digest>, broken: bool) -> Result<(), AllocError>
+    ensures { OnOk result (string_bytes report.new ≡ string_bytes report.old ++ blob_word broken blob) }
+{
+    match blob {
+        _ if broken => report.push_str("missing"),
+        Some(digest) => report.push_str(digest.digits().as_str()),
+        None => report.push_str("-"),
+    }
+}
+
+fn push_device(report: &mut String, major: u32, minor: u32) -> Result<(), AllocError>
+    ensures { OnOk result (string_bytes report.new ≡ string_bytes report.old ++ device_word major minor) }
+{
+    push_number(report, u64::from(major))?;
+    report.push_str(":")?;
+    push_number(report, u64::from(minor))
+}
+
+pub(crate) fn push_path(alloc: Global, report: &mut String, path: &Path) -> Result<(), AllocError>
+    ensures { OnOk result (string_bytes report.new ≡ string_bytes report.old ++ shown_path path.now) }
+{
+    if path.is_empty() {
+        return report.push_str("/");
+    }
+    for name in path.names() {
+        push_name(alloc, report, name)?;
+    }
+    Ok(())
+}
+
+/// Appends a name of a path, and `/` before it. Fails only when out of memory.
+pub fn push_name(alloc: Global, report: &mut String, name: &str) -> Result<(), AllocError>
+    ensures { OnOk result (string_bytes report.new ≡ string_bytes report.old ++ (codes "/" ++ escaped_text name.now)) }
+{
+    report.push_str("/")?;
+    push_escaped(alloc, report, name)
+}
+
+pub(crate) fn push_attributes(
+    alloc: Global,
+    report: &mut String,
+    attrs: &Attrs,
+) -> Result<(), AllocError>
+    ensures { OnOk result (string_bytes report.new ≡ string_bytes report.old ++ flat_map attribute_word attrs.now) }
+{
+    for (name, value) in attrs.pairs() {
+        push_attribute(alloc, report, name, value)?;
+    }
+    Ok(())
+}
+
+fn push_attribute(
+    alloc: Global,
+    report: &mut String,
+    name: &str,
+    value: &[u8],
+) -> Result<(), AllocError>
+    ensures { OnOk result (string_bytes report.new ≡ string_bytes report.old ++ attribute_word (name.now, value.now)) }
+{
+    report.push_str(" ")?;
+    push_escaped(alloc, report, name)?;
+    report.push_str("=")?;
+    report.push_str(hex::encode(alloc, value)?.as_str())
+}
