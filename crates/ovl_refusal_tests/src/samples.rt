@@ -20,7 +20,8 @@ pub(crate) fn stack_of(alloc: Global, manifests: &str) -> Result<Stack, AllocErr
 }
 
 // A root alone.
-pub(crate) const ROOT: &str = r#"{"entries":[{"gid":0,"kind":"dir","mode":493,"mtime":0,"mtime-nsec":0,"path":"/","uid":0,"xattrs":{}}],"overlay-layer":2}
+pub(crate) const ROOT: &str =
+    r#"{"entries":[{"gid":0,"kind":"dir","mode":493,"mtime":0,"mtime-nsec":0,"path":"/","uid":0,"xattrs":{}}],"overlay-layer":2}
 "#;
 
 // `bare /m metacopy=, dir /n opaque=y, dir /n/d redirect=/x, link /n/l user.k=v, whiteout /x` over `file /m, dir /n, file /n/z, dir /x, file /x/k`.
