@@ -36,7 +36,8 @@ use std::thread::Threads;
 
 /// What a command gives of the layers that the manifests state, the topmost first and the last `bottom` of them data-only,
 /// and of the blobs, by 1 to [`WORKER_LIMIT`] workers. The answer is the same for every number of workers and every order
-/// of their visits.
+/// of their visits. Lent manifests, `&[Vec<u8>]`, stay as they are; of a list of its own, `Vec<Vec<u8>>`, it lets each go
+/// once its layer is read, so that the command's work has their memory.
 ///
 /// Refused before any worker starts where the workers are outside 1 to [`WORKER_LIMIT`], else where the manifests are
 /// outside 1 to [`LAYER_LIMIT`], else where all layers would be data-only, else where a manifest states no layer, the first
@@ -50,65 +51,29 @@ use std::thread::Threads;
 /// first three refusals. It waits for its workers, and returns only where each question to the gate does. The merged tree,
 /// what is checked and the new layers are those of `docs/PROFILE.md`, the reports those of `docs/FORMATS.md`.
 /// overlayfs.rst: "Data-only lower layers".
-pub fn command<G: Gate + Sync, R: Threads + Wait + Sync>(
+pub fn command<G: Gate + Sync, R: Threads + Wait + Sync, M: Manifests + Drop>(
     rt: &R,
     alloc: Global,
     what: Command,
-    manifests: &[Vec<u8>],
+    manifests: M,
     bottom: u16,
     blobs: &[Blob],
     workers: usize,
     gate: &G,
 ) -> Result<Answer, EngineFault>
-    ensures outcome { IsOutcome (request_of what manifests.now bottom blobs.now workers) (G.may_refuse gate.now) result }
+    ensures outcome { IsOutcome (request_of what (M.held manifests) bottom blobs.now workers) (G.may_refuse gate.now) result }
     ensures keeps { IfOk result (λ answer. makes_layers what ≡ true
-        → let request = request_of what manifests.now bottom blobs.now workers in KeepsTree request (after request answer)) }
+        → let request = request_of what (M.held manifests) bottom blobs.now workers in KeepsTree request (after request answer)) }
     ensures sound { IfOk result (λ answer. stays_sound what ≡ true
-        → HasSoundStack (after (request_of what manifests.now bottom blobs.now workers) answer)) }
+        → HasSoundStack (after (request_of what (M.held manifests) bottom blobs.now workers) answer)) }
     ensures quiet { IfOk result (λ answer. stands_alone what ≡ true
-        → let request = request_of what manifests.now bottom blobs.now workers in IsQuiet request (after request answer)) }
+        → let request = request_of what (M.held manifests) bottom blobs.now workers in IsQuiet request (after request answer)) }
     ensures workers { (result ≡ Err Workers) ↔ (outside_test worker_limit workers ≡ true) }
     ensures layers { (result ≡ Err Layers)
-        ↔ ((outside_test worker_limit workers ≡ false) × (outside_test layer_limit (length manifests.now) ≡ true)) }
+        ↔ ((outside_test worker_limit workers ≡ false) × (outside_test layer_limit (length (M.held manifests)) ≡ true)) }
     ensures data_layers { (result ≡ Err DataLayers)
-        ↔ ((outside_test worker_limit workers ≡ false) × (outside_test layer_limit (length manifests.now) ≡ false)
-        × (nat_le (length manifests.now) bottom ≡ true)) }
-{
-    let stack = stack_for(rt, alloc, what, manifests, bottom, blobs, workers)?;
-    let team = Team {
-        rt,
-        alloc,
-        workers,
-        gate,
-    };
-    answer_of(&team, what, stack, blobs)
-}
-
-/// What [`command`] gives, of manifests that nobody needs any more: they are let go once their layers are read, so that
-/// the command's work has their memory.
-pub fn command_of<G: Gate + Sync, R: Threads + Wait + Sync>(
-    rt: &R,
-    alloc: Global,
-    what: Command,
-    manifests: Vec<Vec<u8>>,
-    bottom: u16,
-    blobs: &[Blob],
-    workers: usize,
-    gate: &G,
-) -> Result<Answer, EngineFault>
-    ensures outcome { IsOutcome (request_of what manifests.items bottom blobs.now workers) (G.may_refuse gate.now) result }
-    ensures keeps { IfOk result (λ answer. makes_layers what ≡ true
-        → let request = request_of what manifests.items bottom blobs.now workers in KeepsTree request (after request answer)) }
-    ensures sound { IfOk result (λ answer. stays_sound what ≡ true
-        → HasSoundStack (after (request_of what manifests.items bottom blobs.now workers) answer)) }
-    ensures quiet { IfOk result (λ answer. stands_alone what ≡ true
-        → let request = request_of what manifests.items bottom blobs.now workers in IsQuiet request (after request answer)) }
-    ensures workers { (result ≡ Err Workers) ↔ (outside_test worker_limit workers ≡ true) }
-    ensures layers { (result ≡ Err Layers)
-        ↔ ((outside_test worker_limit workers ≡ false) × (outside_test layer_limit (length manifests.items) ≡ true)) }
-    ensures data_layers { (result ≡ Err DataLayers)
-        ↔ ((outside_test worker_limit workers ≡ false) × (outside_test layer_limit (length manifests.items) ≡ false)
-        × (nat_le (length manifests.items) bottom ≡ true)) }
+        ↔ ((outside_test worker_limit workers ≡ false) × (outside_test layer_limit (length (M.held manifests)) ≡ false)
+        × (nat_le (length (M.held manifests)) bottom ≡ true)) }
 {
     let stack = stack_for(rt, alloc, what, manifests, bottom, blobs, workers)?;
     let team = Team {

@@ -19,9 +19,10 @@ mod teams;
 mod vacuums;
 
 pub use blobs::named_blobs;
-pub use commands::{BLOB_LIMIT, command, command_of};
+pub use commands::{BLOB_LIMIT, command};
 pub use contents::{CommandFault, Contents};
 pub use faults::EngineFault;
+pub use manifests::Manifests;
 pub use merges_down::{merge_down, merge_down_told, question_down};
 pub use ovl_check::{Blob, Code, Content, Finding};
 pub use ovl_commands::{Answer, Command};

@@ -5,7 +5,7 @@ use std::alloc::{AllocError, Global};
 use std::convert::AsSlice;
 
 /// The manifests of a command: its own, of which each goes once its layer is read, or lent ones.
-pub(crate) trait Manifests {
+pub trait Manifests {
     /// One of them.
     type Manifest: AsSlice<u8> + Send + Drop;
 

@@ -43,7 +43,7 @@ pub struct Question {
     pub names: Vec<Digest>,
 }
 
-/// What [`command_of`](crate::command_of) gives, with contents that needn't be held in memory in place of blobs: where the
+/// What [`command`](crate::command) gives, with contents that needn't be held in memory in place of blobs: where the
 /// command checks the layers, [`Contents::tell`] is asked once, for the names of blobs that they state, each once, after all
 /// that is refused before any work. There is no limit of their bytes. The answer is that with blobs that may be what `tell`
 /// told of, whatever is under names that no layer states, see
@@ -74,7 +74,7 @@ pub fn command_over<C: Contents, G: Gate + Sync, R: Threads + Wait + Sync>(
 
 /// The first part of a command over contents: reads the manifests, by at most as many threads as there are workers, and
 /// gives the stack of their layers with the names of blobs that these state. It is refused for what refuses
-/// [`command_of`](crate::command_of) without blobs before its work.
+/// [`command`](crate::command) without blobs before its work.
 pub fn question_of<R: Threads + Sync>(
     rt: &R,
     alloc: Global,
@@ -103,7 +103,7 @@ pub fn question_of<R: Threads + Sync>(
 /// The second part of a command over contents: what it gives of its question and of what is told, by 1 to
 /// [`WORKER_LIMIT`](ovl_board::WORKER_LIMIT) workers: the contents of blobs, their names ascending, of each name that was
 /// asked for and is there. The answer is that with any blobs that have these contents; a name that isn't told has none. The
-/// gate is asked for directories alone. Fails as [`command_of`](crate::command_of) does in its work.
+/// gate is asked for directories alone. Fails as [`command`](crate::command) does in its work.
 pub fn answer_told<G: Gate + Sync, R: Threads + Wait + Sync>(
     rt: &R,
     alloc: Global,

@@ -61,7 +61,7 @@ fn ended<R: Threads + Wait + Sync>(rt: &R, alloc: Global, given: &str) -> Result
         rt,
         alloc,
         Command::Show,
-        &manifests,
+        manifests,
         0,
         &blobs,
         workers,
@@ -94,7 +94,7 @@ fn vacuumed<R: Threads + Wait + Sync>(
     let (manifests, _) = manifests_of(alloc, idle_stack(alloc)?.as_str())?;
     let blobs = blobs_of(alloc, "a")?;
     let what = Command::Vacuum;
-    Ok(command(rt, alloc, what, &manifests, 0, &blobs, workers, &OpenGate)?)
+    Ok(command(rt, alloc, what, manifests, 0, &blobs, workers, &OpenGate)?)
 }
 
 #[test]

@@ -119,7 +119,7 @@ fn fault_of<R: Threads + Wait + Sync, G: Gate + Sync>(
 ) -> Result<String, Fail> {
     let (manifests, bottom) = manifests_of(alloc, stack)?;
     let blobs = blobs_of(alloc, "abc ab")?;
-    let ended = command(rt, alloc, what, &manifests, bottom, &blobs, workers, gate);
+    let ended = command(rt, alloc, what, manifests, bottom, &blobs, workers, gate);
     text_of(alloc, ended.err())
 }
 

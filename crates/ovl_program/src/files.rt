@@ -5,4 +5,5 @@ pub mod folder_in_parts;
 pub mod held_blobs;
 pub mod manifests;
 pub mod reads;
+pub mod regular_files;
 pub mod tellings;

@@ -5,8 +5,8 @@ use crate::samples::{MOVED, ROOT, stack_of};
 use ovl_board::plain_walk;
 use ovl_check::Content;
 use ovl_engine::{
-    Command, CommandFault, Contents, EngineFault, ShowWork, command, command_of, command_over,
-    finish_show, merge_down, named_blobs, question_down, report_of, report_of_walk,
+    Command, CommandFault, Contents, EngineFault, ShowWork, command, command_over, finish_show,
+    merge_down, named_blobs, question_down, report_of, report_of_walk,
 };
 use ovl_inode::Digest;
 use ovl_lookup::Stack;
@@ -68,8 +68,17 @@ fn is_answered<R: Threads + Wait + Sync>(
 ) -> Result<bool, EngineFault> {
     let blobs = named_blobs(alloc, &manifests_of(alloc, "a")?)?;
     let manifests = manifests_of(alloc, MOVED)?;
-    let answer = command(rt, alloc, what, &manifests, 0, &blobs, workers, &OpenGate)?;
-    let same = command_of(rt, alloc, what, manifests, 0, &blobs, workers, &OpenGate)?;
+    let answer = command(
+        rt,
+        alloc,
+        what,
+        manifests.as_slice(),
+        0,
+        &blobs,
+        workers,
+        &OpenGate,
+    )?;
+    let same = command(rt, alloc, what, manifests, 0, &blobs, workers, &OpenGate)?;
     Ok(answer == same && answer.report.ends_with(end.as_bytes()))
 }
 

@@ -13,6 +13,7 @@ use crate::faults::ProgramFault;
 use crate::files::held_blobs::HeldBlobs;
 use crate::files::manifests::{SharedFiles, share_of};
 use crate::files::reads::{INPUT_LIMIT, ReadFault};
+use crate::files::regular_files::regular_length;
 use ovl_engine::{BLOB_LIMIT, Blob};
 use ovl_inode::Digest;
 use std::alloc::{AllocError, Global};
@@ -149,14 +150,10 @@ fn blob_file<R: Files>(entry: &DirEntry<R>) -> Result<Option<BlobFile>, ReadFaul
 {
     match Digest::parse(entry.file_name()) {
         Ok(name) => {
-            let metadata = entry.metadata()?;
-            if metadata.is_file() {
-                return Ok(Some(BlobFile {
-                    name,
-                    length: metadata.len(),
-                }));
-            }
-            Ok(None)
+            let Some(length) = regular_length(&entry.metadata()?) else {
+                return Ok(None);
+            };
+            Ok(Some(BlobFile { name, length }))
         }
         Err(_) => Ok(None),
     }

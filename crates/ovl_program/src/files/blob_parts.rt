@@ -3,6 +3,7 @@ ghost use Rattle.std.specs.Prelude.{◌<◌, IfOk, vec_len};
 ghost use Rattle.ovl_program.specs.BlobFolders.{IsToldOf};
 
 use crate::files::reads::ReadFault;
+use crate::files::regular_files::regular_length;
 use ovl_check::{PART, content_in};
 use ovl_engine::Content;
 use ovl_inode::Digest;
@@ -37,8 +38,7 @@ pub fn tell_file<R: Files + AllocGlobal>(
 // that is opened waits for whoever writes to it.
 fn file_length(files: &impl Files, path: &str) -> Result<Option<u64>, ReadFault> {
     match fs::symlink_metadata(files, path) {
-        Ok(metadata) if metadata.is_file() => Ok(Some(metadata.len())),
-        Ok(_) => Ok(None),
+        Ok(metadata) => Ok(regular_length(&metadata)),
         Err(error) if error.kind() == ErrorKind::NotFound => Ok(None),
         Err(error) => Err(error.into()),
     }

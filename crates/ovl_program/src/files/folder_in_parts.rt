@@ -1,5 +1,5 @@
 //! A folder of blobs of any size, which are read in parts.
-ghost use Rattle.std.specs.Prelude.{◌≡◌, ◌∷◌, ◌++◌, [], Option, true, IfOk, IfErr, IfSome, OnOk, All};
+ghost use Rattle.std.specs.Prelude.{◌≡◌, ◌∷◌, ◌++◌, [], Option, true, min, length, vec_len, IfOk, IfErr, IfSome, OnOk, All};
 ghost use Rattle.std.specs.Thread.{IsSync};
 ghost use Rattle.ovl_names.specs.Order.{ascends};
 ghost use Rattle.ovl_check.specs.Blobs.{digest_cmp};
@@ -54,7 +54,8 @@ fn find_folder(files: &impl Files, path: &str) -> Result<(), ReadFault> {
     }
 }
 
-// What the workers tell of these names, each of those that it takes; no more of them than there are names.
+// What the workers tell of these names, each of those that it takes; no more of them than there are names. Each has a share,
+// in a thread of its own where it isn't the last.
 fn shares_of<R: SharedFiles + Threads + Sync>(
     rt: &R,
     alloc: Global,
@@ -62,7 +63,8 @@ fn shares_of<R: SharedFiles + Threads + Sync>(
     names: &[Digest],
     workers: usize,
 ) -> Result<Vec<Result<Vec<Told>, Stop>>, AllocError>
-    ensures { IfOk result (λ shares. All (IsShareOf folder.now names.now) shares.items) }
+    ensures each { IfOk result (λ shares. All (IsShareOf folder.now names.now) shares.items) }
+    ensures few { IfOk result (λ shares. vec_len shares ≡ min workers (length names.now)) }
 {
     let next = AtomicUsize::new(0);
     let share = |_: usize| -> Result<Vec<Told>, Stop>

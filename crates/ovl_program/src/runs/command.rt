@@ -13,7 +13,7 @@ use crate::output::report::write_report;
 use crate::output::status::Ending;
 use crate::runs::in_parts::perform_in_parts;
 use ovl_command_line::Line;
-use ovl_engine::{Answer, Blob, Command, EngineFault, command_of, merge_down};
+use ovl_engine::{Answer, Blob, Command, EngineFault, command, merge_down};
 use ovl_pool::OpenGate;
 use std::io::Write;
 use std::rt::Files;
@@ -61,7 +61,7 @@ fn answer_held<R: AllocGlobal + Threads + Wait + Sync>(
             line.workers,
             &OpenGate,
         ),
-        None => command_of(
+        None => command(
             rt,
             rt.alloc(),
             line.what,

@@ -9,7 +9,7 @@ use crate::files::reads::{INPUT_LIMIT, read_all};
 use crate::output::report::write_report;
 use crate::output::status::Ending;
 use ovl_command_line::DEFAULT_WORKERS;
-use ovl_engine::{Command, command_of};
+use ovl_engine::{Command, command};
 use ovl_pool::OpenGate;
 use std::io::{Read, Write};
 use std::rt::Files;
@@ -41,7 +41,7 @@ fn show_manifest<H: Threads + Wait + Sync + Files + AllocGlobal, W: Write>(
 {
     let mut manifests = Vec::new(rt.alloc());
     manifests.push(manifest)?;
-    let answered = command_of(
+    let answered = command(
         rt,
         rt.alloc(),
         Command::Show,

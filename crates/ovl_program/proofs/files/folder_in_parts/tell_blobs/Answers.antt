@@ -5,4 +5,4 @@ use Rattle.ovl_program.proofs.files.folder_in_parts.tell_blobs.Goals as goal
 pub returns-in_err-slots-clause-fault : goal.returns-in_err-slots-clause-fault
 returns-in_err-slots-clause-fault g c =
     let out = err_from_is_err_and c.from_residual-in_err-slots.result c.from_residual-in_err-slots.ensures.1 in
-    rw (out.1, out.2) (first_unread c.args.folder.now c.args.names.now c.in_ok-shares.shares.items c.in_err-slots.field-0.0 c.in_ok-shares.ensures c.in_err-slots.ensures)
+    rw (out.1, out.2) (first_unread c.args.folder.now c.args.names.now c.in_ok-shares.shares.items c.in_err-slots.field-0.0 c.in_ok-shares.ensures.each c.in_err-slots.ensures)

@@ -17,4 +17,4 @@ pub returns-in-None : goal.returns-in-None
 returns-in-None g c =
     let line = c.args.line.now in
     let request : Request = request_of line.what c.args.manifests.items line.data_layers c.args.blobs.now line.workers in
-    subst (λ (left : Option ℕ). IsComingDown left request c.command_of.result) c.in-None.ensures.left c.command_of.ensures.outcome
+    subst (λ (left : Option ℕ). IsComingDown left request c.command.result) c.in-None.ensures.left c.command.ensures.outcome
