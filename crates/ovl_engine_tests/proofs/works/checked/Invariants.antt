@@ -3,7 +3,7 @@ use Rattle.ovl_board.specs.Assembly.{bare}
 use Rattle.ovl_engine_tests.proofs.works.checked.Given as goal
 
 abbrev pub invariant-loop-parcel : goal.invariant-loop-parcel
-invariant-loop-parcel l =
-    goal.iterator-loop-parcel.can_next l.parcel-iterator
-    × goal.iterator-loop-parcel.is_finite l.parcel-iterator
+invariant-loop-parcel g l =
+    (goal.iterator-loop-parcel g).can_next l.parcel-iterator
+    × (goal.iterator-loop-parcel g).is_finite l.parcel-iterator
     × AllLawful (bare l.lawful.items)
