@@ -1,12 +1,16 @@
 //! Lines of words.
 
 use crate::tables::{parts_of, same};
-use ovl_program::line;
+use ovl_program::{LineFault, line};
 use std::alloc::Global;
 use std::test::Fail;
 
-// Words with a space between them, and behind ` -> ` the line that they make.
+// Words with a space between them, and behind ` -> ` the line that they make, or what is told in its place.
 const ROWS: &str = "\
+show a.json -> Line { what: Show, workers: 4, data_layers: 0, blobs: None, any_size: false, down_to: None, out: None, layers: [\"a.json\"] }
+fsck a.json -> usage
+show --workers 65 a.json -> usage
+--help -> help
 show a c --workers=64 --data-layers 1 -> Line { what: Show, workers: 64, data_layers: 1, blobs: None, any_size: false, down_to: None, out: None, layers: [\"a\", \"c\"] }
 fsck --blobs= a -> Line { what: Fsck, workers: 4, data_layers: 0, blobs: Some(\"\"), any_size: false, down_to: None, out: None, layers: [\"a\"] }
 vacuum --out o --blobs b --any-size a -> Line { what: Vacuum, workers: 4, data_layers: 0, blobs: Some(\"b\"), any_size: true, down_to: None, out: Some(\"o\"), layers: [\"a\"] }
@@ -21,8 +25,12 @@ fn told(alloc: Global, text: &str) -> Result<String, Fail> {
     for word in text.split(' ') {
         words.push(word)?;
     }
-    let read = line(alloc, words.as_slice())?;
-    Ok(format!(in alloc; "{read:?}")?)
+    match line(alloc, words.as_slice()) {
+        Ok(read) => Ok(format!(in alloc; "{read:?}")?),
+        Err(LineFault::Help(_)) => Ok(String::from_str(alloc, "help")?),
+        Err(LineFault::Usage(_)) => Ok(String::from_str(alloc, "usage")?),
+        Err(LineFault::Memory) => Err(Fail::new("out of memory")),
+    }
 }
 
 fn row_told(alloc: Global, row: &str) -> Result<(), Fail> {

@@ -1,12 +1,12 @@
 //! The work of `show`, walked by one thread, and commands by one worker and by two.
 
 use crate::board::root_of;
-use crate::samples::{MOVED, ROOT, stack_of};
+use crate::samples::{MOVED, ONE, OPAQUE, OVER, ROOT, Sample, TWICE, WRONG, stack_of};
 use ovl_board::plain_walk;
-use ovl_check::Content;
+use ovl_check::{Blob, Content};
 use ovl_engine::{
-    Command, CommandFault, Contents, EngineFault, ShowWork, command, command_over, finish_show,
-    merge_down, named_blobs, question_down, report_of, report_of_walk,
+    Answer, Command, CommandFault, Contents, EngineFault, ShowWork, command, command_over,
+    finish_show, merge_down, named_blobs, question_down, report_of, report_of_walk,
 };
 use ovl_inode::Digest;
 use ovl_lookup::Stack;
@@ -170,5 +170,147 @@ fn a_check_over_contents_is_answered(rt: HostRuntime) -> Result<(), Fail> {
         CommandFault::Engine(EngineFault::Memory)
     );
     assert!(rt; is == Ok(true));
+    Ok(())
+}
+
+fn blobs_of(alloc: Global, words: &str) -> Result<Vec<Blob>, AllocError> {
+    let mut blobs = Vec::new(alloc);
+    for word in words.split_whitespace() {
+        let (named, bytes) = word.split_once('=').unwrap_or((word, word));
+        for mut blob in named_blobs(alloc, &manifests_of(alloc, named)?)? {
+            blob.bytes = String::from_str(alloc, bytes)?.into_bytes();
+            blobs.push(blob)?;
+        }
+    }
+    Ok(blobs)
+}
+
+// Whether a report's last line is this one.
+fn ends_so(report: &[u8], line: &str) -> bool {
+    match report.split_last() {
+        Some((b'\n', lines)) => lines.ends_with(line.as_bytes()),
+        _ => false,
+    }
+}
+
+// Whether an answer has this end, or a refusal this one behind `!`.
+fn is_told(answered: &Result<Answer, EngineFault>, end: &str) -> bool {
+    match (answered, end.strip_prefix("! ")) {
+        (Ok(answer), None) => ends_so(&answer.report, end),
+        (Err(EngineFault::Faulty(report)), Some(end)) => ends_so(report, end),
+        (Err(EngineFault::NoLower), Some(end)) => end == "no lower layer",
+        _ => false,
+    }
+}
+
+// Whether a command of a sample ends so; out of memory is handed on.
+fn ends<R: Threads + Wait + Sync>(
+    rt: &R,
+    alloc: Global,
+    what: Command,
+    sample: Sample,
+    workers: usize,
+    end: &str,
+) -> Result<bool, EngineFault> {
+    let blobs = blobs_of(alloc, sample.blobs)?;
+    let manifests = manifests_of(alloc, sample.manifests)?;
+    let answered = command(rt, alloc, what, manifests, 0, &blobs, workers, &OpenGate);
+    if answered == Err(EngineFault::Memory) {
+        return Err(EngineFault::Memory);
+    }
+    Ok(is_told(&answered, end))
+}
+
+fn command_of_word(word: &str) -> Option<Command> {
+    match word {
+        "show" => Some(Command::Show),
+        "fsck" => Some(Command::Fsck),
+        "vacuum" => Some(Command::Vacuum),
+        "deref" => Some(Command::Deref),
+        "merge" => Some(Command::Merge),
+        "flatten" => Some(Command::Flatten),
+        _ => None,
+    }
+}
+
+// Whether each command of a sample ends as its line says, a second time where it was out of memory.
+fn all_end<R: Threads + Wait + Sync>(
+    rt: &R,
+    alloc: Global,
+    sample: Sample,
+    workers: usize,
+) -> Result<bool, EngineFault> {
+    for line in sample.ends.lines() {
+        let (word, end) = line.split_once(": ").unwrap_or((line, ""));
+        let Some(what) = command_of_word(word) else {
+            return Ok(false);
+        };
+        if !again!(
+            ends(rt, alloc, what, sample, workers, end),
+            EngineFault::Memory
+        )? {
+            return Ok(false);
+        }
+    }
+    Ok(true)
+}
+
+#[test]
+fn a_root_alone_by_one_worker(rt: HostRuntime) -> Result<(), Fail> {
+    assert!(rt; all_end(&rt, rt.alloc(), ONE, 1)?);
+    Ok(())
+}
+
+#[test]
+fn a_root_alone_by_two_workers(rt: HostRuntime) -> Result<(), Fail> {
+    assert!(rt; all_end(&rt, rt.alloc(), ONE, 2)?);
+    Ok(())
+}
+
+#[test]
+fn a_directory_moved_under_an_opaque_one_by_one_worker(rt: HostRuntime) -> Result<(), Fail> {
+    assert!(rt; all_end(&rt, rt.alloc(), OPAQUE, 1)?);
+    Ok(())
+}
+
+#[test]
+fn a_directory_moved_under_an_opaque_one_by_two_workers(rt: HostRuntime) -> Result<(), Fail> {
+    assert!(rt; all_end(&rt, rt.alloc(), OPAQUE, 2)?);
+    Ok(())
+}
+
+#[test]
+fn the_same_layer_twice_by_one_worker(rt: HostRuntime) -> Result<(), Fail> {
+    assert!(rt; all_end(&rt, rt.alloc(), TWICE, 1)?);
+    Ok(())
+}
+
+#[test]
+fn the_same_layer_twice_by_two_workers(rt: HostRuntime) -> Result<(), Fail> {
+    assert!(rt; all_end(&rt, rt.alloc(), TWICE, 2)?);
+    Ok(())
+}
+
+#[test]
+fn a_directory_moved_over_another_by_one_worker(rt: HostRuntime) -> Result<(), Fail> {
+    assert!(rt; all_end(&rt, rt.alloc(), OVER, 1)?);
+    Ok(())
+}
+
+#[test]
+fn a_directory_moved_over_another_by_two_workers(rt: HostRuntime) -> Result<(), Fail> {
+    assert!(rt; all_end(&rt, rt.alloc(), OVER, 2)?);
+    Ok(())
+}
+
+#[test]
+fn wrong_contents_by_one_worker(rt: HostRuntime) -> Result<(), Fail> {
+    assert!(rt; all_end(&rt, rt.alloc(), WRONG, 1)?);
+    Ok(())
+}
+
+#[test]
+fn wrong_contents_by_two_workers(rt: HostRuntime) -> Result<(), Fail> {
+    assert!(rt; all_end(&rt, rt.alloc(), WRONG, 2)?);
     Ok(())
 }
