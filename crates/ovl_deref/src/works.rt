@@ -12,9 +12,9 @@ use std::alloc::{AllocError, Global};
 use std::marker::Model;
 
 /// A stack as work of deref, whose pieces are the directories of its new topmost layer, from `/` of
-/// space 0. The output of a directory is each name in it, in order, with its inode in the new layer;
-/// its kids are those that are directories, but for what no manifest can hold. A kid has the space
-/// of its piece.
+/// space 0. The output of a directory is each name in it, in order, with its inode in the new
+/// layer; its kids are those that are directories, but for what no manifest can hold. A kid has the
+/// space of its piece.
 #[derive(Drop)]
 pub struct DerefWork<'a> {
     pub(crate) stack: &'a Stack,

@@ -11,10 +11,10 @@ use ovl_rewrite::directories;
 use std::alloc::{AllocError, Global};
 use std::marker::Model;
 
-/// A stack as work of flatten, whose pieces are the directories of its merged tree, from `/` of space
-/// 0. The output of a directory is each name in it, in order, with the inode that is shown there; its
-/// kids are those that are directories, but for what no manifest can hold. A kid has the space of its
-/// piece.
+/// A stack as work of flatten, whose pieces are the directories of its merged tree, from `/` of
+/// space 0. The output of a directory is each name in it, in order, with the inode that is shown
+/// there; its kids are those that are directories, but for what no manifest can hold. A kid has the
+/// space of its piece.
 #[derive(Drop)]
 pub struct FlattenWork<'a> {
     pub(crate) stack: &'a Stack,
