@@ -19,9 +19,9 @@ use std::alloc::{AllocError, Global};
 use std::marker::Model;
 
 /// A stack as work of merge, whose pieces are the directories of its new lower layer, from `/` of
-/// space 0. The output of a directory is each name in it, in order, with its inode in the new layer;
-/// its kids are those that are directories, but for what no manifest can hold. A kid has the space
-/// of its piece.
+/// space 0. The output of a directory is each name in it, in order, with its inode in the new
+/// layer; its kids are those that are directories, but for what no manifest can hold. A kid has the
+/// space of its piece.
 #[derive(Drop)]
 pub struct MergeWork<'a> {
     pub(crate) stack: &'a Stack,
