@@ -14,7 +14,7 @@ use Rattle.ovl_lookup.specs.Sound.{is_moved}
 use Rattle.ovl_lookup.specs.Words.{top_layer, lower_layers}
 use Rattle.ovl_board.specs.declared.pieces.Piece.{Piece}
 use Rattle.ovl_board.specs.Parcels.{ParcelView, IsPlain}
-use Rattle.ovl_rewrite.specs.Directories.{NamedInode, directories_among}
+use Rattle.ovl_rewrite.specs.Directories.{NamedInode, directories_among, visited_kids}
 use Rattle.ovl_deref.specs.Deref.{any_prefix, dereferenced_at}
 
 -- the path or a directory above it is moved
@@ -53,6 +53,7 @@ deref_depth stack = depth_limit * length stack.layers
 abbrev pub deref_root : Piece
 deref_root = record { space = 0; dir = [] }
 
--- the parcels of the plain walk over the whole new layer
+-- the parcels of the plain walk over all that a manifest can hold of the new layer
 abbrev pub IsDerefWalk : StackView → List (ParcelView (List NamedInode)) → Type 0
-IsDerefWalk stack parcels = IsPlain (deref_kids stack) (deref_out stack) deref_root parcels
+IsDerefWalk stack parcels =
+    IsPlain (visited_kids (deref_kids stack)) (deref_out stack) deref_root parcels

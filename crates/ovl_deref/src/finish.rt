@@ -13,7 +13,7 @@ use ovl_board::Parcel;
 use ovl_inode::Inode;
 use ovl_layer::Layer;
 use ovl_names::Name;
-use ovl_rewrite::{RewriteFault, layer_told};
+use ovl_rewrite::{RewriteFault, layer_within};
 use std::alloc::Global;
 
 /// The topmost layer without redirects and metacopy files. The parcels are the plain walk of the work from `/` of
@@ -31,5 +31,5 @@ pub fn finish_deref(
     // Each layer of a stack is one.
     let _layers = work.stack.ordinary();
     let root = work.stack.top().root().inode().copy(alloc)?;
-    layer_told(alloc, root, parcels)
+    layer_within(alloc, root, parcels)
 }

@@ -11,9 +11,10 @@ use ovl_rewrite::directories;
 use std::alloc::{AllocError, Global};
 use std::marker::Model;
 
-/// A stack as work of deref, whose pieces are the directories of its new topmost layer, from `/` of space 0. The output
-/// of a directory is each name in it, in order, with its inode in the new layer; its kids are those that are
-/// directories. A kid has the space of its piece.
+/// A stack as work of deref, whose pieces are the directories of its new topmost layer, from `/` of
+/// space 0. The output of a directory is each name in it, in order, with its inode in the new
+/// layer; its kids are those that are directories, but for what no manifest can hold. A kid has the
+/// space of its piece.
 #[derive(Drop)]
 pub struct DerefWork<'a> {
     pub(crate) stack: &'a Stack,
@@ -43,7 +44,7 @@ impl<'a> Work for DerefWork<'a> {
     type Out = Vec<(Name, Inode)>;
 
     ghost use Rattle.std.specs.Prelude.{List};
-    ghost use Rattle.ovl_rewrite.specs.Directories.{NamedInode, inodes_set, inodes_seen};
+    ghost use Rattle.ovl_rewrite.specs.Directories.{NamedInode, inodes_set, inodes_seen, visited_kids};
     ghost use Rattle.ovl_deref.specs.Directories.{deref_kids, deref_out, deref_depth};
 
     ghost Seen = { List NamedInode };
@@ -52,7 +53,7 @@ impl<'a> Work for DerefWork<'a> {
 
     ghost seen = { inodes_seen };
 
-    ghost kids_of = { deref_kids };
+    ghost kids_of = { λ stack. visited_kids (deref_kids stack) };
 
     ghost out_of = { deref_out };
 

@@ -5,7 +5,10 @@ use Rattle.ovl_board.specs.declared.assembly.BoardFault.{BoardFault}
 use Rattle.ovl_board.specs.declared.assembly.BoardFault.TheVariants.{Double, Stranger, Missing, Memory as BoardMemory}
 use Rattle.ovl_pool.specs.declared.runs.RunFault.{RunFault}
 use Rattle.ovl_pool.specs.declared.runs.RunFault.TheVariants.{Workers, Gate, Board, Memory}
-use Rattle.ovl_pool.specs.Runs.{IsBoardMemory}
+use Rattle.ovl_board.specs.declared.pieces.Piece.{Piece}
+use Rattle.ovl_pool.specs.Runs.{IsBoardMemory, MayBeRefused}
+use Rattle.ovl_rewrite.specs.Directories.{visited_kids}
+use Rattle.ovl_rewrite.proofs.KeptLemmas.{visited-reached}
 use Rattle.ovl_check.specs.declared.findings.Finding.{Finding}
 use Rattle.ovl_commands.specs.declared.requests.Command.{Command}
 use Rattle.ovl_commands.specs.declared.requests.Answer.{Answer}
@@ -104,3 +107,9 @@ not_beyond limit n some few (inr many) = omega arith
 pub not_refused : (limit n all bottom front back : ℕ) → n ≡ all → front ≡ n - bottom → back ≡ all - (n - bottom) → bottom < all → all ≤ limit → (front ≡ 0) ⊎ (limit < front + back) → ⊥
 not_refused limit n all bottom front back same ahead behind some few (inl none) = omega arith
 not_refused limit n all bottom front back same ahead behind some few (inr many) = omega arith
+
+-- ---- a walk that leaves out what no manifest can hold
+
+-- what a gate may refuse of the kids that are visited it may refuse of all
+pub visited-refused : (kids : Piece → List Piece) (may_refuse : Piece → Type 0) (root : Piece) → MayBeRefused (visited_kids kids) may_refuse root → MayBeRefused kids may_refuse root
+visited-refused kids may_refuse root (piece, (reached, may)) = (piece, (visited-reached kids root piece reached, may))

@@ -6,7 +6,7 @@ use Rattle.ovl_lookup.specs.Stacks.{StackView}
 use Rattle.ovl_lookup.specs.ShownInodes.{shown_inodes}
 use Rattle.ovl_board.specs.declared.pieces.Piece.{Piece}
 use Rattle.ovl_board.specs.Parcels.{ParcelView, IsPlain}
-use Rattle.ovl_rewrite.specs.Directories.{NamedInode, directories_among}
+use Rattle.ovl_rewrite.specs.Directories.{NamedInode, directories_among, visited_kids}
 
 -- the kids of a directory are the directories in it, and its output is each name in it, in order, with its inode
 abbrev pub flatten_kids : StackView → Piece → List Piece
@@ -23,6 +23,7 @@ flatten_depth stack = depth_limit * length stack.layers
 abbrev pub flatten_root : Piece
 flatten_root = record { space = 0; dir = [] }
 
--- the parcels of the plain walk over the whole flattened layer
+-- the parcels of the plain walk over all that a manifest can hold of the flattened layer
 abbrev pub IsFlattenWalk : StackView → List (ParcelView (List NamedInode)) → Type 0
-IsFlattenWalk stack parcels = IsPlain (flatten_kids stack) (flatten_out stack) flatten_root parcels
+IsFlattenWalk stack parcels =
+    IsPlain (visited_kids (flatten_kids stack)) (flatten_out stack) flatten_root parcels

@@ -15,7 +15,7 @@ use ovl_board::Parcel;
 use ovl_inode::{Inode, visible};
 use ovl_layer::Layer;
 use ovl_names::Name;
-use ovl_rewrite::{RewriteFault, layer_told};
+use ovl_rewrite::{RewriteFault, layer_within};
 use std::alloc::{AllocError, Global};
 
 /// What the end of a flatten needs of its work: the visible root of the topmost layer.
@@ -53,7 +53,7 @@ impl FlattenEnd {
         ensures limit { result ≡ Err LimitOut → (stack : StackView) → IsFlattenEnd stack self → IsSoundStack stack
             → IsFlattenWalk stack (parcel_views inodes_seen parcels.items) → PassesLimit stack }
     {
-        layer_told(alloc, self.root, parcels)
+        layer_within(alloc, self.root, parcels)
     }
 }
 

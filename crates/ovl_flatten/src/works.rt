@@ -11,9 +11,10 @@ use ovl_rewrite::directories;
 use std::alloc::{AllocError, Global};
 use std::marker::Model;
 
-/// A stack as work of flatten, whose pieces are the directories of its merged tree, from `/` of space 0. The output of
-/// a directory is each name in it, in order, with the inode that is shown there; its kids are those that are
-/// directories. A kid has the space of its piece.
+/// A stack as work of flatten, whose pieces are the directories of its merged tree, from `/` of
+/// space 0. The output of a directory is each name in it, in order, with the inode that is shown
+/// there; its kids are those that are directories, but for what no manifest can hold. A kid has the
+/// space of its piece.
 #[derive(Drop)]
 pub struct FlattenWork<'a> {
     pub(crate) stack: &'a Stack,
@@ -43,7 +44,7 @@ impl<'a> Work for FlattenWork<'a> {
     type Out = Vec<(Name, Inode)>;
 
     ghost use Rattle.std.specs.Prelude.{List};
-    ghost use Rattle.ovl_rewrite.specs.Directories.{NamedInode, inodes_set, inodes_seen};
+    ghost use Rattle.ovl_rewrite.specs.Directories.{NamedInode, inodes_set, inodes_seen, visited_kids};
     ghost use Rattle.ovl_flatten.specs.Directories.{flatten_kids, flatten_out, flatten_depth};
 
     ghost Seen = { List NamedInode };
@@ -52,7 +53,7 @@ impl<'a> Work for FlattenWork<'a> {
 
     ghost seen = { inodes_seen };
 
-    ghost kids_of = { flatten_kids };
+    ghost kids_of = { λ stack. visited_kids (flatten_kids stack) };
 
     ghost out_of = { flatten_out };
 

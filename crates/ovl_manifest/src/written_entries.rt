@@ -1,5 +1,5 @@
 //! Entries as their texts are written: members in the byte order of their names, without space.
-ghost use Rattle.std.specs.Prelude.{◌≡◌, ◌++◌, OnOk, decimal, string_bytes};
+ghost use Rattle.std.specs.Prelude.{◌≡◌, ◌++◌, OnOk, codes, decimal, string_bytes};
 ghost use Rattle.hex.specs.Hex.{encode_lower};
 ghost use Rattle.json.specs.Print.{quoted};
 ghost use Rattle.serde_json.specs.Data.{object};
@@ -35,9 +35,7 @@ pub(crate) fn push_entry(
     push_text(alloc, text, ",\"path\":", path)?;
     push_contents(alloc, text, &inode.kind)?;
     push_number(text, ",\"uid\":", u64::from(inode.uid))?;
-    text.push_str(",\"xattrs\":")?;
-    push_attributes(alloc, text, &inode.attrs)?;
-    text.push_str("}")
+    push_last(alloc, text, &inode.attrs)
 }
 
 /// Appends a name, as it stands, and a whole number.
@@ -65,9 +63,9 @@ fn push_string(alloc: Global, text: &mut String, string: &str) -> Result<(), All
     if plain_length(string.as_bytes()) != string.len() {
         return push_escaped(alloc, text, string);
     }
-    text.push_str("\"")?;
+    text.push('"')?;
     text.push_str(string)?;
-    text.push_str("\"")
+    text.push('"')
 }
 
 // Appends a string of which some bytes are escaped.
@@ -138,6 +136,21 @@ fn push_contents(alloc: Global, text: &mut String, kind: &Kind) -> Result<(), Al
         Kind::Symlink { target } => push_text(alloc, text, ",\"target\":", target.as_str()),
         _ => Ok(()),
     }
+}
+
+// Appends the attributes, which are the last member of an entry, and its end.
+fn push_last(alloc: Global, text: &mut String, attrs: &Attrs) -> Result<(), AllocError>
+    ensures { OnOk result
+        (string_bytes text.new ≡ string_bytes text.old
+        ++ (codes ",\"xattrs\":" ++ (compact_text (object (attribute_members attrs.now))
+        ++ codes "}"))) }
+{
+    if attrs.pairs().is_empty() {
+        return text.push_str(",\"xattrs\":{}}");
+    }
+    text.push_str(",\"xattrs\":")?;
+    push_attributes(alloc, text, attrs)?;
+    text.push('}')
 }
 
 // Appends the attributes as an object, each value by its digits.

@@ -9,7 +9,7 @@ use Rattle.ovl_lookup.specs.Stacks.{StackView}
 use Rattle.ovl_lookup.specs.Passes.{own_names_along, put_names, kids_along}
 use Rattle.ovl_board.specs.declared.pieces.Piece.{Piece}
 use Rattle.ovl_board.specs.Parcels.{ParcelView, IsPlain}
-use Rattle.ovl_rewrite.specs.Directories.{NamedInode, directories_among}
+use Rattle.ovl_rewrite.specs.Directories.{NamedInode, directories_among, visited_kids}
 use Rattle.ovl_merge.specs.Places.{Merge, merge_of, two_layers, base}
 use Rattle.ovl_merge.specs.MergeDown.{merged_entry}
 
@@ -47,6 +47,7 @@ merge_depth = depth_limit * 2
 abbrev pub merge_root : Piece
 merge_root = record { space = 0; dir = [] }
 
--- the parcels of the plain walk over the whole new lower layer
+-- the parcels of the plain walk over all that a manifest can hold of the new lower layer
 abbrev pub IsMergeWalk : StackView → List (ParcelView (List NamedInode)) → Type 0
-IsMergeWalk stack parcels = IsPlain (merge_kids stack) (merge_out stack) merge_root parcels
+IsMergeWalk stack parcels =
+    IsPlain (visited_kids (merge_kids stack)) (merge_out stack) merge_root parcels

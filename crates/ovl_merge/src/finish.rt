@@ -15,7 +15,7 @@ use ovl_board::Parcel;
 use ovl_inode::{Inode, visible};
 use ovl_layer::Layer;
 use ovl_names::{Name, Path};
-use ovl_rewrite::{layer_of, layer_told};
+use ovl_rewrite::{layer_of, layer_within};
 use std::alloc::{AllocError, Global};
 
 /// The layers that a merge makes of the two topmost ones of a stack.
@@ -65,7 +65,7 @@ impl MergeEnd {
     {
         let MergeEnd { root } = self;
         let top = layer_of(alloc, root_alone(alloc, root.copy(alloc)?)?)?;
-        let lower = layer_told(alloc, root, parcels)?;
+        let lower = layer_within(alloc, root, parcels)?;
         Ok(MergeDone { top, lower })
     }
 }

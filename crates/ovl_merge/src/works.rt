@@ -18,9 +18,10 @@ use ovl_rewrite::directories;
 use std::alloc::{AllocError, Global};
 use std::marker::Model;
 
-/// A stack as work of merge, whose pieces are the directories of its new lower layer, from `/` of space 0. The output
-/// of a directory is each name in it, in order, with its inode in the new layer; its kids are those that are
-/// directories. A kid has the space of its piece.
+/// A stack as work of merge, whose pieces are the directories of its new lower layer, from `/` of
+/// space 0. The output of a directory is each name in it, in order, with its inode in the new
+/// layer; its kids are those that are directories, but for what no manifest can hold. A kid has the
+/// space of its piece.
 #[derive(Drop)]
 pub struct MergeWork<'a> {
     pub(crate) stack: &'a Stack,
@@ -57,7 +58,7 @@ impl<'a> Work for MergeWork<'a> {
     type Out = Vec<(Name, Inode)>;
 
     ghost use Rattle.std.specs.Prelude.{List};
-    ghost use Rattle.ovl_rewrite.specs.Directories.{NamedInode, inodes_set, inodes_seen};
+    ghost use Rattle.ovl_rewrite.specs.Directories.{NamedInode, inodes_set, inodes_seen, visited_kids};
     ghost use Rattle.ovl_merge.specs.Directories.{merge_kids, merge_out, merge_depth};
 
     ghost Seen = { List NamedInode };
@@ -66,7 +67,7 @@ impl<'a> Work for MergeWork<'a> {
 
     ghost seen = { inodes_seen };
 
-    ghost kids_of = { merge_kids };
+    ghost kids_of = { λ stack. visited_kids (merge_kids stack) };
 
     ghost out_of = { merge_out };
 

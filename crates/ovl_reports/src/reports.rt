@@ -123,11 +123,11 @@ fn octal_digit(number: u16) -> char
 
 /// Appends a number in decimal digits. Fails only when out of memory.
 /// Appends a number in decimal digits. Fails only when out of memory.
-// Many numbers have one digit, as those of root: it needs no buffer.
 #[tactic(auto, using(std::proofs::lemmas::Fmt::decimal_digit, std::proofs::lemmas::Grind::common_steps))]
 pub fn push_number(report: &mut String, number: u64) -> Result<(), AllocError>
     ensures { OnOk result (string_bytes report.new ≡ string_bytes report.old ++ decimal number) }
 {
+    // Many numbers have one digit, as those of root: it needs no buffer.
     if number < 10 {
         return report.push((b'0' + number as u8) as char);
     }

@@ -5,3 +5,5 @@ pub mod UnderLemmas
 pub mod NextLemmas
 pub mod TreeLemmas
 pub mod LayerLemmas
+pub mod KeptLemmas
+pub mod RoomLemmas

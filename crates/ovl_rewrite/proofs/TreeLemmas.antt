@@ -21,7 +21,7 @@ use Rattle.ovl_rewrite.proofs.DirectoryLemmas.{EntryBefore, entry-new, new-entry
 abbrev Before : Entry → Entry → Type 0
 Before one other = path_cmp one.0 other.0 ≡ Less
 
-found-In : (entries : Entries) (path : PathNames) (inode : Inode) → entry_at entries path ≡ Some inode → In (path, inode) entries
+pub found-In : (entries : Entries) (path : PathNames) (inode : Inode) → entry_at entries path ≡ Some inode → In (path, inode) entries
 found-In [] path inode here = let bad : None ≡ Some inode = here in cc
 found-In (entry ∷ entries) path inode here = by (found-In entries path inode) (path_eq path entry.0) refl here
   where

@@ -11,7 +11,7 @@ use Rattle.ovl_inode.specs.Marks.{is_directory}
 use Rattle.ovl_layer.specs.Layers.{Entries, entry_at}
 use Rattle.ovl_board.specs.declared.pieces.Piece.{Piece}
 use Rattle.ovl_board.specs.Parcels.{IsPlain}
-use Rattle.ovl_rewrite.specs.Directories.{NamedInode, directories_among}
+use Rattle.ovl_rewrite.specs.Directories.{NamedInode, directories_among, visited_kids, is_past_limits}
 use Rattle.ovl_rewrite.specs.Passes.{Tree, View, tree_kids, tree_out}
 
 -- a new layer: what it has at each path
@@ -73,3 +73,16 @@ pub record IsToldBy (new : NewLayer) (root : Inode) (views : List View) : Type 0
   pub told : IsTold new names deepest
   pub rooted : new [] ≡ Some root
   pub walk : IsPlain (tree_kids (tree_by new names)) (tree_out (tree_by new names)) root_piece views
+
+-- the same where what no manifest can hold is left out of the walk
+pub record IsToldWithin (new : NewLayer) (root : Inode) (views : List View) : Type 0 where
+  pub names : PathNames → List PathName
+  pub deepest : ℕ
+  pub told : IsTold new names deepest
+  pub rooted : new [] ≡ Some root
+  pub walk : IsPlain (visited_kids (tree_kids (tree_by new names))) (tree_out (tree_by new names))
+      root_piece views
+
+-- something was left out at a directory
+abbrev pub leaves_out : View → Bool
+leaves_out view = list_any (is_past_limits view.piece.dir) view.seen

@@ -20,7 +20,7 @@ use std::vec::IntoIter;
 
 /// The layer with this root that the parcels tell, which are the plain walk over its directories
 /// from `/` of space 0. `LimitOut` comes only where its entries are no layer.
-pub fn layer_told(
+pub(crate) fn layer_told(
     alloc: Global,
     root: Inode,
     parcels: Vec<Parcel<Vec<(Name, Inode)>>>,

@@ -2,9 +2,12 @@
 #![tactic(auto)]
 
 mod faults;
+mod kept;
 mod kids;
 mod layers;
+mod rooms;
 
 pub use faults::RewriteFault;
+pub use kept::layer_within;
 pub use kids::directories;
-pub use layers::{layer_of, layer_told};
+pub use layers::layer_of;

@@ -1,11 +1,16 @@
 use Rattle.std.proofs.lemmas.Result.{err_from_is_err_and}
+use Rattle.ovl_pool.specs.Runs.{MayBeRefused}
+use Rattle.ovl_rewrite.specs.Directories.{visited_kids}
+use Rattle.ovl_deref.specs.Directories.{deref_kids, deref_root}
 use Rattle.ovl_commands.specs.declared.requests.Command.TheVariants.{Deref}
 use Rattle.ovl_engine.specs.Outcomes.{MayRefuseOwn}
-use Rattle.ovl_engine.proofs.OutcomeLemmas.{unwalked}
+use Rattle.ovl_engine.proofs.OutcomeLemmas.{unwalked, walk-part, visited-refused}
 use Rattle.ovl_engine.proofs.derefs.dereferenced.Goals as goal
 
 pub returns-in_err-parcels-clause-fault : goal.returns-in_err-parcels-clause-fault
 returns-in_err-parcels-clause-fault g c =
     let out = err_from_is_err_and c.from_residual.result c.from_residual.ensures.1 in
+    let may_refuse = g.G.Gate.may_refuse c.args.team.now.gate.now in
     let refused = MayRefuseOwn Deref c.args.stack.now (g.G.Gate.may_refuse c.args.team.now.gate.now) in
-    rw (out.1, out.2) (λ found clean. unwalked refused Deref c.args.stack.now found c.in_err-parcels.field-0.0 (rw (c.new-work.ensures.value) at c.in_err-parcels.ensures))
+    rw (out.1, out.2) (λ found clean. unwalked refused Deref c.args.stack.now found c.in_err-parcels.field-0.0
+    (walk-part (MayBeRefused (visited_kids (deref_kids c.args.stack.now)) may_refuse deref_root) refused (visited-refused (deref_kids c.args.stack.now) may_refuse deref_root) c.in_err-parcels.field-0.0 (rw (c.new-work.ensures.value) at c.in_err-parcels.ensures)))

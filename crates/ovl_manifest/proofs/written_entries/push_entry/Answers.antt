@@ -27,14 +27,12 @@ returns c =
     let placed : Grows (string_bytes c.push_number-2.new.text) (codes ",\"path\":" ++ quoted c.args.path.now) (string_bytes c.push_text-2.new.text) = record { is = search rules } in
     let contents : Grows (string_bytes c.push_text-2.new.text) (contents_text i.kind) (string_bytes c.push_contents.new.text) = record { is = search rules } in
     let uid : Grows (string_bytes c.push_contents.new.text) (codes ",\"uid\":" ++ decimal i.uid) (string_bytes c.push_number-3.new.text) = record { is = search rules } in
-    let last : Grows (string_bytes c.push_number-3.new.text) (codes ",\"xattrs\":") (string_bytes c.push_str-3.new.self) = record { is = search rules } in
-    let attributes : Grows (string_bytes c.push_str-3.new.self) (compact_text (object (attribute_members i.attrs))) (string_bytes c.push_attributes.new.text) = record { is = search rules } in
-    on_ok_weaker c.push_str-4.result (λ e path same.
-    let end : Grows (string_bytes c.push_attributes.new.text) (codes "}") (string_bytes c.push_str-4.new.self) = record { is = e } in
+    on_ok_weaker c.push_last.result (λ e path same.
+    let last : Grows (string_bytes c.push_number-3.new.text) (codes ",\"xattrs\":" ++ (compact_text (object (attribute_members i.attrs)) ++ codes "}")) (string_bytes c.push_last.new.text) = record { is = e } in
     let placed_so : Grows (string_bytes c.push_number-2.new.text) (codes ",\"path\":" ++ quoted (path_text path)) (string_bytes c.push_text-2.new.text) =
     subst (λ (t : List ℕ). Grows (string_bytes c.push_number-2.new.text) (codes ",\"path\":" ++ quoted t) (string_bytes c.push_text-2.new.text)) same placed in
     let whole : in_turn written (blob_of_kind i.kind) (kind_word i.kind) (device_of_kind i.kind) i (signed_decimal i.mtime) (path_text path) [] ≡ compact_text (entry_value written (path, i)) =
     ap (λ (t : List ℕ). in_turn written (blob_of_kind i.kind) (kind_word i.kind) (device_of_kind i.kind) i t (path_text path) []) (sym (seconds_text i.mtime))
     ∙ (entry_text written path i [] ∙ append-nil (compact_text (entry_value written (path, i)))) in
-    (onto group (onto kind (onto device (onto mode (onto named (onto seconds (onto nsec (onto placed_so (onto contents (onto uid (onto last (onto attributes end)))))))))))).is
+    (onto group (onto kind (onto device (onto mode (onto named (onto seconds (onto nsec (onto placed_so (onto contents (onto uid last)))))))))).is
     ∙ ap (λ (t : List ℕ). text ++ t) whole) (search rules)

@@ -1,0 +1,27 @@
+-- How much room a directory has for names, if a manifest is to hold their paths.
+use Rattle.std.proofs.Common.{◌≡◌, ◌<◌, ◌≤◌, ◌+◌, ◌-◌, ℕ, Bool, true, false, refl, sym, ap, ◌∙◌, length, arith}
+use Rattle.std.specs.Prelude.{nat_le, nat_lt, ◌&&◌}
+use Rattle.std.proofs.lemmas.Bool.Decides.{nat_tests}
+use Rattle.ovl_names.specs.Names.{PathName}
+use Rattle.ovl_names.specs.Paths.{PathNames, child_path, path_text, depth_limit, text_limit}
+use Rattle.ovl_layer.specs.Layers.{is_within_limits}
+use Rattle.ovl_layer.proofs.SheetLemmas.{length-child}
+
+-- none where it lies as deep as a path may
+pub too-deep : (directory : PathNames) (name : PathName) → depth_limit ≤ length directory → is_within_limits (child_path directory name) ≡ nat_lt (length name) 0
+too-deep directory name deep =
+    let path : PathNames = child_path directory name in
+    let more : depth_limit < length path = omega (arith, length-child directory name, deep) in
+    let past : nat_le (length path) depth_limit ≡ false = grind (arith, nat_tests) in
+    let none : nat_lt (length name) 0 ≡ false = grind (arith, nat_tests) in
+    ap (λ b. b && nat_le (length (path_text path)) text_limit) past ∙ sym none
+
+-- else what the directory's own bytes leave
+pub room-left : (bytes name limit : ℕ) → nat_le (bytes + name) limit ≡ nat_lt name (limit + 1 - bytes)
+room-left bytes name limit = by (nat_le (bytes + name) limit) refl (nat_lt name (limit + 1 - bytes)) refl
+  where
+    by : (b : Bool) → nat_le (bytes + name) limit ≡ b → (c : Bool) → nat_lt name (limit + 1 - bytes) ≡ c → b ≡ c
+    by true e true f = refl
+    by false e false f = refl
+    by true e false f = absurd (grind (arith, nat_tests, e, f))
+    by false e true f = absurd (grind (arith, nat_tests, e, f))
