@@ -10,7 +10,7 @@ use Rattle.ovl_lookup.specs.Stacks.{StackView}
 use Rattle.ovl_lookup.proofs.LawsOfPaths.{all-first, all-rest}
 use Rattle.ovl_check.specs.declared.contents.Content.{Content}
 use Rattle.ovl_check.specs.declared.findings.Code.{Code}
-use Rattle.ovl_check.specs.declared.findings.Code.TheVariants.{RedirectForm, RedirectLost, RedirectKind, RedirectDouble, RedirectOpen, DataMissing, DataSize, BlobMissing, BlobSize, BlobDigest, OrphanWhiteout, WhiteoutInOpaque, WhiteoutUnmarked, ImpureMissing, MarkIgnored}
+use Rattle.ovl_check.specs.declared.findings.Code.TheVariants.{BlobMissing, BlobSize, BlobDigest}
 use Rattle.ovl_check.specs.Codes.{all_codes, is_blob_fault}
 use Rattle.ovl_check.specs.Blobs.{BlobView, is_wrong}
 use Rattle.ovl_check.specs.Conditions.{find_blob, has_blob, holds}
@@ -64,21 +64,10 @@ module _ (blobs : List BlobView) where
 
   module _ (layer : Entries) (below : StackView) (entry : Entry) where
     same-code : (code : Code) → holds blobs layer below entry code ≡ holds_of_contents (contents_of blobs) layer below entry code
-    same-code RedirectForm = refl
-    same-code RedirectLost = refl
-    same-code RedirectKind = refl
-    same-code RedirectDouble = refl
-    same-code RedirectOpen = refl
-    same-code DataMissing = refl
-    same-code DataSize = refl
     same-code BlobMissing = missing (blob_of entry.1)
     same-code BlobSize = tested (λ blob. not (length blob.bytes == size_of entry.1)) (λ content. not (content.size == size_of entry.1)) (λ blob. refl) (blob_of entry.1)
     same-code BlobDigest = tested is_wrong (λ content. not content.is_right) (λ blob. sym (not-not (is_wrong blob))) (blob_of entry.1)
-    same-code OrphanWhiteout = refl
-    same-code WhiteoutInOpaque = refl
-    same-code WhiteoutUnmarked = refl
-    same-code ImpureMissing = refl
-    same-code MarkIgnored = refl
+    same-code _ = refl
 
     at-entry : (sought : Code → Bool) (i : ℕ) → findings_at sought blobs i layer below entry ≡ findings_of_contents_at sought (contents_of blobs) i layer below entry
     at-entry sought i =
@@ -130,21 +119,10 @@ module _ (contents others : List Content) where
 
   module _ (layer : Entries) (below : StackView) where
     named-code : (entry : Entry) → TellsOfNamed contents others entry.1 → (code : Code) → holds_of_contents contents layer below entry code ≡ holds_of_contents others layer below entry code
-    named-code entry agree RedirectForm = refl
-    named-code entry agree RedirectLost = refl
-    named-code entry agree RedirectKind = refl
-    named-code entry agree RedirectDouble = refl
-    named-code entry agree RedirectOpen = refl
-    named-code entry agree DataMissing = refl
-    named-code entry agree DataSize = refl
     named-code entry agree BlobMissing = named-missing (blob_of entry.1) agree
     named-code entry agree BlobSize = named-tested (λ content. not (content.size == size_of entry.1)) (blob_of entry.1) agree
     named-code entry agree BlobDigest = named-tested (λ content. not content.is_right) (blob_of entry.1) agree
-    named-code entry agree OrphanWhiteout = refl
-    named-code entry agree WhiteoutInOpaque = refl
-    named-code entry agree WhiteoutUnmarked = refl
-    named-code entry agree ImpureMissing = refl
-    named-code entry agree MarkIgnored = refl
+    named-code entry agree _ = refl
 
     named-entry : (sought : Code → Bool) (i : ℕ) (entry : Entry) → TellsOfNamed contents others entry.1 → findings_of_contents_at sought contents i layer below entry ≡ findings_of_contents_at sought others i layer below entry
     named-entry sought i entry agree =

@@ -12,7 +12,7 @@ use Rattle.ovl_inode.specs.Marks.{is_directory, is_regular, attribute_is}
 use Rattle.ovl_inode.specs.Attributes.{impure_name}
 use Rattle.ovl_lookup.specs.Sound.{is_malformed}
 use Rattle.ovl_check.specs.declared.findings.Code.{Code}
-use Rattle.ovl_check.specs.declared.findings.Code.TheVariants.{RedirectForm, RedirectLost, RedirectKind, RedirectDouble, RedirectOpen, DataMissing, DataSize, BlobMissing, BlobSize, BlobDigest, OrphanWhiteout, WhiteoutInOpaque, WhiteoutUnmarked, ImpureMissing, MarkIgnored}
+use Rattle.ovl_check.specs.declared.findings.Code.TheVariants.{RedirectForm, BlobMissing, BlobSize, BlobDigest, WhiteoutUnmarked, ImpureMissing, MarkIgnored}
 use Rattle.ovl_check.specs.declared.facts.KindFacts.{KindFacts}
 use Rattle.ovl_check.specs.declared.facts.KindFacts.TheVariants.{Other}
 use Rattle.ovl_check.specs.declared.facts.NamedBlob.{NamedBlob}
@@ -86,24 +86,22 @@ module _ (facts : Facts) (bare : is_bare facts ≡ true) where
   kind : facts.kind ≡ Other
   kind = other-kind facts.kind two.1
 
+  -- of its kind nothing can be told
   other-untold : (code : Code) → is_blob_fault code ≡ false → tells facts code ≡ false
-  other-untold RedirectForm e = quiet-mark facts.mark.now one.1
-  other-untold RedirectLost e = ap is_lost kind
-  other-untold RedirectKind e = ap is_of_wrong_kind kind
-  other-untold RedirectDouble e = refl
-  other-untold RedirectOpen e = ap is_open kind
-  other-untold DataMissing e = ap lacks_data kind
-  other-untold DataSize e = ap (λ k. has_data_of_other_size k (size_of inode)) kind
-  other-untold BlobMissing e = let bad : true ≡ false = e in cc
-  other-untold BlobSize e = let bad : true ≡ false = e in cc
-  other-untold BlobDigest e = let bad : true ≡ false = e in cc
-  other-untold OrphanWhiteout e = ap is_orphan kind
-  other-untold WhiteoutInOpaque e = ap is_in_opaque kind
-  other-untold WhiteoutUnmarked e = ap (λ k. is_unmarked k inode) kind ∙ and-false (is_regular inode)
-  other-untold ImpureMissing e =
-      ap (λ b. (is_directory inode && not (attribute_is inode impure_name (codes "y"))) && b) (not_true facts.holds_origin three.1)
-      ∙ and-false (is_directory inode && not (attribute_is inode impure_name (codes "y")))
-  other-untold MarkIgnored e = nothing-ignored facts.is_root inode facts.mark.now (empty inode.attrs one.0)
+  other-untold code e = ap (λ k. tells (record facts { kind = k }) code) kind ∙ untold-of code e
+    where
+      impure : Bool
+      impure = is_directory inode && not (attribute_is inode impure_name (codes "y"))
+
+      untold-of : (code : Code) → is_blob_fault code ≡ false → tells (record facts { kind = Other }) code ≡ false
+      untold-of RedirectForm e = quiet-mark facts.mark.now one.1
+      untold-of BlobMissing e = let bad : true ≡ false = e in cc
+      untold-of BlobSize e = let bad : true ≡ false = e in cc
+      untold-of BlobDigest e = let bad : true ≡ false = e in cc
+      untold-of WhiteoutUnmarked e = and-false (is_regular inode)
+      untold-of ImpureMissing e = ap (λ b. impure && b) (not_true facts.holds_origin three.1) ∙ and-false impure
+      untold-of MarkIgnored e = nothing-ignored facts.is_root inode facts.mark.now (empty inode.attrs one.0)
+      untold-of _ e = refl
 
   module _ (sought : Code → Bool) where
     abbrev Told : Code → Bool

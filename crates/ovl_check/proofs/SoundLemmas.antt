@@ -2,13 +2,11 @@
 use Rattle.std.proofs.Common.{◌≡◌, ℕ, ◌+◌, Bool, true, false, ◌&&◌, ◌||◌, not, List, [], ◌∷◌, refl, sym, ap, ◌∙◌, map, filter, if◌then◌else◌}
 use Rattle.std.specs.List.{list_any, list_all, flat_map}
 use Rattle.std.proofs.lemmas.List.Folds.{list_any-append}
-use Rattle.std.proofs.Math.Bool.{and-true, and-false, or-false}
 use Rattle.ovl_layer.specs.Layers.{Entries, Entry}
 use Rattle.ovl_lookup.specs.Stacks.{StackView}
 use Rattle.ovl_names.specs.Paths.{PathNames}
 use Rattle.ovl_lookup.specs.Sound.{redirect_is_malformed, redirect_is_lost, redirect_is_of_wrong_kind, redirect_is_double, redirect_is_open, data_is_missing, data_is_of_other_size, is_faulty, are_sound}
 use Rattle.ovl_check.specs.declared.findings.Code.{Code}
-use Rattle.ovl_check.specs.declared.findings.Code.TheVariants.{RedirectForm, RedirectLost, RedirectKind, RedirectDouble, RedirectOpen, DataMissing, DataSize, BlobMissing, BlobSize, BlobDigest, OrphanWhiteout, WhiteoutInOpaque, WhiteoutUnmarked, ImpureMissing, MarkIgnored}
 use Rattle.ovl_check.specs.declared.findings.Finding.{Finding}
 use Rattle.ovl_check.specs.Codes.{all_codes, is_layer_fault, is_blob_fault}
 use Rattle.ovl_check.specs.Blobs.{BlobView}
@@ -31,58 +29,47 @@ not-or : (a b : Bool) → not (a || b) ≡ (not a && not b)
 not-or true b = refl
 not-or false b = refl
 
--- of fifteen tests the first seven count
-first-seven : (a b c d e f g k l m n o p q r : Bool) →
-    ((a && true) || ((b && true) || ((c && true) || ((d && true) || ((e && true) || ((f && true) || ((g && true)
-    || ((k && false) || ((l && false) || ((m && false) || ((n && false) || ((o && false) || ((p && false) || ((q && false) || ((r && false) || false)))))))))))))))
-    ≡ (a || (b || (c || (d || (e || (f || g))))))
-first-seven a b c d e f g k l m n o p q r =
-    rw (
-      and-true a,
-      and-true b,
-      and-true c,
-      and-true d,
-      and-true e,
-      and-true f,
-      and-true g,
-      and-false k,
-      and-false l,
-      and-false m,
-      and-false n,
-      and-false o,
-      and-false p,
-      and-false q,
-      and-false r,
-      or-false g,
-    ) refl
+and-turned : (a b : Bool) → (a && b) ≡ (b && a)
+and-turned true true = refl
+and-turned true false = refl
+and-turned false true = refl
+and-turned false false = refl
+
+-- what any kept element passes, any element passes that passes both tests, whichever is asked first
+any-kept : {X : Type 0} (h p : X → Bool) (xs : List X) → list_any p (filter h xs) ≡ list_any h (filter p xs)
+any-kept h p xs =
+    any-filter h p xs
+    ∙ ((λ j. list_any (λ x. and-turned (h x) (p x) j) xs) ∙ sym (any-filter p h xs))
 
 -- ---- an entry, a layer, a stack
 
 abbrev tells : Finding → Bool
 tells found = is_layer_fault found.code
 
+-- the codes of layers
+abbrev layer_codes : List Code
+layer_codes = filter is_layer_fault all_codes
+
 -- what any test of codes says of the findings by which it makes itself known
-by_codes : (holding : Code → Bool) (i : ℕ) (path : PathNames) → list_any tells (map (finding i path) (filter holding all_codes))
-    ≡ (holding RedirectForm || (holding RedirectLost || (holding RedirectKind || (holding RedirectDouble || (holding RedirectOpen || (holding DataMissing || holding DataSize))))))
+by_codes : (holding : Code → Bool) (i : ℕ) (path : PathNames)
+    → list_any tells (map (finding i path) (filter holding all_codes)) ≡ list_any holding layer_codes
 by_codes holding i path =
     any-map (finding i path) tells (filter holding all_codes)
-    ∙ any-filter holding is_layer_fault all_codes
-    ∙ first-seven (holding RedirectForm) (holding RedirectLost) (holding RedirectKind) (holding RedirectDouble) (holding RedirectOpen) (holding DataMissing) (holding DataSize)
-    (holding BlobMissing) (holding BlobSize) (holding BlobDigest) (holding OrphanWhiteout) (holding WhiteoutInOpaque) (holding WhiteoutUnmarked) (holding ImpureMissing) (holding MarkIgnored)
+    ∙ any-kept holding is_layer_fault all_codes
 
 -- the same, from the left
-regrouped : (a b c d e f g : Bool) → (a || (b || (c || (d || (e || (f || g)))))) ≡ ((((((a || b) || c) || d) || e) || f) || g)
+regrouped : (a b c d e f g : Bool) → (a || (b || (c || (d || (e || (f || (g || false))))))) ≡ ((((((a || b) || c) || d) || e) || f) || g)
 regrouped true b c d e f g = refl
 regrouped false true c d e f g = refl
 regrouped false false true d e f g = refl
 regrouped false false false true e f g = refl
 regrouped false false false false true f g = refl
-regrouped false false false false false f g = refl
+regrouped false false false false false true g = refl
+regrouped false false false false false false true = refl
+regrouped false false false false false false false = refl
 
 module _ (blobs : List BlobView) (layer : Entries) (below : StackView) (entry : Entry) where
-  conditions : (holds blobs layer below entry RedirectForm || (holds blobs layer below entry RedirectLost || (holds blobs layer below entry RedirectKind
-      || (holds blobs layer below entry RedirectDouble || (holds blobs layer below entry RedirectOpen || (holds blobs layer below entry DataMissing || holds blobs layer below entry DataSize))))))
-      ≡ is_faulty layer below entry
+  conditions : list_any (holds blobs layer below entry) layer_codes ≡ is_faulty layer below entry
   conditions = regrouped
       (redirect_is_malformed layer entry.0) (redirect_is_lost layer below entry.0) (redirect_is_of_wrong_kind layer below entry.0) (redirect_is_double layer entry.0)
       (redirect_is_open layer entry.0) (data_is_missing layer below entry.0 entry.1) (data_is_of_other_size layer below entry.0 entry.1)

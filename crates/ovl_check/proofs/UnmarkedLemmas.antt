@@ -22,7 +22,7 @@ use Rattle.ovl_lookup.proofs.LawsOfLooks.{Faultless, inode-whole, shown-kind, sh
 use Rattle.ovl_lookup.proofs.LawsOfPaths.{all-entries}
 use Rattle.ovl_lookup.proofs.LawsOfUnmarked.{faultless-alone}
 use Rattle.ovl_check.specs.declared.findings.Code.{Code}
-use Rattle.ovl_check.specs.declared.findings.Code.TheVariants.{RedirectForm, RedirectLost, RedirectKind, RedirectDouble, RedirectOpen, DataMissing, DataSize, BlobMissing, BlobSize, BlobDigest, OrphanWhiteout, WhiteoutInOpaque, WhiteoutUnmarked, ImpureMissing, MarkIgnored}
+use Rattle.ovl_check.specs.declared.findings.Code.TheVariants.{RedirectForm, RedirectLost, RedirectKind, RedirectDouble, RedirectOpen, DataMissing, DataSize, BlobMissing, BlobSize, BlobDigest, ImpureMissing, MarkIgnored}
 use Rattle.ovl_check.specs.declared.findings.Finding.{Finding}
 use Rattle.ovl_check.specs.Blobs.{BlobView}
 use Rattle.ovl_check.specs.Codes.{all_codes, is_fault, is_layer_fault, is_blob_fault}
@@ -109,11 +109,9 @@ module _ (layer : Entries) (is : IsLayer layer) (bare : HasNoMarks layer) where
       by BlobMissing e = let bad : true ≡ false = e in cc
       by BlobSize e = let bad : true ≡ false = e in cc
       by BlobDigest e = let bad : true ≡ false = e in cc
-      by OrphanWhiteout e = rw thing refl
-      by WhiteoutInOpaque e = rw thing refl
-      by WhiteoutUnmarked e = rw thing refl
       by ImpureMissing e = rw (no_origins path (names_below layer path)) (no_kids (is_directory inode) _)
       by MarkIgnored e = rw (hidden path inode here opaque_name refl, hidden path inode here redirect_name refl, hidden path inode here metacopy_name refl, hidden path inode here whiteout_name refl) refl
+      by _ e = rw thing refl
 
 pub unmarked-quiet : UnmarkedLayersAreQuiet
 unmarked-quiet layer is bare blobs = all-pass is_blob_fault blobs layer is (quiet layer is bare blobs)
