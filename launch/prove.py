@@ -27,6 +27,7 @@ _BUILT = _ROOT / "crates" / PROGRAM / "out" / PROGRAM
 _SMALLEST = _ROOT / "examples" / "root.json"
 _MEMORY = 2_000_000_000  # bytes that a proof takes, some
 _JOBS = 4  # of which a proof gains
+_BESIDE = 10  # how much nicer a proof is that isn't of the longest chain
 _LOOK = 0.1  # seconds
 
 
@@ -87,16 +88,22 @@ class Proofs:
     def _proof(self, crate: Crate) -> Proof:
         folder = self._copies.make(crate.name)
         said = folder.parents[1] / "said"
-        words = ["rt", "run"] if crate.name == PROGRAM else ["rt", "lib", *self._jobs(crate)]
+        longest = all(self._crates[it].chain <= crate.chain for it in self._running)
+        words = ["rt", "run"] if crate.name == PROGRAM else ["rt", "lib", *self._jobs(longest)]
         with said.open("wb") as file, _SMALLEST.open("rb") as layer:
             process = subprocess.Popen(
-                words, cwd=folder, stdin=layer, stdout=file, stderr=subprocess.STDOUT, pass_fds=self._held
+                words,
+                cwd=folder,
+                stdin=layer,
+                stdout=file,
+                stderr=subprocess.STDOUT,
+                pass_fds=self._held,
+                preexec_fn=lambda: os.nice(0 if longest else _BESIDE),
             )
         return Proof(process, time.monotonic(), said)
 
-    def _jobs(self, crate: Crate) -> list[str]:
+    def _jobs(self, longest: bool) -> list[str]:
         """The longest chain gets as many jobs as `rt` gives a crate alone, up to four; what is beside it gets fewer."""
-        longest = all(self._crates[it].chain <= crate.chain for it in self._running)
         return [] if longest else ["--jobs", str(jobs_beside(self._processors))]
 
     def _look(self) -> None:

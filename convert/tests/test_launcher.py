@@ -130,6 +130,10 @@ class Making(LauncherTest):
         """The words that the stand-in was last started with for a crate."""
         return (self.notes / name).read_text(encoding="utf-8").split("\n")[0]
 
+    def nice(self, name: str) -> int:
+        """How nice the stand-in was, when it was last started for a crate."""
+        return int((self.notes / name).read_text(encoding="utf-8").split("\n")[3])
+
     def times(self) -> dict[str, int]:
         """How often it was asked for each."""
         files = (it for it in self.notes.iterdir() if "-" not in it.name and not it.name.startswith("."))
@@ -184,6 +188,8 @@ class Build(Making):
         self.assertEqual(status, 0, told)
         self.assertEqual([self.asked(it) for it in ("low", "left", "high")], ["lib"] * 3)
         self.assertEqual(self.asked("right"), f"lib --jobs {max(min(len(os.sched_getaffinity(0)) // 2, 4), 1)}")
+        self.assertEqual([self.nice(it) for it in ("low", "left", "high")], [os.nice(0)] * 3)
+        self.assertEqual(self.nice("right"), min(os.nice(0) + 10, 19))
 
     def test_little_memory(self) -> None:
         file = Path(self.path("launch", "prove.py"))
