@@ -19,7 +19,7 @@ use Rattle.ovl_check.specs.declared.facts.NamedBlob.{NamedBlob}
 use Rattle.ovl_check.specs.declared.facts.NamedBlob.TheVariants.{Unnamed, Missing, Found}
 use Rattle.ovl_check.specs.declared.facts.Facts.{Facts}
 use Rattle.ovl_check.specs.Codes.{all_codes, blob_codes, is_blob_fault}
-use Rattle.ovl_check.specs.Facts.{tells, is_lost, is_of_wrong_kind, is_open, lacks_data, has_data_of_other_size, is_missing, is_of_other_length, is_wrong, is_orphan, is_in_opaque, is_unmarked, mark_says_nothing, is_quiet_mark, is_other, is_right, has_quiet_mark, is_bare, is_silent}
+use Rattle.ovl_check.specs.Facts.{tells, is_missing, is_of_other_length, is_wrong, mark_says_nothing, is_quiet_mark, is_other, is_right, has_quiet_mark, is_bare, is_silent}
 
 empty : {X : Type 0} (xs : List X) → (length xs == 0) ≡ true → xs ≡ []
 empty [] e = refl
