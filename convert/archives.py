@@ -16,7 +16,7 @@ from .attributes import Unstated, marks_from_user
 from .below import Below
 from .blobs import Digester, Writer
 from .budgets import TooMuch
-from .contents import PIECE, ZEROS, write_all
+from .contents import PIECE, ZEROS, DigestBeside, write_all
 from .entries import (
     BLOCK, CHAR, DIRECTORY, FIFO, FILE, LINK_MODE, METACOPY, NO_ATTRIBUTES, OVERLAY, SYMLINK, WHITEOUT, Entry,
     is_whiteout,
@@ -132,9 +132,10 @@ class LayerArchive:
             self._read(stream)
             return
         algorithm, wanted = self._layer.unpacked_digest
-        source = Digesting(stream, algorithm)
-        self._read(source)
-        if source.digest.hexdigest() != wanted:
+        with DigestBeside(algorithm) as digest:
+            self._read(Digesting(stream, digest))
+            found = digest.hexdigest()
+        if found != wanted:
             raise cannot_read(self._layer.path, f"its unpacked bytes aren't those of {algorithm}:{wanted}")
 
     def _read(self, stream: Source) -> None:

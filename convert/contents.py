@@ -5,12 +5,16 @@ import fcntl
 import hashlib
 import os
 import tempfile
+from collections import deque
 from collections.abc import Callable
+from concurrent.futures import Future, ThreadPoolExecutor
+from types import TracebackType
 
 PIECE = 1 << 18
 ZEROS = bytes(PIECE)
 PRIVATE_MODE = 0o600  # of what has the contents of files, secret ones too
 Write = Callable[[bytes], object]  # takes all bytes that it is given
+MOST_WAITING = 8  # pieces that a thread works on beside the one that goes on
 _COPY_AT_ONCE = 1 << 30
 _CLONE = 0x40049409  # FICLONE of linux/fs.h
 _REFUSED = (
@@ -98,6 +102,58 @@ def write_all(target: int, piece: bytes) -> None:
     view = memoryview(piece)
     while view:
         view = view[os.write(target, view):]
+
+
+class DigestBeside:
+    """A digest that a thread of its own makes of pieces, while the one that hands them over goes on."""
+
+    def __init__(self, algorithm: str = "sha256") -> None:
+        self._digest = hashlib.new(algorithm)
+        self._thread = ThreadPoolExecutor(1)
+        self._waiting: deque[Future[None]] = deque()
+
+    def __enter__(self) -> "DigestBeside":
+        return self
+
+    def __exit__(
+        self, kind: type[BaseException] | None, error: BaseException | None, trace: TracebackType | None
+    ) -> None:
+        self._thread.shutdown(cancel_futures=True)
+
+    def update(self, piece: bytes) -> None:
+        """The next piece."""
+        if len(self._waiting) == MOST_WAITING:
+            self._waiting.popleft().result()
+        self._waiting.append(self._thread.submit(self._digest.update, piece))
+
+    def hexdigest(self) -> str:
+        """The digits of the digest of all pieces so far."""
+        while self._waiting:
+            self._waiting.popleft().result()
+        return self._digest.hexdigest()
+
+
+class Gathering:
+    """Hands pieces on, small ones put together, since each that is handed on costs time."""
+
+    def __init__(self, *takers: Write) -> None:
+        self._takers = takers
+        self._held: list[bytes] = []
+        self._size = 0
+
+    def write(self, piece: bytes) -> None:
+        """The next piece."""
+        self._held.append(piece)
+        self._size += len(piece)
+        if self._size >= PIECE:
+            self.flush()
+
+    def flush(self) -> None:
+        """Hands on what is held."""
+        piece = b"".join(self._held)
+        self._held, self._size = [], 0
+        for take in self._takers:
+            take(piece)
 
 
 def digest_and_size(file: int, begin: int = 0) -> tuple[str, int]:

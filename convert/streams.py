@@ -1,7 +1,6 @@
 """The bytes of a layer: unpacked, with their digest, whatever it was packed with."""
 
 import contextlib
-import hashlib
 import io
 import os
 import re
@@ -10,17 +9,19 @@ import subprocess
 import tempfile
 import threading
 import zlib
+from collections import deque
 from collections.abc import Iterator
+from concurrent.futures import Executor, Future, ThreadPoolExecutor
 from typing import IO, Protocol
 
-from .contents import PIECE
+from .contents import MOST_WAITING, PIECE, DigestBeside
 from .faults import cannot_read
 from .progress import Progress
 from .tar_headers import TarFault
 
 _GZIP = b"\x1f\x8b"
 _GZIP_WINDOW = 31  # zlib's number for a gzip header and trailer
-_GZIP_PIECE = 1 << 14
+_GZIP_PIECE = 1 << 16
 _ZSTD = b"\x28\xb5\x2f\xfd"
 _OTHERS = {b"BZh": "bzip2", b"\xfd7zXZ\0": "xz"}
 HEAD_BYTES = 6  # that tell how a file is packed
@@ -135,19 +136,54 @@ class Watched(Reader):
 
 
 class Digesting(Reader):
-    """Reads from a stream and digests all that is read."""
+    """Reads from a stream and has all that is read digested."""
 
-    def __init__(self, stream: Source, algorithm: str) -> None:
+    def __init__(self, stream: Source, digest: DigestBeside) -> None:
         super().__init__()
         self._stream = stream
-        self.digest = hashlib.new(algorithm)
+        self._digest = digest
 
     def readinto(self, buffer: bytearray | memoryview) -> int:  # type: ignore[override]
         """Reads what fits."""
         data = self._stream.read(len(buffer))
         buffer[:len(data)] = data
-        self.digest.update(data)
+        self._digest.update(data)
         return len(data)
+
+
+class _Ahead(Reader):
+    """A stream of which a thread reads pieces before they are asked for."""
+
+    def __init__(self, stream: Source, thread: Executor) -> None:
+        super().__init__()
+        self._stream = stream
+        self._thread = thread
+        self._held = memoryview(b"")
+        self._pieces: deque[Future[bytes]] = deque()
+        for _ in range(MOST_WAITING):
+            self._have_read()
+
+    def _have_read(self) -> None:
+        self._pieces.append(self._thread.submit(self._stream.read, PIECE))
+
+    def readinto(self, buffer: bytearray | memoryview) -> int:  # type: ignore[override]
+        """Gives of the next piece what fits; what went wrong with it is raised here."""
+        if not self._held:
+            self._held = memoryview(self._pieces.popleft().result())
+            self._have_read()
+        count = min(len(buffer), len(self._held))
+        buffer[:count] = self._held[:count]
+        self._held = self._held[count:]
+        return count
+
+
+@contextlib.contextmanager
+def _read_ahead(stream: Source) -> Iterator[Source]:
+    thread = ThreadPoolExecutor(1)
+    try:
+        yield _Ahead(stream, thread)
+    finally:
+        thread.shutdown(cancel_futures=True)
 
 
 def buffered(stream: Source) -> Source:
@@ -167,7 +203,8 @@ def unpacked(part: io.RawIOBase, name: str) -> Iterator[Source]:
     head = packed.peek(HEAD_BYTES)[:HEAD_BYTES]
     try:
         if head.startswith(_GZIP):
-            yield Gunzip(packed)
+            with _read_ahead(Gunzip(packed)) as stream:
+                yield stream
         elif head.startswith(_ZSTD):
             with _by_zstd(packed, name) as stream:
                 yield stream
