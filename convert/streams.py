@@ -197,16 +197,19 @@ def is_packed(head: bytes) -> bool:
 
 
 @contextlib.contextmanager
-def unpacked(part: io.RawIOBase, name: str) -> Iterator[Source]:
-    """The bytes of an archive. Tells what is wrong with its packing as a fault of this name."""
+def unpacked(part: io.RawIOBase, name: str, *, may_wait: bool = False) -> Iterator[Source]:
+    """The bytes of an archive. Tells what is wrong with its packing as a fault of this name.
+
+    Threads work ahead, and are waited for at the end, but where they may have to wait, as for a pipe.
+    """
     packed = io.BufferedReader(part, PIECE)
     head = packed.peek(HEAD_BYTES)[:HEAD_BYTES]
     try:
         if head.startswith(_GZIP):
-            with _read_ahead(Gunzip(packed)) as stream:
+            with contextlib.nullcontext(Gunzip(packed)) if may_wait else _read_ahead(Gunzip(packed)) as stream:
                 yield stream
         elif head.startswith(_ZSTD):
-            with _by_zstd(packed, name) as stream:
+            with _by_zstd(packed, name, may_wait) as stream:
                 yield stream
         else:
             for magic, program in _OTHERS.items():
@@ -220,7 +223,7 @@ def unpacked(part: io.RawIOBase, name: str) -> Iterator[Source]:
 
 
 @contextlib.contextmanager
-def _by_zstd(packed: io.BufferedReader, name: str) -> Iterator[Source]:
+def _by_zstd(packed: io.BufferedReader, name: str, may_wait: bool) -> Iterator[Source]:
     program = shutil.which("zstd")
     if program is None:
         raise cannot_read(name, "it is packed by zstd, and there is no zstd program; install zstd")
@@ -240,7 +243,8 @@ def _by_zstd(packed: io.BufferedReader, name: str) -> Iterator[Source]:
         finally:
             process.stdout.close()
             status = process.wait()
-            feeder.join()
+            if not may_wait:
+                feeder.join()
         if status != 0:
             raise cannot_read(name, f"its zstd stream is broken: {_zstd_reason(told, status)}")
 
