@@ -198,7 +198,7 @@ class PackedArchives(FolderTest):
                 assert process.stdin is not None
                 process.stdin.write(data[:-20])
                 process.stdin.flush()
-                while any(fcntl.ioctl(process.stdin, termios.FIONREAD, bytes(4))):
+                while process.poll() is None and any(fcntl.ioctl(process.stdin, termios.FIONREAD, bytes(4))):
                     time.sleep(0.05)
                 process.terminate()
                 self.assertEqual(process.wait(SECONDS), 128 + signal.SIGTERM)
