@@ -16,7 +16,7 @@ from .attributes import Unstated, marks_from_user
 from .below import Below
 from .blobs import Digester, Writer
 from .budgets import TooMuch
-from .contents import PIECE, ZEROS, DigestBeside, write_all
+from .contents import PIECE, ZEROS, write_all
 from .entries import (
     BLOCK, CHAR, DIRECTORY, FIFO, FILE, LINK_MODE, METACOPY, NO_ATTRIBUTES, OVERLAY, SYMLINK, WHITEOUT, Entry,
     is_whiteout,
@@ -27,7 +27,7 @@ from .losses import Loss, Losses
 from .progress import Progress, note
 from .repeats import Contents, Kept, Repeats
 from .room import require_room
-from .streams import Digesting, Source, buffered
+from .streams import Digesting, Source, buffered, read_ahead
 from .tar_headers import HARD_LINK, REGULAR_TYPES, Header
 from .tar_reader import TarReader
 from .times import ONE_SECOND
@@ -129,13 +129,14 @@ class LayerArchive:
 
     def _read_checked(self, stream: Source) -> None:
         if self._layer.unpacked_digest is None or self._layer.is_checked():
-            self._read(stream)
+            with read_ahead(stream) as ahead:
+                self._read(ahead)
             return
         algorithm, wanted = self._layer.unpacked_digest
-        with DigestBeside(algorithm) as digest:
-            self._read(Digesting(stream, digest))
-            found = digest.hexdigest()
-        if found != wanted:
+        source = Digesting(stream, algorithm)
+        with read_ahead(source) as ahead:
+            self._read(ahead)
+        if source.digest.hexdigest() != wanted:
             raise cannot_read(self._layer.path, f"its unpacked bytes aren't those of {algorithm}:{wanted}")
 
     def _read(self, stream: Source) -> None:

@@ -14,7 +14,8 @@ PIECE = 1 << 18
 ZEROS = bytes(PIECE)
 PRIVATE_MODE = 0o600  # of what has the contents of files, secret ones too
 Write = Callable[[bytes], object]  # takes all bytes that it is given
-MOST_WAITING = 8  # pieces that a thread works on beside the one that goes on
+LARGE_PIECE = 1 << 20  # bytes that one thread hands to another, so that they seldom wait for each other
+LARGE_PIECES = 4  # that are on their way at once
 _COPY_AT_ONCE = 1 << 30
 _CLONE = 0x40049409  # FICLONE of linux/fs.h
 _REFUSED = (
@@ -104,15 +105,19 @@ def write_all(target: int, piece: bytes) -> None:
         view = view[os.write(target, view):]
 
 
-class DigestBeside:
-    """A digest that a thread of its own makes of pieces, while the one that hands them over goes on."""
+class DigestedBeside:
+    """Hands bytes on in large pieces, of which a thread makes a digest meanwhile."""
 
-    def __init__(self, algorithm: str = "sha256") -> None:
-        self._digest = hashlib.new(algorithm)
+    def __init__(self, write: Write) -> None:
+        self._write = write
+        self._digest = hashlib.sha256()
         self._thread = ThreadPoolExecutor(1)
-        self._waiting: deque[Future[None]] = deque()
+        self._pieces: deque[tuple[memoryview, Future[None] | None]] = deque(
+            (memoryview(bytearray(LARGE_PIECE)), None) for _ in range(LARGE_PIECES)
+        )
+        self._size = 0  # of what is in the first piece
 
-    def __enter__(self) -> "DigestBeside":
+    def __enter__(self) -> "DigestedBeside":
         return self
 
     def __exit__(
@@ -120,40 +125,33 @@ class DigestBeside:
     ) -> None:
         self._thread.shutdown(cancel_futures=True)
 
-    def update(self, piece: bytes) -> None:
-        """The next piece."""
-        if len(self._waiting) == MOST_WAITING:
-            self._waiting.popleft().result()
-        self._waiting.append(self._thread.submit(self._digest.update, piece))
+    def write(self, data: bytes) -> None:
+        """Takes all bytes."""
+        view = memoryview(data)
+        while view:
+            piece = self._pieces[0][0]
+            count = min(len(view), LARGE_PIECE - self._size)
+            piece[self._size:self._size + count] = view[:count]
+            self._size += count
+            view = view[count:]
+            if self._size == LARGE_PIECE:
+                self._hand_on()
 
-    def hexdigest(self) -> str:
-        """The digits of the digest of all pieces so far."""
-        while self._waiting:
-            self._waiting.popleft().result()
-        return self._digest.hexdigest()
-
-
-class Gathering:
-    """Hands pieces on, small ones put together, since each that is handed on costs time."""
-
-    def __init__(self, *takers: Write) -> None:
-        self._takers = takers
-        self._held: list[bytes] = []
+    def _hand_on(self) -> None:
+        piece = self._pieces.popleft()[0]
+        filled = piece[:self._size]
+        self._pieces.append((piece, self._thread.submit(self._digest.update, filled)))
+        self._write(filled)
         self._size = 0
+        digested = self._pieces[0][1]
+        if digested is not None:
+            digested.result()
 
-    def write(self, piece: bytes) -> None:
-        """The next piece."""
-        self._held.append(piece)
-        self._size += len(piece)
-        if self._size >= PIECE:
-            self.flush()
-
-    def flush(self) -> None:
-        """Hands on what is held."""
-        piece = b"".join(self._held)
-        self._held, self._size = [], 0
-        for take in self._takers:
-            take(piece)
+    def end(self) -> str:
+        """Hands on what is left; gives the digits of the digest of all."""
+        self._hand_on()
+        self._thread.shutdown()
+        return self._digest.hexdigest()
 
 
 def digest_and_size(file: int, begin: int = 0) -> tuple[str, int]:

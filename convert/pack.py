@@ -15,7 +15,7 @@ from .compression import NONE, media_type, packing, require_program
 from .configuration import (
     USUAL_PLATFORM, Document, for_layers, platform_of, platform_text, read_annotations, read_configuration,
 )
-from .contents import PIECE, PRIVATE_MODE, DigestBeside, Gathering, Write, digest_and_size
+from .contents import PIECE, PRIVATE_MODE, DigestedBeside, Write, digest_and_size
 from .entries import (
     DIRECTORY, IS_OPAQUE, LINK_MODE, OPAQUE, SOCKET, SYMLINK, Entry, drop_host_marks, is_opaque, is_whiteout,
     needs_lower_layers,
@@ -198,11 +198,9 @@ def _write_layer(files: ImageFiles, entries: list[Entry], options: PackOptions) 
 
     def fill(file: IO[bytes]) -> str:
         begin = file.tell()
-        with packing(options.compress, file) as write, DigestBeside() as beside:
-            archive = Gathering(beside.update, write)
+        with packing(options.compress, file) as write, DigestedBeside(write) as archive:
             _write_archive(entries, options.blobs, archive.write)
-            archive.flush()
-            unpacked = beside.hexdigest()
+            unpacked = archive.end()
         digest, size = unpacked, file.seek(0, os.SEEK_END) - begin
         if options.compress != NONE:
             digest, size = digest_and_size(file.fileno(), begin)
