@@ -27,7 +27,7 @@ from .losses import Loss, Losses
 from .progress import Progress, note
 from .repeats import Contents, Kept, Repeats
 from .room import require_room
-from .streams import Digesting, Source, buffered
+from .streams import Digesting, Source, buffered, read_ahead
 from .tar_headers import HARD_LINK, REGULAR_TYPES, Header
 from .tar_reader import TarReader
 from .times import ONE_SECOND
@@ -129,11 +129,13 @@ class LayerArchive:
 
     def _read_checked(self, stream: Source) -> None:
         if self._layer.unpacked_digest is None or self._layer.is_checked():
-            self._read(stream)
+            with read_ahead(stream) as ahead:
+                self._read(ahead)
             return
         algorithm, wanted = self._layer.unpacked_digest
         source = Digesting(stream, algorithm)
-        self._read(source)
+        with read_ahead(source) as ahead:
+            self._read(ahead)
         if source.digest.hexdigest() != wanted:
             raise cannot_read(self._layer.path, f"its unpacked bytes aren't those of {algorithm}:{wanted}")
 

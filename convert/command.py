@@ -101,29 +101,29 @@ attributes, devices and whiteouts, as the kernel has them. Contents are checked 
 that are one file, by the LAYER.links that `scan` writes beside LAYER.json, become hard links. Owners, devices
 and trusted.overlay.* attributes of a folder need root.
 
-A squashfs is made by tar2sqfs (in Debian's squashfs-tools-ng), without any rights, of the same bytes for the same
-input. It has no sockets, and times in whole seconds from 1970 to 2105, which is counted and said. It gets its
-name once it was read again and gives the manifest back."""
+A squashfs is made by tar2sqfs (in Debian's squashfs-tools-ng), without any rights, of the same bytes for the
+same input. It has no sockets, and times in whole seconds from 1970 to 2105, which is counted and said. It gets
+its name once it was read again and gives the manifest back."""
 
 _UNPACK = """\
 Writes the layers of an image as manifests: DIR/l0.json, the topmost, DIR/l1.json and so on, and the
 contents of all their files into DIR/blobs. DIR/config.json is the image's configuration with its platform,
-for `pack --config`; DIR/annotations.json has the annotations of its manifest, where it has any. With --digests-only contents are read for their digests and copied nowhere, which is
-enough for `ovl_layers show`.
+for `pack --config`; DIR/annotations.json has the annotations of its manifest, where it has any. With
+--digests-only contents are read for their digests and copied nowhere, which is enough for `ovl_layers show`.
 
 IMAGE is an OCI image layout (a folder or a tar archive of it), what `docker save` writes, or a folder of
 skopeo's dir:. It may also be named as skopeo does it (oci:DIR:TAG, docker-archive:FILE); - is an archive
-from standard input. An archive may be packed by gzip or zstd. Layers may be plain, gzip, or zstd where the zstd program is there. Their digests are
-checked. A directory that a layer leaves out is as the layers below show it. Names that are one file (hard
-links) stand in DIR/l0.links and so on, and those that all layers show in DIR/shown.links. A whiteout
-(.wh.NAME) becomes a char device 0:0, and .wh..wh..opq an opaque directory."""
+from standard input. An archive may be packed by gzip or zstd. Layers may be plain, gzip, or zstd where the
+zstd program is there. Their digests are checked. A directory that a layer leaves out is as the layers below
+show it. Names that are one file (hard links) stand in DIR/l0.links and so on, and those that all layers show
+in DIR/shown.links. A whiteout (.wh.NAME) becomes a char device 0:0, and .wh..wh..opq an opaque directory."""
 
 _PACK = """\
 Writes manifests, the topmost first, as an OCI image layout: a folder, or one tar archive where the name
 ends in .tar, which `docker load` and `podman load` take too. --out may also be named as skopeo does it; - is
-an archive on standard output. The same input gives the same bytes. The image's configuration (command, environment, user,
-labels, platform and all else) is that of --config; a history that tells of as many layers is kept as it is,
-any other stays as entries without layers, and each layer gets an entry of its own.
+an archive on standard output. The same input gives the same bytes. The image's configuration (command,
+environment, user, labels, platform and all else) is that of --config; a history that tells of as many layers
+is kept as it is, any other stays as entries without layers, and each layer gets an entry of its own.
 
 Names are hard links where the file of links beside a manifest has them as one file, or for a manifest without
 such a file that of --links, and where all else that the manifest says of them is the same.
@@ -133,11 +133,11 @@ can state them. Run `ovl_layers deref` first, or `merge` down to one layer."""
 
 _FLATTEN = """\
 Writes an image with one layer, or N at most, that shows the same. The image's configuration, name,
-annotations and hard links stay. It is done by the proved program ovl_layers, which is found where it was built
-or installed, or on the PATH: after `unpack` it checks the layers and writes all that they show as one (`flatten`). Where
-several are to be left, it checks them (`fsck`), drops what changes nothing (`vacuum`), unfolds moved
-directories and metacopy files where there are any (`deref`), and merges the topmost ones (`merge`). Then
-`pack` writes the image. Each step is told with its time.
+annotations and hard links stay. It is done by the proved program ovl_layers, which is found where it was
+built or installed, or on the PATH: after `unpack` it checks the layers and writes all that they show as one
+(`flatten`). Where several are to be left, it checks them (`fsck`), drops what changes nothing (`vacuum`),
+unfolds moved directories and metacopy files where there are any (`deref`), and merges the topmost ones
+(`merge`). Then `pack` writes the image. Each step is told with its time.
 
 Nothing is written unless the new layers, and the new image when it is read again, show what the given
 image shows, byte for byte. What the program refuses is told as it is, with its status. --out is as for
@@ -158,8 +158,8 @@ aren't shown, with the layer that hides them. convert/README.md defines each num
 
 Contents are copied nowhere. What the layers show is told by the proved program ovl_layers, as in `flatten`.
 
---stack takes layers in place of an image, the topmost first: folders, squashfs files, tar archives of folders, and
-manifests, whose contents aren't needed. The marks of folders can be read by root alone."""
+--stack takes layers in place of an image, the topmost first: folders, squashfs files, tar archives of folders,
+and manifests, whose contents aren't needed. The marks of folders can be read by root alone."""
 
 _MOUNTED = """\
 Prints what is in a folder, such as a mounted overlay, as `ovl_layers show` prints it, so that the two

@@ -5,12 +5,17 @@ import fcntl
 import hashlib
 import os
 import tempfile
+from collections import deque
 from collections.abc import Callable
+from concurrent.futures import Future, ThreadPoolExecutor
+from types import TracebackType
 
 PIECE = 1 << 18
 ZEROS = bytes(PIECE)
 PRIVATE_MODE = 0o600  # of what has the contents of files, secret ones too
 Write = Callable[[bytes], object]  # takes all bytes that it is given
+LARGE_PIECE = 1 << 20  # bytes that one thread hands to another, so that they seldom wait for each other
+LARGE_PIECES = 4  # that are on their way at once
 _COPY_AT_ONCE = 1 << 30
 _CLONE = 0x40049409  # FICLONE of linux/fs.h
 _REFUSED = (
@@ -98,6 +103,55 @@ def write_all(target: int, piece: bytes) -> None:
     view = memoryview(piece)
     while view:
         view = view[os.write(target, view):]
+
+
+class DigestedBeside:
+    """Hands bytes on in large pieces, of which a thread makes a digest meanwhile."""
+
+    def __init__(self, write: Write) -> None:
+        self._write = write
+        self._digest = hashlib.sha256()
+        self._thread = ThreadPoolExecutor(1)
+        self._pieces: deque[tuple[memoryview, Future[None] | None]] = deque(
+            (memoryview(bytearray(LARGE_PIECE)), None) for _ in range(LARGE_PIECES)
+        )
+        self._size = 0  # of what is in the first piece
+
+    def __enter__(self) -> "DigestedBeside":
+        return self
+
+    def __exit__(
+        self, kind: type[BaseException] | None, error: BaseException | None, trace: TracebackType | None
+    ) -> None:
+        self._thread.shutdown(cancel_futures=True)
+
+    def write(self, data: bytes) -> None:
+        """Takes all bytes."""
+        view = memoryview(data)
+        while view:
+            piece = self._pieces[0][0]
+            count = min(len(view), LARGE_PIECE - self._size)
+            piece[self._size:self._size + count] = view[:count]
+            self._size += count
+            view = view[count:]
+            if self._size == LARGE_PIECE:
+                self._hand_on()
+
+    def _hand_on(self) -> None:
+        piece = self._pieces.popleft()[0]
+        filled = piece[:self._size]
+        self._pieces.append((piece, self._thread.submit(self._digest.update, filled)))
+        self._write(filled)
+        self._size = 0
+        digested = self._pieces[0][1]
+        if digested is not None:
+            digested.result()
+
+    def end(self) -> str:
+        """Hands on what is left; gives the digits of the digest of all."""
+        self._hand_on()
+        self._thread.shutdown()
+        return self._digest.hexdigest()
 
 
 def digest_and_size(file: int, begin: int = 0) -> tuple[str, int]:

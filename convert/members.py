@@ -56,15 +56,16 @@ def opened_members(path: str) -> Iterator[Members]:
         if not is_pipe and not stat.S_ISREG(status.st_mode):
             raise cannot_read(told, "it is neither a folder, nor a regular file, nor a pipe")
         if is_pipe or is_packed(os.pread(file, HEAD_BYTES, 0)):
-            file = _copied(io.FileIO(file, closefd=False) if is_pipe else Slice(file, 0, status.st_size), told, files)
+            source = io.FileIO(file, closefd=False) if is_pipe else Slice(file, 0, status.st_size)
+            file = _copied(source, told, files, may_wait=is_pipe)
         yield _Archive(file, told)
 
 
-def _copied(source: io.RawIOBase, told: str, files: contextlib.ExitStack) -> int:
+def _copied(source: io.RawIOBase, told: str, files: contextlib.ExitStack, *, may_wait: bool) -> int:
     """What a pipe gives, or a packed archive, unpacked in an open file without a name, to be read here and there."""
     with writing(tempfile.gettempdir()):
         copy = files.enter_context(tempfile.TemporaryFile(buffering=0)).fileno()
-    with unpacked(source, told) as stream:
+    with unpacked(source, told, may_wait=may_wait) as stream:
         while piece := _read(stream, told):
             with writing(tempfile.gettempdir()):
                 write_all(copy, piece)

@@ -15,7 +15,7 @@ from .compression import NONE, media_type, packing, require_program
 from .configuration import (
     USUAL_PLATFORM, Document, for_layers, platform_of, platform_text, read_annotations, read_configuration,
 )
-from .contents import PIECE, PRIVATE_MODE, Write, digest_and_size
+from .contents import PIECE, PRIVATE_MODE, DigestedBeside, Write, digest_and_size
 from .entries import (
     DIRECTORY, IS_OPAQUE, LINK_MODE, OPAQUE, SOCKET, SYMLINK, Entry, drop_host_marks, is_opaque, is_whiteout,
     needs_lower_layers,
@@ -197,18 +197,14 @@ def _write_layer(files: ImageFiles, entries: list[Entry], options: PackOptions) 
     packed: list[_Packed] = []
 
     def fill(file: IO[bytes]) -> str:
-        begin, unpacked = file.tell(), hashlib.sha256()
-        with packing(options.compress, file) as write:
-
-            def take(piece: bytes) -> None:
-                unpacked.update(piece)
-                write(piece)
-
-            _write_archive(entries, options.blobs, take)
-        digest, size = unpacked.hexdigest(), file.seek(0, os.SEEK_END) - begin
+        begin = file.tell()
+        with packing(options.compress, file) as write, DigestedBeside(write) as archive:
+            _write_archive(entries, options.blobs, archive.write)
+            unpacked = archive.end()
+        digest, size = unpacked, file.seek(0, os.SEEK_END) - begin
         if options.compress != NONE:
             digest, size = digest_and_size(file.fileno(), begin)
-        packed.append(_Packed(digest, size, unpacked.hexdigest()))
+        packed.append(_Packed(digest, size, unpacked))
         return digest
 
     files.blob(fill)

@@ -20,7 +20,6 @@ from .shares import give_blobs
 from .walks import Found, walk
 
 
-
 @dataclass(frozen=True, kw_only=True)
 class ScanOptions:
     """What the words of `scan` say. Without a folder of blobs contents are digested and not copied."""

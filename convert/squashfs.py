@@ -1,6 +1,7 @@
 """squashfs files, read by `sqfs2tar` and written by `tar2sqfs`, both of squashfs-tools-ng."""
 
 import contextlib
+import io
 import os
 import resource
 import shutil
@@ -16,7 +17,7 @@ from .contents import Write
 from .faults import ENDING, ReadFault, cannot_read, cannot_write, reading
 from .shares import usual_workers
 from .streams import Source
-from .tar_headers import TarFault
+from .tar_headers import EndsEarly
 
 MAGIC = b"hsqs"
 COMPRESSIONS = ("gzip", "xz", "zstd", "lz4")
@@ -68,12 +69,12 @@ def archive_of(file: int, path: str, tell_socket: Callable[[str], None]) -> Iter
     limits = {resource.RLIMIT_AS: _MOST_MEMORY, resource.RLIMIT_FSIZE: _MOST_TOLD}
     with tempfile.TemporaryFile() as told:
         with _started(command, told, limits, stdout=subprocess.PIPE, pass_fds=(file,)) as process:
-            assert process.stdout is not None
+            assert isinstance(process.stdout, io.BufferedReader)
             try:
                 yield process.stdout
-            except TarFault:
+            except EndsEarly:
                 # An archive that seems to be cut short may be one of which the program could read no more.
-                if process.stdout.read(1) or process.wait() == 0:
+                if process.wait() == 0:
                     raise
             process.stdout.close()
             status = process.wait()

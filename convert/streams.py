@@ -10,17 +10,19 @@ import subprocess
 import tempfile
 import threading
 import zlib
+from collections import deque
 from collections.abc import Iterator
+from concurrent.futures import Executor, Future, ThreadPoolExecutor
 from typing import IO, Protocol
 
-from .contents import PIECE
+from .contents import LARGE_PIECE, LARGE_PIECES, PIECE
 from .faults import cannot_read
 from .progress import Progress
-from .tar_headers import TarFault
+from .tar_headers import EndsEarly, TarFault
 
 _GZIP = b"\x1f\x8b"
 _GZIP_WINDOW = 31  # zlib's number for a gzip header and trailer
-_GZIP_PIECE = 1 << 14
+_GZIP_PIECE = 1 << 18
 _ZSTD = b"\x28\xb5\x2f\xfd"
 _OTHERS = {b"BZh": "bzip2", b"\xfd7zXZ\0": "xz"}
 HEAD_BYTES = 6  # that tell how a file is packed
@@ -32,6 +34,8 @@ class Source(Protocol):
     """Bytes in order; none only at the end."""
 
     def read(self, count: int, /) -> bytes: ...
+
+    def readinto(self, buffer: bytearray | memoryview, /) -> int | None: ...
 
 
 class Reader(io.RawIOBase):
@@ -82,7 +86,7 @@ class SeekingSlice(Slice):
     def skip(self, count: int, /) -> None:
         """Passes bytes over."""
         if self.place + count > self._end:
-            raise TarFault("the archive ends too early")
+            raise EndsEarly
         self.place += count
 
 
@@ -144,10 +148,51 @@ class Digesting(Reader):
 
     def readinto(self, buffer: bytearray | memoryview) -> int:  # type: ignore[override]
         """Reads what fits."""
-        data = self._stream.read(len(buffer))
-        buffer[:len(data)] = data
-        self.digest.update(data)
-        return len(data)
+        count = self._stream.readinto(buffer) or 0
+        self.digest.update(memoryview(buffer)[:count])
+        return count
+
+
+class _Ahead(Reader):
+    """A stream of which a thread reads pieces before they are asked for."""
+
+    def __init__(self, stream: Source, thread: Executor) -> None:
+        super().__init__()
+        self._stream = stream
+        self._thread = thread
+        self._pieces: deque[tuple[memoryview, Future[int | None]]] = deque()
+        self._place = 0  # in the first piece
+        for _ in range(LARGE_PIECES):
+            self._have_filled(memoryview(bytearray(LARGE_PIECE)))
+
+    def _have_filled(self, piece: memoryview) -> None:
+        self._pieces.append((piece, self._thread.submit(self._stream.readinto, piece)))
+
+    def readinto(self, buffer: bytearray | memoryview) -> int:  # type: ignore[override]
+        """Gives of the next piece what fits; what went wrong with it is raised here."""
+        piece, filled = self._pieces[0]
+        size = filled.result() or 0
+        count = min(len(buffer), size - self._place)
+        buffer[:count] = piece[self._place:self._place + count]
+        self._place += count
+        if 0 < size == self._place:
+            self._pieces.popleft()
+            self._have_filled(piece)
+            self._place = 0
+        return count
+
+
+@contextlib.contextmanager
+def read_ahead(stream: Source) -> Iterator[Source]:
+    """The same bytes. A thread reads, unpacks and digests pieces of them before they are asked for."""
+    if isinstance(stream, Reader):
+        thread = ThreadPoolExecutor(1)
+        try:
+            yield _Ahead(stream, thread)
+        finally:
+            thread.shutdown(cancel_futures=True)
+    else:
+        yield stream
 
 
 def buffered(stream: Source) -> Source:
@@ -161,15 +206,18 @@ def is_packed(head: bytes) -> bool:
 
 
 @contextlib.contextmanager
-def unpacked(part: io.RawIOBase, name: str) -> Iterator[Source]:
-    """The bytes of an archive. Tells what is wrong with its packing as a fault of this name."""
+def unpacked(part: io.RawIOBase, name: str, *, may_wait: bool = False) -> Iterator[Source]:
+    """The bytes of an archive. Tells what is wrong with its packing as a fault of this name.
+
+    Threads work ahead, and are waited for at the end, but where they may have to wait, as for a pipe.
+    """
     packed = io.BufferedReader(part, PIECE)
     head = packed.peek(HEAD_BYTES)[:HEAD_BYTES]
     try:
         if head.startswith(_GZIP):
             yield Gunzip(packed)
         elif head.startswith(_ZSTD):
-            with _by_zstd(packed, name) as stream:
+            with _by_zstd(packed, name, may_wait) as stream:
                 yield stream
         else:
             for magic, program in _OTHERS.items():
@@ -183,35 +231,30 @@ def unpacked(part: io.RawIOBase, name: str) -> Iterator[Source]:
 
 
 @contextlib.contextmanager
-def _by_zstd(packed: io.BufferedReader, name: str) -> Iterator[Source]:
+def _by_zstd(packed: io.BufferedReader, name: str, may_wait: bool) -> Iterator[Source]:
     program = shutil.which("zstd")
     if program is None:
         raise cannot_read(name, "it is packed by zstd, and there is no zstd program; install zstd")
     command = [program, "--decompress", "--stdout", "--quiet"]
     with tempfile.TemporaryFile() as told:
         process = subprocess.Popen(command, stdin=subprocess.PIPE, stdout=subprocess.PIPE, stderr=told)
-        assert process.stdin is not None and process.stdout is not None
+        assert process.stdin is not None and isinstance(process.stdout, io.BufferedReader)
         feeder = threading.Thread(target=_feed, args=(packed, process.stdin), daemon=True)
         feeder.start()
         try:
             yield process.stdout
         except BaseException as error:
             # An archive that seems to be cut short may be one of which zstd could unpack no more.
-            if not (isinstance(error, TarFault) and _has_failed(process)):
+            if not (isinstance(error, EndsEarly) and process.wait() != 0):
                 process.kill()
                 raise
         finally:
             process.stdout.close()
             status = process.wait()
-            feeder.join()
+            if not may_wait:
+                feeder.join()
         if status != 0:
             raise cannot_read(name, f"its zstd stream is broken: {_zstd_reason(told, status)}")
-
-
-def _has_failed(process: "subprocess.Popen[bytes]") -> bool:
-    """Whether it has written all that it could and then ended with a fault."""
-    assert process.stdout is not None
-    return not process.stdout.read(1) and process.wait() != 0
 
 
 def _zstd_reason(told: IO[bytes], status: int) -> str:

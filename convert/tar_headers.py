@@ -48,6 +48,13 @@ class TarFault(Exception):
     """The bytes aren't a tar archive that can be read."""
 
 
+class EndsEarly(TarFault):
+    """An archive has fewer bytes than it says."""
+
+    def __init__(self) -> None:
+        super().__init__("the archive ends too early")
+
+
 @dataclass(slots=True)
 class Header:
     """An entry of an archive, before its data."""

@@ -8,8 +8,8 @@ from .contents import PIECE, ZEROS
 from .sparse import Places, old_places, record_places
 from .streams import Source
 from .tar_headers import (
-    BLOCK_BYTES, GNU_LONG_NAME, GNU_LONG_TARGET, GNU_SPARSE, PAX, PAX_GLOBAL, REGULAR_TYPES, XATTR_RECORD, Header,
-    TarFault, apply_records, parse_header, parse_records,
+    BLOCK_BYTES, GNU_LONG_NAME, GNU_LONG_TARGET, GNU_SPARSE, PAX, PAX_GLOBAL, REGULAR_TYPES, XATTR_RECORD, EndsEarly,
+    Header, TarFault, apply_records, parse_header, parse_records,
 )
 
 MAX_RECORDS = 1 << 20  # bytes of the PAX records and long names of an entry; real ones have a few thousand
@@ -177,7 +177,7 @@ class TarReader:
 
     def _whole(self, data: bytes, count: int) -> bytes:
         if len(data) < count:
-            raise TarFault("the archive ends too early")
+            raise EndsEarly
         return data
 
 

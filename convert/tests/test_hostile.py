@@ -13,6 +13,7 @@ import shutil
 import subprocess
 import sys
 import tarfile
+import threading
 import unittest
 import zlib
 from collections.abc import Iterator
@@ -27,7 +28,7 @@ from convert.tar_headers import pax_record
 
 GIGABYTE = 1 << 30
 BOMB_BYTES = GIGABYTE
-MEMORY = 200 * 1024  # KB, that the whole process may have
+MEMORY = 200 * 1024  # KB, that the whole process may write to
 SECONDS = 20  # of processor time
 FILES = 24  # that it may have open
 
@@ -151,6 +152,15 @@ class Broken(HostileTest):
             self.empty()
         write_layout(self.path("image"), [whole[:-6] + b"x" + whole[-5:]])
         self.require_refused("gzip stream is broken")
+
+    def test_what_is_read_ahead(self) -> None:
+        """An entry is told before a gzip stream that breaks off behind it, and no thread is left."""
+        data = os.urandom(1 << 20)
+        for first, because in ((member("v", kind=b"V"), "an entry of type"), (member("f"), "gzip stream is broken")):
+            write_layout(self.path("image"), [packed(archive([first, member("g", data)]))[:-1_000]])
+            self.require_refused(because)
+            self.assertEqual(threading.active_count(), 1)
+            self.empty()
 
     def test_truncated_archives(self) -> None:
         whole = archive([member("f", bytes(1_000)), member("g", bytes(1_000))])
@@ -553,7 +563,7 @@ def _packed_zeros(count: int) -> bytes:
 
 
 def _limit() -> None:
-    resource.setrlimit(resource.RLIMIT_AS, (MEMORY * 1024, MEMORY * 1024))
+    resource.setrlimit(resource.RLIMIT_DATA, (MEMORY * 1024, MEMORY * 1024))
     resource.setrlimit(resource.RLIMIT_CPU, (SECONDS, SECONDS))
     resource.setrlimit(resource.RLIMIT_NOFILE, (FILES, FILES))
 

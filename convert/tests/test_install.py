@@ -5,6 +5,7 @@ import re
 import shutil
 import subprocess
 import unittest
+from unittest import mock
 
 from support import PROGRAM, ROOT, FolderTest, call
 
@@ -13,6 +14,7 @@ from convert import VERSION
 HELP = ROOT / "examples" / "help.txt"
 VERSION_TEXT = ROOT / "examples" / "version.txt"
 _OPTION = re.compile(r"(?<![\w-])--[a-z][a-z-]*")
+_WIDTH = 111  # of the help texts; what the options mean is broken as the terminal wants it
 _HELP_COMMAND = re.compile(r"^ {2,4}([a-z]+)  ", re.MULTILINE)
 _COMMANDS = ("scan", "store", "build", "unpack", "pack", "flatten", "sizes", "mounted")
 INSTALLED = ["bin/layers", "bin/ovl_layers", "share/man/man1/layers.1", "share/man/man1/ovl_layers.1"]
@@ -49,6 +51,12 @@ class Pages(unittest.TestCase):
         commands = helps[0].split("commands:", 1)[1].split("examples:", 1)[0]
         self.assertEqual(set(_HELP_COMMAND.findall(commands)), set(_COMMANDS))
         self.assertEqual(page_commands(text), set(_COMMANDS))
+
+    def test_no_line_of_help_is_too_wide(self) -> None:
+        with mock.patch.dict(os.environ, COLUMNS="80"):
+            helps = [call("--help")[1], *(call(command, "--help")[1] for command in _COMMANDS)]
+        for line in "".join(helps).splitlines():
+            self.assertLessEqual(len(line), _WIDTH, line)
 
     def test_ovl_layers(self) -> None:
         if PROGRAM.exists():

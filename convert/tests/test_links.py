@@ -20,7 +20,7 @@ NAMES = [f"usr/lib/git-core/git-{number}" for number in range(140)]
 GIT = random.Random(1).randbytes(1 << 20)
 LINK = tarfile.LNKTYPE
 REDIRECT = "SCHILY.xattr.trusted.overlay.redirect"
-MEMORY = 128 << 20  # bytes
+MEMORY = 128 << 20  # bytes, that a process may write to
 SECONDS = 20  # of processor time
 RANDOM_IMAGES = int(os.environ.get("LAYERS_TEST_IMAGES", "15"))
 
@@ -221,7 +221,7 @@ class Links(FolderTest):
     def bounded(self, *words: str) -> None:
         """The command ends well in little memory and time."""
         def limit() -> None:
-            resource.setrlimit(resource.RLIMIT_AS, (MEMORY, MEMORY))
+            resource.setrlimit(resource.RLIMIT_DATA, (MEMORY, MEMORY))
             resource.setrlimit(resource.RLIMIT_CPU, (SECONDS, SECONDS))
 
         command = [sys.executable, "-B", str(COMMAND), *words]

@@ -2,13 +2,17 @@
 
 import bz2
 import contextlib
+import fcntl
 import gzip
 import json
 import os
 import shutil
+import signal
 import subprocess
 import sys
 import tarfile
+import termios
+import time
 import unittest
 
 from images import archive, folder, member, write_layout, write_saved
@@ -17,6 +21,7 @@ from support import COMMAND, FolderTest, call
 LAYER = archive([folder("./"), member("a", b"a")])
 REF_NAME = "org.opencontainers.image.ref.name"
 LAYOUT = ["blobs", "index.json", "oci-layout"]
+SECONDS = 30  # that the end of a process may take
 
 
 class Targets(FolderTest):
@@ -180,6 +185,24 @@ class PackedArchives(FolderTest):
         self.assertEqual((status, told), (
             3, "layers: cannot read standard input: it is packed by bzip2, which images don't have\n"
         ))
+
+    def test_ended_while_it_waits(self) -> None:
+        """For a pipe of which no more comes."""
+        zstd = shutil.which("zstd")
+        kinds = [gzip.compress(self.data)]
+        if zstd:
+            kinds.append(subprocess.run([zstd], input=self.data, capture_output=True, check=True).stdout)
+        for data in kinds:
+            command = [sys.executable, "-B", str(COMMAND), "unpack", "-", "--out", self.path("out")]
+            with subprocess.Popen(command, stdin=subprocess.PIPE) as process:
+                assert process.stdin is not None
+                process.stdin.write(data[:-20])
+                process.stdin.flush()
+                while process.poll() is None and any(fcntl.ioctl(process.stdin, termios.FIONREAD, bytes(4))):
+                    time.sleep(0.05)
+                process.terminate()
+                self.assertEqual(process.wait(SECONDS), 128 + signal.SIGTERM)
+            self.require_nothing_left()
 
 
 if __name__ == "__main__":
