@@ -97,8 +97,8 @@ pub fn add_entry(
     Ok(draft.enter(alloc, &path, inode)?)
 }
 
-/// The same for the entry `name` of a directory.
-pub(crate) fn add_child(
+/// The same for the entry `name` of a directory, of which no path is made.
+pub fn add_child(
     alloc: Global,
     draft: &mut Draft,
     number: u32,
