@@ -1,6 +1,8 @@
 ghost use Rattle.std.specs.Prelude.{◌≡◌};
+ghost use Rattle.ovl_rewrite.specs.Passes.{failed_tree};
 ghost use Rattle.ovl_rewrite.specs.declared.faults.RewriteFault.TheVariants.{Memory};
 
+use ovl_layer::TreeFault;
 use std::alloc::AllocError;
 use thiserror::Error;
 
@@ -21,5 +23,16 @@ impl From<AllocError> for RewriteFault {
 
     fn from(_: AllocError) -> RewriteFault {
         RewriteFault::Memory
+    }
+}
+
+impl From<TreeFault> for RewriteFault {
+    ghost from_gives = { λ fault told. told ≡ failed_tree fault };
+
+    fn from(fault: TreeFault) -> RewriteFault {
+        match fault {
+            TreeFault::NoLayer => RewriteFault::LimitOut,
+            TreeFault::Memory => RewriteFault::Memory,
+        }
     }
 }
