@@ -1,11 +1,11 @@
 -- From the parcels to the new layer.
 use Rattle.std.proofs.Common.{◌≡◌, ℕ, suc, ◌-◌, Bool, true, false, cond, Option, Some, None, List, [], ◌∷◌, ◌++◌, length, map, refl, sym, ap, ◌∙◌, subst, append_assoc, arith}
-use Rattle.std.specs.Prelude.{Result, Ok, Err, IfOk, nat_lt}
+use Rattle.std.specs.Prelude.{Result, Ok, Err, IfOk}
 use Rattle.std.proofs.lemmas.List.{append-nil}
 use Rattle.ovl_names.specs.Order.{ascends}
 use Rattle.ovl_inode.specs.declared.inodes.Inode.{Inode}
-use Rattle.ovl_layer.specs.Layers.{Entry, Entries, entry_cmp, entry_limit, IsLayer}
-use Rattle.ovl_layer.specs.Entries.{entry_fault, entry_after, entries_after, is_miscounted, is_statable, stated_pair, layer_of_pairs, IsFaultOf}
+use Rattle.ovl_layer.specs.Layers.{Entries, entry_cmp, IsLayer}
+use Rattle.ovl_layer.specs.Entries.{entry_fault, entries_after, is_miscounted, is_statable, stated_pair, layer_of_pairs, IsFaultOf}
 use Rattle.ovl_layer.specs.declared.faults.LayerFault.{LayerFault}
 use Rattle.ovl_layer.specs.declared.faults.LayerFault.TheVariants.{NotJson, Shape, Version, Count, Entry as WrongEntry, Order, NoParent, Root, Escaped, Memory}
 use Rattle.ovl_layer.specs.LayerTrees.{entries_from}

@@ -1,10 +1,14 @@
 -- The next entry of a parcel that is gone through, behind those that are done.
-use Rattle.std.proofs.Common.{◌≡◌, ◌<◌, ◌+◌, ℕ, true, false, List, [], ◌∷◌, ◌++◌, length, get_or, refl, sym, ap, ◌∙◌, subst, arith, length-append}
+use Rattle.std.proofs.Common.{◌≡◌, ◌<◌, ◌+◌, ◌⊎◌, inl, inr, Result, Err, ℕ, true, false, List, [], ◌∷◌, ◌++◌, length, get_or, refl, sym, ap, ◌∙◌, subst, arith, length-append}
 use Rattle.ovl_inode.specs.Marks.{is_directory}
 use Rattle.ovl_layer.specs.Layers.{Entries}
 use Rattle.ovl_layer.specs.LayerTrees.{under, entries_from}
 use Rattle.ovl_rewrite.specs.Directories.{NamedInode}
-use Rattle.ovl_rewrite.specs.Passes.{View, WalksUnder, StopsUnder}
+use Rattle.ovl_rewrite.specs.Passes.{View, WalksUnder, StopsUnder, failed_tree}
+use Rattle.ovl_layer.specs.declared.faults.TreeFault.{TreeFault}
+use Rattle.ovl_layer.specs.declared.faults.TreeFault.TheVariants.{NoLayer, Memory as NoMemory}
+use Rattle.ovl_rewrite.specs.declared.faults.RewriteFault.{RewriteFault}
+use Rattle.ovl_rewrite.specs.declared.faults.RewriteFault.TheVariants.{LimitOut, Memory}
 use Rattle.ovl_rewrite.proofs.UnderLemmas.{WalksAmong, walk-directory, walk-file, stops-directory}
 
 -- the element behind others
@@ -37,3 +41,18 @@ module _ (before : List View) (view : View) (later : List View) (first : before 
 
   pub stops-below : is_directory entry.1 ≡ true → StopsUnder after → StopsUnder before
   stops-below is stops = stops-directory before view later first after (length done) entry inside is_entry mid walked is stops
+
+  -- ... so one of either kind what was made of it
+  pub next-entry : (last : List View) (kids : Entries)
+      → ((is_directory entry.1 ≡ true) × WalksUnder after last kids) ⊎ ((is_directory entry.1 ≡ false) × (kids ≡ []) × (last ≡ after))
+      → WalksAmong before last (length (done ++ entry ∷ [])) (mid ++ under entry.0 (entries_from entry.1 kids))
+  next-entry last kids (inl directory) = next-directory directory.0 last kids directory.1
+  next-entry last kids (inr file) =
+      subst (λ (vs : List View). WalksAmong before vs (length (done ++ entry ∷ [])) (mid ++ under entry.0 (entries_from entry.1 kids))) (sym file.2) (next-file file.0 kids file.1)
+
+-- entries were refused as those of no layer
+pub no-layer : {T : Type 0} (fault : TreeFault) (result : Result T RewriteFault) → result ≡ Err (failed_tree fault) → result ≡ Err LimitOut → fault ≡ NoLayer
+no-layer NoLayer result told is = refl
+no-layer NoMemory result told is =
+    let same = sym told ∙ is in
+    let bad : Memory ≡ LimitOut = cc in cc
