@@ -1,6 +1,6 @@
 ghost use Rattle.std.specs.Prelude.{◌≡◌};
 ghost use Rattle.ovl_layer.specs.declared.faults.LayerFault.TheVariants.{Memory};
-ghost use Rattle.ovl_layer.specs.declared.faults.TreeFault.TheVariants.{Memory as NoMemory};
+ghost use Rattle.ovl_layer.specs.declared.faults.SiblingFault.TheVariants.{Memory as NoMemory};
 
 use std::alloc::{AllocError, AllocFailed};
 use thiserror::Error;
@@ -51,7 +51,7 @@ impl From<AllocError> for LayerFault {
 
 /// Why entries aren't put together.
 #[derive(Clone, Copy, Debug, PartialEq, Eq, Error)]
-pub enum TreeFault {
+pub enum SiblingFault {
     /// No layer has them.
     #[error("no layer")]
     NoLayer,
@@ -60,10 +60,10 @@ pub enum TreeFault {
     Memory,
 }
 
-impl<T: Drop> From<AllocFailed<T>> for TreeFault {
+impl<T: Drop> From<AllocFailed<T>> for SiblingFault {
     ghost from_gives = { λ _ fault. fault ≡ NoMemory };
 
-    fn from(_: AllocFailed<T>) -> TreeFault {
-        TreeFault::Memory
+    fn from(_: AllocFailed<T>) -> SiblingFault {
+        SiblingFault::Memory
     }
 }

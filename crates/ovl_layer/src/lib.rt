@@ -15,7 +15,7 @@ pub use drafts::Draft;
 pub use entries::{
     ENTRY_LIMIT, add_child, add_entry, from_entries, has_escaped_name, start_draft, start_root,
 };
-pub use faults::{LayerFault, TreeFault};
+pub use faults::{LayerFault, SiblingFault};
 pub use sheet_drafts::SheetDraft;
 pub use sheets::{Sheet, SheetPlace, SheetRow};
 pub use siblings::Siblings;

@@ -6,10 +6,10 @@ ghost use Rattle.ovl_layer.specs.Layers.{Entries, IsLayer};
 ghost use Rattle.ovl_layer.specs.LayerTrees.{under, entries_from};
 ghost use Rattle.ovl_layer.specs.Entries.{comes_after};
 ghost use Rattle.ovl_layer.specs.Siblings.{CanStand, IsExtent, Fits};
-ghost use Rattle.ovl_layer.specs.declared.faults.TreeFault.TheVariants.{NoLayer};
+ghost use Rattle.ovl_layer.specs.declared.faults.SiblingFault.TheVariants.{NoLayer};
 
 use crate::entries::{ENTRY_LIMIT, has_escaped_name};
-use crate::faults::TreeFault;
+use crate::faults::SiblingFault;
 use crate::trees::{Layer, Node};
 use ovl_inode::{Inode, is_directory, sound};
 use ovl_names::{DEPTH_LIMIT, Name, TEXT_LIMIT};
@@ -72,7 +72,7 @@ impl Siblings {
 
     /// Adds the entry `name` with what lies below it. It is refused with `NoLayer` only where no
     /// layer has it after those so far; a refusal leaves these as they are.
-    pub fn add(&mut self, name: Name, inode: Inode, below: Siblings) -> Result<(), TreeFault>
+    pub fn add(&mut self, name: Name, inode: Inode, below: Siblings) -> Result<(), SiblingFault>
         requires { is_directory inode ≡ false → below ≡ [] }
         ensures entries { IfOk result
             (λ _. self.new ≡ self.old ++ under name (entries_from inode below)) }
@@ -82,7 +82,7 @@ impl Siblings {
     {
         let extent = self.extent.with(&name, below.extent);
         if !extent.fits() || !self.takes(&name, &inode) {
-            return Err(TreeFault::NoLayer);
+            return Err(SiblingFault::NoLayer);
         }
         self.nodes.push(Node {
             name,

@@ -4,9 +4,9 @@ use Rattle.ovl_inode.specs.Marks.{is_directory}
 use Rattle.ovl_layer.specs.Layers.{Entries}
 use Rattle.ovl_layer.specs.LayerTrees.{under, entries_from}
 use Rattle.ovl_rewrite.specs.Directories.{NamedInode}
-use Rattle.ovl_rewrite.specs.Passes.{View, WalksUnder, StopsUnder, failed_tree}
-use Rattle.ovl_layer.specs.declared.faults.TreeFault.{TreeFault}
-use Rattle.ovl_layer.specs.declared.faults.TreeFault.TheVariants.{NoLayer, Memory as NoMemory}
+use Rattle.ovl_rewrite.specs.Passes.{View, WalksUnder, StopsUnder, failed_siblings}
+use Rattle.ovl_layer.specs.declared.faults.SiblingFault.{SiblingFault}
+use Rattle.ovl_layer.specs.declared.faults.SiblingFault.TheVariants.{NoLayer, Memory as NoMemory}
 use Rattle.ovl_rewrite.specs.declared.faults.RewriteFault.{RewriteFault}
 use Rattle.ovl_rewrite.specs.declared.faults.RewriteFault.TheVariants.{LimitOut, Memory}
 use Rattle.ovl_rewrite.proofs.UnderLemmas.{WalksAmong, walk-directory, walk-file, stops-directory}
@@ -51,7 +51,7 @@ module _ (before : List View) (view : View) (later : List View) (first : before 
       subst (λ (vs : List View). WalksAmong before vs (length (done ++ entry ∷ [])) (mid ++ under entry.0 (entries_from entry.1 kids))) (sym file.2) (next-file file.0 kids file.1)
 
 -- entries were refused as those of no layer
-pub no-layer : {T : Type 0} (fault : TreeFault) (result : Result T RewriteFault) → result ≡ Err (failed_tree fault) → result ≡ Err LimitOut → fault ≡ NoLayer
+pub no-layer : {T : Type 0} (fault : SiblingFault) (result : Result T RewriteFault) → result ≡ Err (failed_siblings fault) → result ≡ Err LimitOut → fault ≡ NoLayer
 no-layer NoLayer result told is = refl
 no-layer NoMemory result told is =
     let same = sym told ∙ is in

@@ -7,8 +7,8 @@ use Rattle.ovl_inode.specs.Marks.{is_directory}
 use Rattle.ovl_layer.specs.Layers.{Entries}
 use Rattle.ovl_layer.specs.LayerTrees.{placed}
 use Rattle.ovl_layer.specs.Siblings.{CanStand}
-use Rattle.ovl_layer.specs.declared.faults.TreeFault.{TreeFault}
-use Rattle.ovl_layer.specs.declared.faults.TreeFault.TheVariants.{NoLayer, Memory as NoMemory}
+use Rattle.ovl_layer.specs.declared.faults.SiblingFault.{SiblingFault}
+use Rattle.ovl_layer.specs.declared.faults.SiblingFault.TheVariants.{NoLayer, Memory as NoMemory}
 use Rattle.ovl_board.specs.declared.pieces.Piece.{Piece}
 use Rattle.ovl_board.specs.Pieces.{HasLawfulKids}
 use Rattle.ovl_board.specs.Walks.{preorder}
@@ -67,6 +67,6 @@ StopsUnder before =
     → CanStand (entries_under tree (deepest - length piece.dir) piece.dir) → ⊥
 
 -- what it says that entries aren't put together
-abbrev pub failed_tree : TreeFault → RewriteFault
-failed_tree NoLayer = LimitOut
-failed_tree NoMemory = Memory
+abbrev pub failed_siblings : SiblingFault → RewriteFault
+failed_siblings NoLayer = LimitOut
+failed_siblings NoMemory = Memory

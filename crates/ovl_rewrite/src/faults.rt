@@ -1,8 +1,8 @@
 ghost use Rattle.std.specs.Prelude.{◌≡◌};
-ghost use Rattle.ovl_rewrite.specs.Passes.{failed_tree};
+ghost use Rattle.ovl_rewrite.specs.Passes.{failed_siblings};
 ghost use Rattle.ovl_rewrite.specs.declared.faults.RewriteFault.TheVariants.{Memory};
 
-use ovl_layer::TreeFault;
+use ovl_layer::SiblingFault;
 use std::alloc::AllocError;
 use thiserror::Error;
 
@@ -26,13 +26,13 @@ impl From<AllocError> for RewriteFault {
     }
 }
 
-impl From<TreeFault> for RewriteFault {
-    ghost from_gives = { λ fault told. told ≡ failed_tree fault };
+impl From<SiblingFault> for RewriteFault {
+    ghost from_gives = { λ fault told. told ≡ failed_siblings fault };
 
-    fn from(fault: TreeFault) -> RewriteFault {
+    fn from(fault: SiblingFault) -> RewriteFault {
         match fault {
-            TreeFault::NoLayer => RewriteFault::LimitOut,
-            TreeFault::Memory => RewriteFault::Memory,
+            SiblingFault::NoLayer => RewriteFault::LimitOut,
+            SiblingFault::Memory => RewriteFault::Memory,
         }
     }
 }
