@@ -142,3 +142,11 @@ pairs-stated (entry ∷ entries) limited sound =
 
 pub pairs-back : (layer : Entries) → IsLayer layer → layer_of_pairs layer ≡ Ok layer
 pairs-back layer is = ap layer_of_entries (pairs-stated layer is.limited is.sound) ∙ layer-counted layer is
+
+-- the pair of the next entry of a layer is taken
+pub pair-next : (before : Entries) (entry : Entry) (more : Entries) → IsLayer (before ++ entry ∷ more) → entry_after before (stated_pair entry) ≡ Ok (before ++ entry ∷ [])
+pair-next before entry more is =
+    let limits = (list_all-front (λ (e : Entry). is_within_limits e.0) before (entry ∷ more) is.limited).1 in
+    let sounds = (list_all-front (λ (e : Entry). is_sound_inode e.1) before (entry ∷ more) is.sound).1 in
+    let own = stated-own entry (both {a = is_within_limits entry.0} {b = list_all (λ (e : Entry). is_within_limits e.0) more} limits).0 (both {a = is_sound_inode entry.1} {b = list_all (λ (e : Entry). is_sound_inode e.1) more} sounds).0 in
+    ap (entry_after before) own ∙ next-taken before entry more is

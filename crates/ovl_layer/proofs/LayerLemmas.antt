@@ -155,7 +155,7 @@ directory-kept front more path is = by (entry_at front path) refl
     by None e = let bad : false ≡ true = rw (e, is_directory_at) at is in cc
     by (Some inode) e = rw (lookup-kept front more path inode e, is_directory_at) (rw (e, is_directory_at) at is)
 
-closed-kept : (whole : Entries) (front more : Entries) → list_all (λ entry. has_parent whole entry.0) front ≡ true → list_all (λ entry. has_parent (whole ++ more) entry.0) front ≡ true
+pub closed-kept : (whole : Entries) (front more : Entries) → list_all (λ entry. has_parent whole entry.0) front ≡ true → list_all (λ entry. has_parent (whole ++ more) entry.0) front ≡ true
 closed-kept whole [] more all = refl
 closed-kept whole (entry ∷ front) more all =
     let parts = both {a = has_parent whole entry.0} {b = list_all (λ e. has_parent whole e.0) front} all in

@@ -1,6 +1,6 @@
 pub mod AfterLemmas
 pub mod BackLemmas
-pub mod BuilderLemmas
+pub mod SiblingLemmas
 pub mod DraftLemmas
 pub mod EntryLemmas
 pub mod KidListLemmas

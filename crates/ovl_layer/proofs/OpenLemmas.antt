@@ -50,7 +50,7 @@ ascends-open (first ∷ front) node rest up =
 
 -- ---- nodes whose entries are in order are in order
 
-single : (one other : PathName) → is_lt (path_cmp (one ∷ []) (other ∷ [])) ≡ true → is_lt (name_cmp one other) ≡ true
+pub single : (one other : PathName) → is_lt (path_cmp (one ∷ []) (other ∷ [])) ≡ true → is_lt (name_cmp one other) ≡ true
 single one other before = by (name_cmp one other) refl
   where
     by : (o : Ordering) → name_cmp one other ≡ o → is_lt (name_cmp one other) ≡ true
@@ -138,7 +138,7 @@ module _ (inode : Inode) (nodes spine rest : List NodeView) (node : NodeView) (p
         let last = ascends-open front parent (node ∷ []) (subst (λ (some : List NodeView). ascends entry_cmp (entries_of_open some) ≡ true) last_two behind) in
         subst (λ (below : Entries). ascends entry_cmp (parent.below ++ under node.name (entries_from node.inode below)) ≡ true) (append-nil node.below) last
 
-placed-deeper : (name : PathName) (path : PathNames) (entries : Entries) → under name (placed path entries) ≡ placed (name ∷ path) entries
+pub placed-deeper : (name : PathName) (path : PathNames) (entries : Entries) → under name (placed path entries) ≡ placed (name ∷ path) entries
 placed-deeper name path [] = refl
 placed-deeper name path (entry ∷ entries) = ap (λ rest. (name ∷ (path ++ entry.0), entry.1) ∷ rest) (placed-deeper name path entries)
 

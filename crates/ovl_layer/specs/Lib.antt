@@ -4,7 +4,7 @@ pub mod TreeFalls
 pub mod Entries
 pub mod TextPaths
 pub mod Drafts
-pub mod Builders
+pub mod Siblings
 pub mod Sheets
 pub mod KidLists
 pub mod MarkLists

@@ -156,20 +156,6 @@ impl Draft {
         Ok(())
     }
 
-    /// Makes room for so many entries directly below the last one.
-    pub(crate) fn make_room(&mut self, entries: usize) -> Result<(), AllocError>
-        requires { IsDraft self.old }
-        ensures entries { IfOk result (λ _. draft_entries self.new ≡ draft_entries self.old) }
-        ensures draft { IfOk result (λ _. IsDraft self.new) }
-    {
-        let depth = self.spine.len();
-        if depth == 0 {
-            return self.children.reserve_exact(entries);
-        }
-        let node = &mut self.spine[depth - 1];
-        node.children.reserve_exact(entries)
-    }
-
     /// The finished layer.
     pub fn finish(self) -> Result<Layer, AllocError>
         requires { IsDraft self }

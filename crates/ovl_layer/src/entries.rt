@@ -66,6 +66,16 @@ pub fn start_draft(alloc: Global, entry: Option<(Path, Inode)>) -> Result<Draft,
     Ok(Draft::start(alloc, inode))
 }
 
+/// The draft of a root alone.
+pub fn start_root(alloc: Global, root: Inode) -> Result<Draft, LayerFault>
+    ensures { MatchResult result
+        (λ draft. (entry_after [] (stated_pair ([], root)) ≡ Ok (draft_entries draft))
+        × IsDraft draft)
+        (λ fault. entry_after [] (stated_pair ([], root)) ≡ Err fault) }
+{
+    start_draft(alloc, stated((Path::root(alloc), root)))
+}
+
 /// Adds the entry of this number to a draft, if one is stated.
 pub fn add_entry(
     alloc: Global,
@@ -97,8 +107,8 @@ pub fn add_entry(
     Ok(draft.enter(alloc, &path, inode)?)
 }
 
-/// The same for the entry `name` of a directory.
-pub(crate) fn add_child(
+/// The same for the entry `name` of a directory, of which no path is made.
+pub fn add_child(
     alloc: Global,
     draft: &mut Draft,
     number: u32,

@@ -1,7 +1,8 @@
 ghost use Rattle.std.specs.Prelude.{◌≡◌};
 ghost use Rattle.ovl_layer.specs.declared.faults.LayerFault.TheVariants.{Memory};
+ghost use Rattle.ovl_layer.specs.declared.faults.SiblingFault.TheVariants.{Memory as NoMemory};
 
-use std::alloc::AllocError;
+use std::alloc::{AllocError, AllocFailed};
 use thiserror::Error;
 
 /// Why bytes are no manifest, or entries no layer; the first fault in the order of tests is given,
@@ -45,5 +46,24 @@ impl From<AllocError> for LayerFault {
 
     fn from(_: AllocError) -> LayerFault {
         LayerFault::Memory
+    }
+}
+
+/// Why entries aren't put together.
+#[derive(Clone, Copy, Debug, PartialEq, Eq, Error)]
+pub enum SiblingFault {
+    /// No layer has them.
+    #[error("no layer")]
+    NoLayer,
+    /// Out of memory.
+    #[error("out of memory")]
+    Memory,
+}
+
+impl<T: Drop> From<AllocFailed<T>> for SiblingFault {
+    ghost from_gives = { λ _ fault. fault ≡ NoMemory };
+
+    fn from(_: AllocFailed<T>) -> SiblingFault {
+        SiblingFault::Memory
     }
 }

@@ -1,7 +1,6 @@
 //! Layers as trees and as tables, seen as finite maps from paths to inodes.
 #![tactic(auto)]
 
-mod builders;
 mod drafts;
 mod entries;
 mod faults;
@@ -9,12 +8,15 @@ mod kid_lists;
 mod mark_lists;
 mod sheet_drafts;
 mod sheets;
+mod siblings;
 mod trees;
 
-pub use builders::LayerBuilder;
 pub use drafts::Draft;
-pub use entries::{ENTRY_LIMIT, add_entry, from_entries, has_escaped_name, start_draft};
-pub use faults::LayerFault;
+pub use entries::{
+    ENTRY_LIMIT, add_child, add_entry, from_entries, has_escaped_name, start_draft, start_root,
+};
+pub use faults::{LayerFault, SiblingFault};
 pub use sheet_drafts::SheetDraft;
 pub use sheets::{Sheet, SheetPlace, SheetRow};
+pub use siblings::Siblings;
 pub use trees::{Cursor, Layer, Node};

@@ -1,16 +1,18 @@
 -- From the parcels to the new layer.
 use Rattle.std.proofs.Common.{◌≡◌, ℕ, suc, ◌-◌, Bool, true, false, cond, Option, Some, None, List, [], ◌∷◌, ◌++◌, length, map, refl, sym, ap, ◌∙◌, subst, append_assoc, arith}
-use Rattle.std.specs.Prelude.{Result, Ok, Err, IfOk, nat_lt}
+use Rattle.std.specs.Prelude.{Result, Ok, Err, IfOk}
 use Rattle.std.proofs.lemmas.List.{append-nil}
 use Rattle.ovl_names.specs.Order.{ascends}
 use Rattle.ovl_inode.specs.declared.inodes.Inode.{Inode}
-use Rattle.ovl_layer.specs.Layers.{Entry, Entries, entry_cmp, entry_limit, IsLayer}
-use Rattle.ovl_layer.specs.Entries.{entry_fault, entry_after, entries_after, is_miscounted, is_statable, stated_pair, layer_of_pairs, IsFaultOf}
+use Rattle.ovl_layer.specs.Layers.{Entries, entry_cmp, IsLayer}
+use Rattle.ovl_layer.specs.Entries.{entry_fault, entries_after, is_miscounted, is_statable, stated_pair, layer_of_pairs, IsFaultOf}
 use Rattle.ovl_layer.specs.declared.faults.LayerFault.{LayerFault}
 use Rattle.ovl_layer.specs.declared.faults.LayerFault.TheVariants.{NotJson, Shape, Version, Count, Entry as WrongEntry, Order, NoParent, Root, Escaped, Memory}
-use Rattle.ovl_layer.specs.Builders.{pair_after}
+use Rattle.ovl_layer.specs.LayerTrees.{entries_from}
+use Rattle.ovl_layer.specs.Siblings.{CanStand}
 use Rattle.ovl_layer.proofs.BackLemmas.{pairs-back}
-use Rattle.ovl_layer.proofs.BuilderLemmas.{pair-taken}
+use Rattle.ovl_layer.proofs.NodeLemmas.{placed-root}
+use Rattle.ovl_layer.proofs.SiblingLemmas.{stand-layer}
 use Rattle.ovl_board.specs.Parcels.{IsPlain}
 use Rattle.ovl_board.proofs.LawsOfWalks.{IsPlain-from_preorder, HasReachedPieces-holds}
 use Rattle.ovl_rewrite.specs.Passes.{Tree, IsTree, tree_kids, tree_out, entries_under, View, views_under, WalksUnder, StopsUnder}
@@ -56,26 +58,6 @@ told-memory layer (Escaped n) told = let bad : Ok layer ≡ Err (Escaped n) = to
 pub layer-refused : (entries : Entries) (fault : LayerFault) → IsLayer entries → IsFaultOf (layer_of_pairs entries) fault → fault ≡ Memory
 layer-refused entries fault is told = told-memory entries fault (subst (λ (r : Result Entries LayerFault). IsFaultOf r fault) (pairs-back entries is) told)
 
--- ---- an entry that is a layer's next is taken
-
-pub next-refused : (before : Entries) (pair : Entry) (more : Entries) (fault : LayerFault) → IsLayer (before ++ pair ∷ more) → IsFaultOf (pair_after before pair) fault → fault ≡ Memory
-next-refused before pair more fault is told = told-memory (before ++ pair ∷ []) fault (subst (λ (r : Result Entries LayerFault). IsFaultOf r fault) (pair-taken before pair more is) told)
-
--- ---- what is there with one more entry
-
-pub entry-given : (before : Entries) (pair : Entry) (new : Entries) → entry_after before (stated_pair pair) ≡ Ok new → new ≡ before ++ pair ∷ []
-entry-given before pair new e = sym (pairs-given before (pair ∷ []) new (ap after e))
-  where
-    after : Result Entries LayerFault → Result Entries LayerFault
-    after r = elim r as (λ _. Result Entries LayerFault) [ Ok entries ↦ entries_after entries [] | Err found ↦ Err found ]
-
-pub pair-given : (before : Entries) (pair : Entry) (new : Entries) → pair_after before pair ≡ Ok new → new ≡ before ++ pair ∷ []
-pair-given before pair new e = by (nat_lt (length before) entry_limit) e
-  where
-    by : (b : Bool) → cond b (entry_after before (stated_pair pair)) (Err Count) ≡ Ok new → new ≡ before ++ pair ∷ []
-    by true e = entry-given before pair new e
-    by false e = let bad : Err Count ≡ Ok new = e in cc
-
 -- ---- the entries that the parcels tell
 
 -- the plain walk has the parcels under the root
@@ -84,13 +66,6 @@ walk-under tree deepest is views plain =
     let nodes : List View = views_under tree deepest root_piece in
     let other = IsPlain-from_preorder (tree_kids tree) (tree_out tree) deepest is.lawful root_piece nodes refl in
     sym ((HasReachedPieces-holds (tree_kids tree) (tree_out tree) root_piece views plain).3 nodes other)
-
-pub entries-whole : (views after : List View) (old new : Entries) → WalksUnder views after old new
-    → (tree : Tree) (deepest : ℕ) → IsTree tree deepest → IsPlain (tree_kids tree) (tree_out tree) root_piece views → new ≡ old ++ entries_under tree deepest []
-entries-whole views after old new under tree deepest is plain =
-    let whole : deepest - length root_piece.dir ≡ deepest = omega arith in
-    (under tree deepest is root_piece [] (walk-under tree deepest is views plain ∙ sym (append-nil (views_under tree deepest root_piece)))).1
-    ∙ ap (λ n. old ++ entries_under tree n []) whole
 
 -- those of its tree are in order, and have at each path what the new layer has
 module _ (root : Inode) (views : List View) (new : NewLayer) (by : IsToldBy new root views) where
@@ -106,19 +81,25 @@ module _ (root : Inode) (views : List View) (new : NewLayer) (by : IsToldBy new 
   is : IsTree tree (suc by.deepest)
   is = is-tree new by.names by.deepest by.told
 
-  pub told-whole : (after : List View) (entries : Entries) → WalksUnder views after (([], root) ∷ []) entries → entries ≡ told_entries
-  told-whole after entries under = entries-whole views after (([], root) ∷ []) entries under tree (suc by.deepest) is by.walk
+  abbrev whole : List View
+  whole = views_under tree (suc by.deepest) root_piece
 
-  -- no layer has them where none goes on with them
-  pub told-stops : StopsUnder views (([], root) ∷ []) → IsLayer told_entries → ⊥
+  all-views : views ≡ whole ++ []
+  all-views = walk-under tree (suc by.deepest) is views by.walk ∙ sym (append-nil whole)
+
+  at_root : suc by.deepest - length root_piece.dir ≡ suc by.deepest
+  at_root = omega arith
+
+  pub told-whole : (after : List View) (below : Entries) → WalksUnder views after below → entries_from root below ≡ told_entries
+  told-whole after below walks =
+      ap (λ (entries : Entries). ([], root) ∷ entries)
+      (sym (placed-root below) ∙ ((walks tree (suc by.deepest) is root_piece [] all-views).1 ∙ ap (λ n. entries_under tree n []) at_root))
+
+  -- no layer has them where none has those under the root
+  pub told-stops : StopsUnder views → IsLayer told_entries → ⊥
   told-stops stops layer =
-      let all : List View = views_under tree (suc by.deepest) root_piece in
-      let whole : suc by.deepest ≡ suc by.deepest - length root_piece.dir = omega arith in
-      stops tree (suc by.deepest) is root_piece [] (walk-under tree (suc by.deepest) is views by.walk ∙ sym (append-nil all)) []
-      (subst IsLayer
-      (ap (λ (n : ℕ). ([], root) ∷ entries_under tree n []) whole
-      ∙ ap (λ (entries : Entries). ([], root) ∷ entries) (sym (append-nil (entries_under tree (suc by.deepest - length root_piece.dir) []))))
-      layer)
+      stops tree (suc by.deepest) is root_piece [] all-views
+      (subst (λ (n : ℕ). CanStand (entries_under tree n [])) (sym at_root) (stand-layer root (entries_under tree (suc by.deepest) []) layer))
 
 -- ---- two facts of what is given
 

@@ -1,11 +1,15 @@
 -- The next entry of a parcel that is gone through, behind those that are done.
-use Rattle.std.proofs.Common.{◌≡◌, ◌<◌, ◌+◌, ℕ, true, false, List, [], ◌∷◌, ◌++◌, length, get_or, refl, sym, ap, ◌∙◌, subst, arith, length-append}
-use Rattle.ovl_names.specs.Paths.{child_path}
+use Rattle.std.proofs.Common.{◌≡◌, ◌<◌, ◌+◌, ◌⊎◌, inl, inr, Result, Err, ℕ, true, false, List, [], ◌∷◌, ◌++◌, length, get_or, refl, sym, ap, ◌∙◌, subst, arith, length-append}
 use Rattle.ovl_inode.specs.Marks.{is_directory}
-use Rattle.ovl_layer.specs.Layers.{Entries, IsLayer}
+use Rattle.ovl_layer.specs.Layers.{Entries}
+use Rattle.ovl_layer.specs.LayerTrees.{under, entries_from}
 use Rattle.ovl_rewrite.specs.Directories.{NamedInode}
-use Rattle.ovl_rewrite.specs.Passes.{View, WalksUnder, StopsUnder}
-use Rattle.ovl_rewrite.proofs.UnderLemmas.{WalksAmong, walk-directory, walk-file, stops-entry, stops-directory}
+use Rattle.ovl_rewrite.specs.Passes.{View, WalksUnder, StopsUnder, failed_siblings}
+use Rattle.ovl_layer.specs.declared.faults.SiblingFault.{SiblingFault}
+use Rattle.ovl_layer.specs.declared.faults.SiblingFault.TheVariants.{NoLayer, Memory as NoMemory}
+use Rattle.ovl_rewrite.specs.declared.faults.RewriteFault.{RewriteFault}
+use Rattle.ovl_rewrite.specs.declared.faults.RewriteFault.TheVariants.{LimitOut, Memory}
+use Rattle.ovl_rewrite.proofs.UnderLemmas.{WalksAmong, walk-directory, walk-file, stops-directory}
 
 -- the element behind others
 behind : {X : Type 0} (xs : List X) (x : X) (ys : List X) (d : X) → get_or (xs ++ x ∷ ys) (length xs) d ≡ x
@@ -13,7 +17,7 @@ behind [] x ys d = refl
 behind (first ∷ xs) x ys d = behind xs x ys d
 
 module _ (before : List View) (view : View) (later : List View) (first : before ≡ view ∷ later) (after : List View) (done left : List NamedInode) (entry : NamedInode) (parts : view.seen ≡ done ++ entry ∷ left)
-    (old mid : Entries) (walked : WalksAmong before after (length done) old mid) where
+    (mid : Entries) (walked : WalksAmong before after (length done) mid) where
   inside : length done < length view.seen
   inside = omega (arith, ap length parts, length-append done (entry ∷ left))
 
@@ -23,22 +27,32 @@ module _ (before : List View) (view : View) (later : List View) (first : before 
   more : length done + 1 ≡ length (done ++ entry ∷ [])
   more = sym (length-append done (entry ∷ []))
 
-  -- no layer goes on with the entry
-  pub stops-next : ((more : Entries) → IsLayer (mid ++ (child_path view.piece.dir entry.0, entry.1) ∷ more) → ⊥) → StopsUnder before old
-  stops-next none = stops-entry before view later first after (length done) entry inside is_entry old mid walked none
+  -- one that is no directory has nothing below it
+  pub next-file : is_directory entry.1 ≡ false → (kids : Entries) → kids ≡ [] → WalksAmong before after (length (done ++ entry ∷ [])) (mid ++ under entry.0 (entries_from entry.1 kids))
+  next-file other kids none =
+      subst (λ (n : ℕ). WalksAmong before after n (mid ++ under entry.0 (entries_from entry.1 kids))) more
+      (walk-file before view later first after (length done) entry inside is_entry mid walked other kids none)
 
-  module _ (pushed : Entries) (added : pushed ≡ mid ++ (child_path view.piece.dir entry.0, entry.1) ∷ []) where
-    -- one that is no directory is added itself
-    pub next-file : is_directory entry.1 ≡ false → WalksAmong before after (length (done ++ entry ∷ [])) old pushed
-    next-file other =
-        subst (λ (n : ℕ). WalksAmong before after n old pushed) more
-        (subst (λ (new : Entries). WalksAmong before after (length done + 1) old new) (sym added) (walk-file before view later first after (length done) entry inside is_entry old mid walked other))
+  -- ... and a directory what lies under it
+  pub next-directory : is_directory entry.1 ≡ true → (last : List View) (kids : Entries) → WalksUnder after last kids → WalksAmong before last (length (done ++ entry ∷ [])) (mid ++ under entry.0 (entries_from entry.1 kids))
+  next-directory is last kids below =
+      subst (λ (n : ℕ). WalksAmong before last n (mid ++ under entry.0 (entries_from entry.1 kids))) more
+      (walk-directory before view later first after (length done) entry inside is_entry mid walked is last kids below)
 
-    -- ... and a directory with what lies under it
-    pub next-directory : is_directory entry.1 ≡ true → (last : List View) (new : Entries) → WalksUnder after last pushed new → WalksAmong before last (length (done ++ entry ∷ [])) old new
-    next-directory is last new under =
-        subst (λ (n : ℕ). WalksAmong before last n old new) more
-        (walk-directory before view later first after (length done) entry inside is_entry old mid walked is last new (subst (λ (told : Entries). WalksUnder after last told new) added under))
+  pub stops-below : is_directory entry.1 ≡ true → StopsUnder after → StopsUnder before
+  stops-below is stops = stops-directory before view later first after (length done) entry inside is_entry mid walked is stops
 
-    pub stops-below : is_directory entry.1 ≡ true → StopsUnder after pushed → StopsUnder before old
-    stops-below is stops = stops-directory before view later first after (length done) entry inside is_entry old mid walked is (subst (λ (told : Entries). StopsUnder after told) added stops)
+  -- ... so one of either kind what was made of it
+  pub next-entry : (last : List View) (kids : Entries)
+      → ((is_directory entry.1 ≡ true) × WalksUnder after last kids) ⊎ ((is_directory entry.1 ≡ false) × (kids ≡ []) × (last ≡ after))
+      → WalksAmong before last (length (done ++ entry ∷ [])) (mid ++ under entry.0 (entries_from entry.1 kids))
+  next-entry last kids (inl directory) = next-directory directory.0 last kids directory.1
+  next-entry last kids (inr file) =
+      subst (λ (vs : List View). WalksAmong before vs (length (done ++ entry ∷ [])) (mid ++ under entry.0 (entries_from entry.1 kids))) (sym file.2) (next-file file.0 kids file.1)
+
+-- entries were refused as those of no layer
+pub no-layer : {T : Type 0} (fault : SiblingFault) (result : Result T RewriteFault) → result ≡ Err (failed_siblings fault) → result ≡ Err LimitOut → fault ≡ NoLayer
+no-layer NoLayer result told is = refl
+no-layer NoMemory result told is =
+    let same = sym told ∙ is in
+    let bad : Memory ≡ LimitOut = cc in cc

@@ -7,7 +7,11 @@ use Rattle.std.proofs.lemmas.List.Concat.{flat_map-append}
 use Rattle.std.proofs.Math.ListN.{drop_of_length-le}
 use Rattle.ovl_names.specs.Paths.{PathNames, child_path}
 use Rattle.ovl_inode.specs.Marks.{is_directory}
-use Rattle.ovl_layer.specs.Layers.{Entries, IsLayer}
+use Rattle.ovl_layer.specs.Layers.{Entries}
+use Rattle.ovl_layer.specs.LayerTrees.{placed, under, entries_from}
+use Rattle.ovl_layer.specs.Siblings.{CanStand}
+use Rattle.ovl_layer.proofs.NodeLemmas.{placed-append, placed-under}
+use Rattle.ovl_layer.proofs.SiblingLemmas.{stand-front, stand-back, stand-placed}
 use Rattle.ovl_board.specs.declared.pieces.Piece.{Piece}
 use Rattle.ovl_board.specs.Walks.{preorder}
 use Rattle.ovl_board.specs.Parcels.{own_view}
@@ -78,12 +82,27 @@ module _ (tree : Tree) (deepest : ℕ) where
             let same : n ≡ room piece - 1 = omega (arith, e) in
             ap (λ m. flat_map (told m piece.dir) (tree piece.dir)) same
 
--- the parcels after those of the first `i` entries of a directory, and the entries at and under these
-abbrev pub WalksAmong : List View → List View → ℕ → Entries → Entries → Type 0
-WalksAmong before after i old new =
+-- the parcels after those of the first `i` entries of a directory, and the entries at and under these, counted from it
+abbrev pub WalksAmong : List View → List View → ℕ → Entries → Type 0
+WalksAmong before after i below =
     (tree : Tree) (deepest : ℕ) → IsTree tree deepest → (piece : Piece) (rest : List View) → before ≡ views_under tree deepest piece ++ rest →
     (after ≡ views_among tree deepest piece (drop i (tree piece.dir)) ++ rest)
-    × (new ≡ old ++ entries_among tree deepest piece (take i (tree piece.dir)))
+    × (placed piece.dir below ≡ entries_among tree deepest piece (take i (tree piece.dir)))
+
+-- the entries under a directory are those of its first `i` entries and those of the others
+parted : (tree : Tree) (deepest : ℕ) (is : IsTree tree deepest) (piece : Piece) (i : ℕ)
+    → entries_under tree (deepest - length piece.dir) piece.dir ≡ entries_among tree deepest piece (take i (tree piece.dir)) ++ entries_among tree deepest piece (drop i (tree piece.dir))
+parted tree deepest is piece i =
+    entries-first tree deepest is piece
+    ∙ (ap (entries_among tree deepest piece) (sym (take-append-drop i (tree piece.dir)))
+    ∙ flat_map-append (told tree deepest (room tree deepest piece - 1) piece.dir) (take i (tree piece.dir)) (drop i (tree piece.dir)))
+
+-- no layer has them where it can't have those of the first
+pub stops-among : (before after : List View) (i : ℕ) (below : Entries) → WalksAmong before after i below → (CanStand below → ⊥) → StopsUnder before
+stops-among before after i below walked none tree deepest is piece rest is_under can =
+    let first : Entries = entries_among tree deepest piece (take i (tree piece.dir)) in
+    let here : CanStand first = stand-front first (entries_among tree deepest piece (drop i (tree piece.dir))) (subst CanStand (parted tree deepest is piece i) can) in
+    none (stand-placed piece.dir below (subst CanStand (sym (walked tree deepest is piece rest is_under).1) here))
 
 module _ (before : List View) (view : View) (later : List View) (first : before ≡ view ∷ later) where
   head : (tree : Tree) (deepest : ℕ) (is : IsTree tree deepest) (piece : Piece) (rest : List View) → before ≡ views_under tree deepest piece ++ rest
@@ -92,25 +111,25 @@ module _ (before : List View) (view : View) (later : List View) (first : before 
       let whole : view ∷ later ≡ own tree deepest piece ∷ (views_among tree deepest piece (tree piece.dir) ++ rest) = sym first ∙ (is_under ∙ ap (λ (views : List View). views ++ rest) (views-first tree deepest is piece)) in
       (ap (λ (views : List View). elim views as (λ _. View) [ [] ↦ view | v ∷ vs ↦ v ]) whole, ap (drop 1) whole)
 
-  pub walk-starts : (old : Entries) → WalksAmong before later 0 old old
-  walk-starts old tree deepest is piece rest is_under = ((head tree deepest is piece rest is_under).1, sym (append-nil old))
+  pub walk-starts : WalksAmong before later 0 []
+  walk-starts tree deepest is piece rest is_under = ((head tree deepest is piece rest is_under).1, refl)
 
-  pub walk-ends : (after : List View) (i : ℕ) (old new : Entries) → length view.seen ≤ i → WalksAmong before after i old new → WalksUnder before after old new
-  walk-ends after i old new end walked tree deepest is piece rest is_under =
+  pub walk-ends : (after : List View) (i : ℕ) (below : Entries) → length view.seen ≤ i → WalksAmong before after i below → WalksUnder before after below
+  walk-ends after i below end walked tree deepest is piece rest is_under =
       let known = walked tree deepest is piece rest is_under in
       let count : length (tree piece.dir) ≤ i = omega (arith, end, ap (λ (v : View). length v.seen) (head tree deepest is piece rest is_under).0) in (
         known.0 ∙ ap (λ (more : List NamedInode). views_among tree deepest piece more ++ rest) (drop_of_length-le (tree piece.dir) count),
-        known.1 ∙ ap (λ (entries : Entries). old ++ entries) (ap (entries_among tree deepest piece) (take_all i (tree piece.dir) count) ∙ sym (entries-first tree deepest is piece)),
+        known.1 ∙ (ap (entries_among tree deepest piece) (take_all i (tree piece.dir) count) ∙ sym (entries-first tree deepest is piece)),
       )
 
-  module _ (after : List View) (i : ℕ) (entry : NamedInode) (inside : i < length view.seen) (is_entry : entry ≡ get_or view.seen i entry) (old mid : Entries) (walked : WalksAmong before after i old mid) where
+  module _ (after : List View) (i : ℕ) (entry : NamedInode) (inside : i < length view.seen) (is_entry : entry ≡ get_or view.seen i entry) (mid : Entries) (walked : WalksAmong before after i mid) where
     -- the entry at the place, and those after it
     record At (tree : Tree) (deepest : ℕ) (piece : Piece) (rest : List View) : Type 0 where
-      pub dir : view.piece.dir ≡ piece.dir
       pub among : In entry (tree piece.dir)
       pub longer : take (i + 1) (tree piece.dir) ≡ take i (tree piece.dir) ++ entry ∷ []
+      pub onward : drop i (tree piece.dir) ≡ entry ∷ drop (i + 1) (tree piece.dir)
       pub left : after ≡ views_among tree deepest piece (entry ∷ drop (i + 1) (tree piece.dir)) ++ rest
-      pub done : mid ≡ old ++ entries_among tree deepest piece (take i (tree piece.dir))
+      pub done : placed piece.dir mid ≡ entries_among tree deepest piece (take i (tree piece.dir))
 
     at : (tree : Tree) (deepest : ℕ) → IsTree tree deepest → (piece : Piece) (rest : List View) → before ≡ views_under tree deepest piece ++ rest → At tree deepest piece rest
     at tree deepest is piece rest is_under =
@@ -121,25 +140,24 @@ module _ (before : List View) (view : View) (later : List View) (first : before 
         let onward : drop i (tree piece.dir) ≡ entry ∷ drop (i + 1) (tree piece.dir) = drop_more (tree piece.dir) i entry within ∙ ap (λ (e : NamedInode). e ∷ drop (i + 1) (tree piece.dir)) (sym own_entry) in
         let known = walked tree deepest is piece rest is_under in
         record {
-          dir = ap (λ (v : View). v.piece.dir) top.0;
           among = subst (λ (e : NamedInode). In e (tree piece.dir)) (sym own_entry) (get_or-In (tree piece.dir) i entry within);
           longer = take_more (tree piece.dir) i entry within ∙ ap (λ (e : NamedInode). take i (tree piece.dir) ++ e ∷ []) (sym own_entry);
+          onward = onward;
           left = known.0 ∙ ap (λ (entries : List NamedInode). views_among tree deepest piece entries ++ rest) onward;
           done = known.1;
         }
 
-    -- the entries with one more
-    grown : (tree : Tree) (deepest : ℕ) (piece : Piece) (rest : List View) (a : At tree deepest piece rest) (under new : Entries)
-        → entries_under tree (deepest - length (child_path piece.dir entry.0)) (child_path piece.dir entry.0) ≡ under
-        → new ≡ (mid ++ (child_path view.piece.dir entry.0, entry.1) ∷ []) ++ under
-        → new ≡ old ++ entries_among tree deepest piece (take (i + 1) (tree piece.dir))
-    grown tree deepest piece rest a under new are is_new =
-        is_new
-        ∙ (append_assoc mid ((child_path view.piece.dir entry.0, entry.1) ∷ []) under
-        ∙ ((λ j. a.done j ++ (child_path (a.dir j) entry.0, entry.1) ∷ sym are j)
-        ∙ (append_assoc old (entries_among tree deepest piece (take i (tree piece.dir))) (told tree deepest (deepest - length (child_path piece.dir entry.0)) piece.dir entry)
-        ∙ ap (λ (entries : Entries). old ++ entries)
-        (sym (more-entries tree deepest piece (take i (tree piece.dir)) entry) ∙ ap (entries_among tree deepest piece) (sym a.longer)))))
+    -- the entries with one more and those below it
+    grown : (tree : Tree) (deepest : ℕ) (piece : Piece) (rest : List View) (a : At tree deepest piece rest) (kids : Entries)
+        → placed (child_path piece.dir entry.0) kids ≡ entries_under tree (deepest - length (child_path piece.dir entry.0)) (child_path piece.dir entry.0)
+        → placed piece.dir (mid ++ under entry.0 (entries_from entry.1 kids)) ≡ entries_among tree deepest piece (take (i + 1) (tree piece.dir))
+    grown tree deepest piece rest a kids are =
+        let path : PathNames = child_path piece.dir entry.0 in
+        let branch : placed piece.dir (under entry.0 (entries_from entry.1 kids)) ≡ told tree deepest (deepest - length path) piece.dir entry =
+        placed-under piece.dir entry.0 (entries_from entry.1 kids) ∙ (λ j. (append-nil path j, entry.1) ∷ are j) in
+        placed-append piece.dir mid (under entry.0 (entries_from entry.1 kids))
+        ∙ ((λ j. a.done j ++ branch j)
+        ∙ (sym (more-entries tree deepest piece (take i (tree piece.dir)) entry) ∙ ap (entries_among tree deepest piece) (sym a.longer)))
 
     -- the parcels that are left, where the entry is a directory: those at and under it first
     left-first : (tree : Tree) (deepest : ℕ) (piece : Piece) (rest : List View) → At tree deepest piece rest → is_directory entry.1 ≡ true
@@ -149,56 +167,33 @@ module _ (before : List View) (view : View) (later : List View) (first : before 
         ∙ (ap (λ (views : List View). views ++ rest) (directory-views tree deepest piece entry (drop (i + 1) (tree piece.dir)) directory)
         ∙ append_assoc (views_under tree deepest (piece_in piece entry)) (views_among tree deepest piece (drop (i + 1) (tree piece.dir))) rest)
 
-    pub walk-directory : is_directory entry.1 ≡ true → (further : List View) (new : Entries)
-        → WalksUnder after further (mid ++ (child_path view.piece.dir entry.0, entry.1) ∷ []) new → WalksAmong before further (i + 1) old new
-    walk-directory directory further new under tree deepest is piece rest is_under =
+    pub walk-directory : is_directory entry.1 ≡ true → (further : List View) (kids : Entries)
+        → WalksUnder after further kids → WalksAmong before further (i + 1) (mid ++ under entry.0 (entries_from entry.1 kids))
+    walk-directory directory further kids below tree deepest is piece rest is_under =
         let a = at tree deepest is piece rest is_under in
         let more : List View = views_among tree deepest piece (drop (i + 1) (tree piece.dir)) in
-        let done = under tree deepest is (piece_in piece entry) (more ++ rest) (left-first tree deepest piece rest a directory) in (
-          done.0,
-          grown tree deepest piece rest a (entries_under tree (deepest - length (child_path piece.dir entry.0)) (child_path piece.dir entry.0)) new refl done.1,
-        )
+        let done = below tree deepest is (piece_in piece entry) (more ++ rest) (left-first tree deepest piece rest a directory) in
+        (done.0, grown tree deepest piece rest a kids done.1)
 
-    pub walk-file : is_directory entry.1 ≡ false → WalksAmong before after (i + 1) old (mid ++ (child_path view.piece.dir entry.0, entry.1) ∷ [])
-    walk-file file tree deepest is piece rest is_under =
-        let a = at tree deepest is piece rest is_under in (
-          a.left ∙ ap (λ (views : List View). views ++ rest) (file-views tree deepest piece entry (drop (i + 1) (tree piece.dir)) file),
-          grown tree deepest piece rest a [] (mid ++ (child_path view.piece.dir entry.0, entry.1) ∷ [])
-              (nothing-under tree deepest is (deepest - length (child_path piece.dir entry.0)) (child_path piece.dir entry.0) (is.files piece.dir entry (Contains-In entry (tree piece.dir) a.among) file))
-              (sym (append-nil (mid ++ (child_path view.piece.dir entry.0, entry.1) ∷ []))),
-        )
-
-    -- ---- no layer goes on
-
-    -- the entries under the directory are those that are done, this one, what lies under it, and those after it
-    whole : (tree : Tree) (deepest : ℕ) (is : IsTree tree deepest) (piece : Piece) (rest : List View) → At tree deepest piece rest → (more : Entries)
-        → old ++ (entries_under tree (deepest - length piece.dir) piece.dir ++ more)
-        ≡ (mid ++ (child_path view.piece.dir entry.0, entry.1) ∷ [])
-        ++ (entries_under tree (deepest - length (child_path piece.dir entry.0)) (child_path piece.dir entry.0) ++ (entries_among tree deepest piece (drop (i + 1) (tree piece.dir)) ++ more))
-    whole tree deepest is piece rest a more =
-        let so_far : Entries = entries_among tree deepest piece (take (i + 1) (tree piece.dir)) in
-        let later : Entries = entries_among tree deepest piece (drop (i + 1) (tree piece.dir)) in
-        let own : Entries = mid ++ (child_path view.piece.dir entry.0, entry.1) ∷ [] in
-        let under : Entries = entries_under tree (deepest - length (child_path piece.dir entry.0)) (child_path piece.dir entry.0) in
-        let parts : entries_under tree (deepest - length piece.dir) piece.dir ≡ so_far ++ later =
-        entries-first tree deepest is piece
-        ∙ (ap (entries_among tree deepest piece) (sym (take-append-drop (i + 1) (tree piece.dir)))
-        ∙ flat_map-append (told tree deepest (room tree deepest piece - 1) piece.dir) (take (i + 1) (tree piece.dir)) (drop (i + 1) (tree piece.dir))) in
-        ap (λ (entries : Entries). old ++ (entries ++ more)) parts
-        ∙ (ap (λ (entries : Entries). old ++ entries) (append_assoc so_far later more)
-        ∙ (sym (append_assoc old so_far (later ++ more))
-        ∙ (ap (λ (entries : Entries). entries ++ (later ++ more)) (sym (grown tree deepest piece rest a under (own ++ under) refl refl))
-        ∙ append_assoc own under (later ++ more))))
-
-    pub stops-entry : ((more : Entries) → IsLayer (mid ++ (child_path view.piece.dir entry.0, entry.1) ∷ more) → ⊥) → StopsUnder before old
-    stops-entry none tree deepest is piece rest is_under more layer =
-        let under : Entries = entries_under tree (deepest - length (child_path piece.dir entry.0)) (child_path piece.dir entry.0) in
-        let further : Entries = under ++ (entries_among tree deepest piece (drop (i + 1) (tree piece.dir)) ++ more) in
-        none further
-        (subst IsLayer (whole tree deepest is piece rest (at tree deepest is piece rest is_under) more ∙ append_assoc mid ((child_path view.piece.dir entry.0, entry.1) ∷ []) further) layer)
-
-    pub stops-directory : is_directory entry.1 ≡ true → StopsUnder after (mid ++ (child_path view.piece.dir entry.0, entry.1) ∷ []) → StopsUnder before old
-    stops-directory directory stops tree deepest is piece rest is_under more layer =
+    pub walk-file : is_directory entry.1 ≡ false → (kids : Entries) → kids ≡ [] → WalksAmong before after (i + 1) (mid ++ under entry.0 (entries_from entry.1 kids))
+    walk-file file kids none tree deepest is piece rest is_under =
         let a = at tree deepest is piece rest is_under in
-        stops tree deepest is (piece_in piece entry) (views_among tree deepest piece (drop (i + 1) (tree piece.dir)) ++ rest) (left-first tree deepest piece rest a directory)
-        (entries_among tree deepest piece (drop (i + 1) (tree piece.dir)) ++ more) (subst IsLayer (whole tree deepest is piece rest a more) layer)
+        let path : PathNames = child_path piece.dir entry.0 in
+        let nothing = nothing-under tree deepest is (deepest - length path) path (is.files piece.dir entry (Contains-In entry (tree piece.dir) a.among) file) in (
+          a.left ∙ ap (λ (views : List View). views ++ rest) (file-views tree deepest piece entry (drop (i + 1) (tree piece.dir)) file),
+          grown tree deepest piece rest a kids (ap (placed path) none ∙ sym nothing),
+        )
+
+    -- no layer has what lies under the directory where none has what lies under the entry
+    pub stops-directory : is_directory entry.1 ≡ true → StopsUnder after → StopsUnder before
+    stops-directory directory stops tree deepest is piece rest is_under can =
+        let a = at tree deepest is piece rest is_under in
+        let path : PathNames = child_path piece.dir entry.0 in
+        let others : List NamedInode = drop (i + 1) (tree piece.dir) in
+        let under_it : Entries = entries_under tree (room tree deepest piece - 1) path in
+        let behind : CanStand (entries_among tree deepest piece (entry ∷ others)) =
+        subst (λ (es : List NamedInode). CanStand (entries_among tree deepest piece es)) a.onward
+        (stand-back (entries_among tree deepest piece (take i (tree piece.dir))) (entries_among tree deepest piece (drop i (tree piece.dir))) (subst CanStand (parted tree deepest is piece i) can)) in
+        let own : CanStand under_it = stand-back ((path, entry.1) ∷ []) under_it (stand-front ((path, entry.1) ∷ under_it) (entries_among tree deepest piece others) behind) in
+        stops tree deepest is (piece_in piece entry) (views_among tree deepest piece others ++ rest) (left-first tree deepest piece rest a directory)
+        (subst (λ (n : ℕ). CanStand (entries_under tree n path)) (sym (room-child tree deepest piece entry)) own)

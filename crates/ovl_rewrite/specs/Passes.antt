@@ -4,12 +4,18 @@ use Rattle.std.specs.Prelude.{◌≡◌, ◌≤◌, ℕ, zero, suc, ◌-◌, fal
 use Rattle.std.specs.List.{flat_map}
 use Rattle.ovl_names.specs.Paths.{PathNames, child_path}
 use Rattle.ovl_inode.specs.Marks.{is_directory}
-use Rattle.ovl_layer.specs.Layers.{Entries, IsLayer}
+use Rattle.ovl_layer.specs.Layers.{Entries}
+use Rattle.ovl_layer.specs.LayerTrees.{placed}
+use Rattle.ovl_layer.specs.Siblings.{CanStand}
+use Rattle.ovl_layer.specs.declared.faults.SiblingFault.{SiblingFault}
+use Rattle.ovl_layer.specs.declared.faults.SiblingFault.TheVariants.{NoLayer, Memory as NoMemory}
 use Rattle.ovl_board.specs.declared.pieces.Piece.{Piece}
 use Rattle.ovl_board.specs.Pieces.{HasLawfulKids}
 use Rattle.ovl_board.specs.Walks.{preorder}
 use Rattle.ovl_board.specs.Parcels.{ParcelView, own_view}
 use Rattle.ovl_rewrite.specs.Directories.{NamedInode, directories_among}
+use Rattle.ovl_rewrite.specs.declared.faults.RewriteFault.{RewriteFault}
+use Rattle.ovl_rewrite.specs.declared.faults.RewriteFault.TheVariants.{LimitOut, Memory}
 
 -- a tree by its directories: the entries in each
 abbrev pub Tree : Type 0
@@ -45,18 +51,22 @@ views_under tree deepest piece =
     (preorder (tree_kids tree) (deepest - length piece.dir) piece)
 
 -- where parcels begin with those of a directory of a tree, these are taken off, and the entries
--- under it are added
-abbrev pub WalksUnder : List View → List View → Entries → Entries → Type 0
-WalksUnder before after old new =
+-- under it are these, with their paths counted from it
+abbrev pub WalksUnder : List View → List View → Entries → Type 0
+WalksUnder before after below =
     (tree : Tree) (deepest : ℕ) → IsTree tree deepest → (piece : Piece) (rest : List View)
     → before ≡ views_under tree deepest piece ++ rest →
-    (after ≡ rest) × (new ≡ old ++ entries_under tree (deepest - length piece.dir) piece.dir)
+    (after ≡ rest)
+    × (placed piece.dir below ≡ entries_under tree (deepest - length piece.dir) piece.dir)
 
--- where parcels begin with those of a directory of a tree, no layer goes on with the entries under
--- it
-abbrev pub StopsUnder : List View → Entries → Type 0
-StopsUnder before old =
+-- where parcels begin with those of a directory of a tree, no layer has the entries under it
+abbrev pub StopsUnder : List View → Type 0
+StopsUnder before =
     (tree : Tree) (deepest : ℕ) → IsTree tree deepest → (piece : Piece) (rest : List View)
-    → before ≡ views_under tree deepest piece ++ rest →
-    (more : Entries)
-    → IsLayer (old ++ (entries_under tree (deepest - length piece.dir) piece.dir ++ more)) → ⊥
+    → before ≡ views_under tree deepest piece ++ rest
+    → CanStand (entries_under tree (deepest - length piece.dir) piece.dir) → ⊥
+
+-- what it says that entries aren't put together
+abbrev pub failed_siblings : SiblingFault → RewriteFault
+failed_siblings NoLayer = LimitOut
+failed_siblings NoMemory = Memory

@@ -1,6 +1,8 @@
 ghost use Rattle.std.specs.Prelude.{◌≡◌};
+ghost use Rattle.ovl_rewrite.specs.Passes.{failed_siblings};
 ghost use Rattle.ovl_rewrite.specs.declared.faults.RewriteFault.TheVariants.{Memory};
 
+use ovl_layer::SiblingFault;
 use std::alloc::AllocError;
 use thiserror::Error;
 
@@ -21,5 +23,16 @@ impl From<AllocError> for RewriteFault {
 
     fn from(_: AllocError) -> RewriteFault {
         RewriteFault::Memory
+    }
+}
+
+impl From<SiblingFault> for RewriteFault {
+    ghost from_gives = { λ fault told. told ≡ failed_siblings fault };
+
+    fn from(fault: SiblingFault) -> RewriteFault {
+        match fault {
+            SiblingFault::NoLayer => RewriteFault::LimitOut,
+            SiblingFault::Memory => RewriteFault::Memory,
+        }
     }
 }

@@ -1,7 +1,6 @@
-ghost use Rattle.std.specs.Prelude.{◌≡◌, ◌≤◌, true, Ok, Err, IfOk, OnOk, [], ◌∷◌, ◌++◌, length};
+ghost use Rattle.std.specs.Prelude.{◌≡◌, ◌≤◌, true, Err, IfOk, OnOk, MatchResult, [], length};
 ghost use Rattle.std.specs.Vec.Iter.{into_iter_items};
 ghost use Rattle.ovl_names.specs.Order.{ascends};
-ghost use Rattle.ovl_names.specs.Paths.{child_path};
 ghost use Rattle.ovl_layer.specs.declared.faults.LayerFault.TheVariants.{Memory as NoMemory};
 ghost use Rattle.ovl_layer.specs.Layers.{Entries, entry_cmp, IsLayer};
 ghost use Rattle.ovl_board.specs.Parcels.{parcel_views};
@@ -13,7 +12,7 @@ ghost use Rattle.ovl_rewrite.specs.NewLayers.{NewLayer, IsOf, IsToldBy};
 use crate::RewriteFault;
 use ovl_board::Parcel;
 use ovl_inode::{Inode, is_directory};
-use ovl_layer::{Layer, LayerBuilder, LayerFault, from_entries};
+use ovl_layer::{Layer, LayerFault, Siblings, from_entries};
 use ovl_names::{Name, Path};
 use std::alloc::Global;
 use std::vec::IntoIter;
@@ -34,10 +33,11 @@ pub(crate) fn layer_told(
         → (entries : Entries) × (ascends entry_cmp entries ≡ true) × IsOf new entries
         × (IsLayer entries → ⊥) }
 {
-    let mut builder = begun(alloc, root)?;
     let mut rest = parcels.into_iter();
-    add_under(alloc, &mut builder, &mut rest)?;
-    let layer = builder.finish()?;
+    let below = next_below(alloc, &mut rest)?;
+    let Some(layer) = below.under(root) else {
+        return Err(RewriteFault::LimitOut);
+    };
     // The type keeps that it is a layer.
     let _root = layer.root();
     Ok(layer)
@@ -69,62 +69,33 @@ fn refusal(fault: LayerFault) -> RewriteFault
     }
 }
 
-// The new layer of this root alone; `LimitOut` comes only where no layer has it.
-fn begun(alloc: Global, root: Inode) -> Result<LayerBuilder, RewriteFault>
-    ensures entries { IfOk result (λ builder. builder ≡ ([], root) ∷ []) }
-    ensures limit { result ≡ Err LimitOut → (more : Entries) → IsLayer (([], root) ∷ more) → ⊥ }
-{
-    match LayerBuilder::new(alloc, root) {
-        Ok(builder) => Ok(builder),
-        Err(fault) => Err(refusal(fault)),
-    }
-}
-
-// Adds the entries under the directory of the next parcel; its parcel and those of what lies under
-// it are taken. `LimitOut` comes only where no layer goes on with them.
-fn add_under(
+// The entries under the directory of the next parcel; its parcel and those of what lies under it are
+// taken. `LimitOut` comes only where no layer has these entries.
+fn next_below(
     alloc: Global,
-    builder: &mut LayerBuilder,
     rest: &mut IntoIter<Parcel<Vec<(Name, Inode)>>>,
-) -> Result<(), RewriteFault>
+) -> Result<Siblings, RewriteFault>
     ensures fewer { OnOk result
         (length (into_iter_items rest.new) ≤ length (into_iter_items rest.old)) }
     ensures entries { IfOk result
-        (λ _. WalksUnder (parcel_views inodes_seen (into_iter_items rest.old))
-        (parcel_views inodes_seen (into_iter_items rest.new)) builder.old builder.new) }
+        (λ below. WalksUnder (parcel_views inodes_seen (into_iter_items rest.old))
+        (parcel_views inodes_seen (into_iter_items rest.new)) below) }
     ensures limit { result ≡ Err LimitOut
-        → StopsUnder (parcel_views inodes_seen (into_iter_items rest.old)) builder.old }
-    ensures none { into_iter_items rest.old ≡ [] → (result ≡ Ok tt) × (builder.new ≡ builder.old) }
+        → StopsUnder (parcel_views inodes_seen (into_iter_items rest.old)) }
+    ensures none { into_iter_items rest.old ≡ [] → MatchResult result (λ below. below ≡ [])
+        (λ _. ⊥) }
 {
-    let Some(Parcel { piece, out, .. }) = rest.next() else {
-        return Ok(());
+    let Some(Parcel { out, .. }) = rest.next() else {
+        return Ok(Siblings::none(alloc));
     };
-    builder.make_room(out.len())?;
+    let mut siblings = Siblings::with_room(alloc, out.len())?;
     for (name, inode) in out {
-        let is_above = is_directory(&inode);
-        add_child(alloc, builder, &piece.dir, name, inode)?;
-        if is_above {
-            add_under(alloc, builder, rest)?;
-        }
+        let below = if is_directory(&inode) {
+            next_below(alloc, rest)?
+        } else {
+            Siblings::none(alloc)
+        };
+        siblings.add(name, inode, below)?;
     }
-    Ok(())
-}
-
-// Adds the entry `name` of a directory; `LimitOut` comes only where no layer goes on with it.
-fn add_child(
-    alloc: Global,
-    builder: &mut LayerBuilder,
-    directory: &Path,
-    name: Name,
-    inode: Inode,
-) -> Result<(), RewriteFault>
-    ensures entries { IfOk result
-        (λ _. builder.new ≡ builder.old ++ (child_path directory.now name, inode) ∷ []) }
-    ensures limit { result ≡ Err LimitOut → (more : Entries)
-        → IsLayer (builder.old ++ (child_path directory.now name, inode) ∷ more) → ⊥ }
-{
-    match builder.add_child(alloc, directory, name, inode) {
-        Ok(()) => Ok(()),
-        Err(fault) => Err(refusal(fault)),
-    }
+    Ok(siblings)
 }

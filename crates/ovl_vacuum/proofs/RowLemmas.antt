@@ -1,5 +1,5 @@
 -- The rows of the topmost layer: which are told to be idle, and which go.
-use Rattle.std.proofs.Common.{◌≡◌, ℕ, zero, suc, ◌+◌, ◌-◌, ◌<◌, ◌≤◌, ◌⊎◌, inl, inr, Bool, true, false, cond, Option, Some, None, IsSome, Bor, Ok, List, [], ◌∷◌, ◌++◌, length, map, get_or, set, replicate, take, drop, refl, sym, ap, subst, ◌∙◌, append_assoc, arith, length-append}
+use Rattle.std.proofs.Common.{◌≡◌, ℕ, zero, suc, ◌+◌, ◌-◌, ◌<◌, ◌≤◌, ◌⊎◌, inl, inr, Bool, true, false, cond, Option, Some, None, IsSome, Bor, Ok, List, [], ◌∷◌, ◌++◌, length, map, get_or, set, replicate, take, length-take, drop, refl, sym, ap, subst, ◌∙◌, append_assoc, arith, length-append}
 use Rattle.std.specs.Prelude.{Vec, All, IsSomeAnd, slice_get, filter, is_none, ◌&&◌, ◌||◌, not, unwrap_or}
 use Rattle.std.specs.Option.{option_map}
 use Rattle.std.specs.Global.{Global}
@@ -12,6 +12,7 @@ use Rattle.std.proofs.Math.Bool.{or-true, and-false}
 use Rattle.std.proofs.lemmas.Bool.{cases_lt, cases_eq}
 use Rattle.std.proofs.lemmas.List.{append-nil, length-map, length-drop, length-set, drop_more, get_or-map, get_or-drop, get_or-set_same, get_or-set_other, get_or-replicate, length-replicate, ext_get_or, take-append-drop, drop_all, take_all}
 use Rattle.std.proofs.lemmas.List.Elements.{filter_more, filter-append}
+use Rattle.std.proofs.lemmas.List.Filters.{length-filter_both}
 use Rattle.std.proofs.lemmas.Option.{slice_get-get_or, slice_get_within}
 use Rattle.ovl_names.specs.Names.{PathName, name_cmp}
 use Rattle.ovl_names.specs.Order.{ascends}
@@ -19,9 +20,9 @@ use Rattle.ovl_names.specs.Paths.{PathNames, child_path, parent_path, path_cmp}
 use Rattle.ovl_names.proofs.Ascending.{both, list_all-get, list_all-from_each}
 use Rattle.ovl_inode.specs.declared.inodes.Inode.{Inode}
 use Rattle.ovl_layer.specs.Layers.{Entries, Entry, entry_at, entry_cmp, is_directory_at, name_below, names_below, IsLayer}
-use Rattle.ovl_layer.specs.Builders.{pair_after}
+use Rattle.ovl_layer.specs.Entries.{entry_after, stated_pair}
 use Rattle.ovl_layer.specs.Sheets.{path_of, path_at, last_name}
-use Rattle.ovl_layer.proofs.BuilderLemmas.{pair-taken}
+use Rattle.ovl_layer.proofs.BackLemmas.{pair-next}
 use Rattle.ovl_layer.proofs.SheetLemmas.{none-past, number-one, last_name-child, entry_at-number}
 use Rattle.ovl_lookup.specs.Stacks.{StackView}
 use Rattle.ovl_lookup.specs.Words.{top_layer, lower_layers, is_at_or_under}
@@ -718,7 +719,7 @@ module _ (stack : StackView) (is : IsLayer (top_layer stack)) (number : ℕ) (in
 
   -- an entry that stays is taken
   left-taken : (gone : List Bool) (before more : Entries) (path : PathNames) (inode : Inode) → gone ≡ gone_flags stack → get_or gone number false ≡ false → before ≡ left_to stack number
-      → path ≡ path_at (top_layer stack) number → entry_at (top_layer stack) (path_at (top_layer stack) number) ≡ Some inode → pair_after before (path, inode) ≡ Ok more → more ≡ left_to stack (number + 1)
+      → path ≡ path_at (top_layer stack) number → entry_at (top_layer stack) (path_at (top_layer stack) number) ≡ Some inode → entry_after before (stated_pair (path, inode)) ≡ Ok more → more ≡ left_to stack (number + 1)
   left-taken gone before more path inode are kept so_far is_path at taken =
       let left : Entries = vacuumed_layer (top_layer stack) (lower_layers stack) in
       let rest : Entries = filter stays (drop (number + 1) (top_layer stack)) in
@@ -733,22 +734,31 @@ module _ (stack : StackView) (is : IsLayer (top_layer stack)) (number : ℕ) (in
       let same_inode : inode ≡ spot.0.1 = ap (λ (o : Option Inode). unwrap_or o inode) inodes in
       let same_path : spot.0.0 ≡ path = spot.2 ∙ sym is_path in
       let result : Ok (left_to stack number ++ spot.0 ∷ []) ≡ Ok more =
-      sym (pair-taken (left_to stack number) spot.0 rest layer)
-      ∙ ((λ j. pair_after (sym so_far j) (same_path j, sym same_inode j)) ∙ taken) in
+      sym (pair-next (left_to stack number) spot.0 rest layer)
+      ∙ ((λ j. entry_after (sym so_far j) (stated_pair (same_path j, sym same_inode j))) ∙ taken) in
       let entries : left_to stack number ++ spot.0 ∷ [] ≡ more = cc in
       sym (one ∙ entries)
 
   -- so it is by its name in its directory
   pub left-child : (gone : List Bool) (before more : Entries) (directory : PathNames) (name : PathName) (inode : Inode) → gone ≡ gone_flags stack → get_or gone number false ≡ false → before ≡ left_to stack number
       → directory ≡ parent_path (path_at (top_layer stack) number) → last_name (path_at (top_layer stack) number) ≡ Some name → entry_at (top_layer stack) (path_at (top_layer stack) number) ≡ Some inode
-      → pair_after before (child_path directory name, inode) ≡ Ok more → more ≡ left_to stack (number + 1)
+      → entry_after before (stated_pair (child_path directory name, inode)) ≡ Ok more → more ≡ left_to stack (number + 1)
   left-child gone before more directory name inode are kept so_far above named at taken =
       left-taken gone before more (child_path directory name) inode are kept so_far
       (ap (λ (d : PathNames). child_path d name) above ∙ named-path (path_at (top_layer stack) number) name named) at taken
 
+-- no more stay than there are rows
+pub left-count : (stack : StackView) (number : ℕ) → length (left_to stack number) ≤ number
+left-count stack number =
+    omega (
+      arith,
+      length-filter_both (λ (entry : Entry). not (is_idle_throughout (top_layer stack) (lower_layers stack) entry.0)) (λ entry. not (not (is_idle_throughout (top_layer stack) (lower_layers stack) entry.0))) (λ entry. refl) (take number (top_layer stack)),
+      length-take number (top_layer stack),
+    )
+
 -- the root stays
 pub left-first : (stack : StackView) (is : IsLayer (top_layer stack)) (gone : List Bool) (more : Entries) (inode : Inode) → gone ≡ gone_flags stack
-    → entry_at (top_layer stack) (path_at (top_layer stack) 0) ≡ Some inode → pair_after [] ([], inode) ≡ Ok more → more ≡ left_to stack 1
+    → entry_at (top_layer stack) (path_at (top_layer stack) 0) ≡ Some inode → entry_after [] (stated_pair ([], inode)) ≡ Ok more → more ≡ left_to stack 1
 left-first stack is gone more inode are at taken =
     let some = some-rows (top_layer stack) is in
     let root = root-first (top_layer stack) is in

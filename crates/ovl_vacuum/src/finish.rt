@@ -2,7 +2,9 @@ ghost use Rattle.std.specs.Prelude.{◌≡◌, ◌<◌, [], Ok, IfOk, length};
 ghost use Rattle.ovl_names.specs.Paths.{child_path};
 ghost use Rattle.ovl_board.specs.Parcels.{parcel_views};
 ghost use Rattle.ovl_lookup.specs.Words.{top_layer, lower_layers};
-ghost use Rattle.ovl_layer.specs.Builders.{pair_after};
+ghost use Rattle.ovl_layer.specs.Layers.{entry_limit};
+ghost use Rattle.ovl_layer.specs.Entries.{entry_after, stated_pair};
+ghost use Rattle.ovl_layer.specs.Drafts.{draft_entries, IsDraft};
 ghost use Rattle.ovl_vacuum.specs.Directories.{names_seen, IsVacuumWalk};
 ghost use Rattle.ovl_vacuum.specs.Passes.{idle_flags, gone_flags, names_told, TellsBelow};
 ghost use Rattle.ovl_vacuum.specs.Vacuum.{vacuumed_layer, removed_paths};
@@ -11,7 +13,7 @@ use crate::places::{directory_of, path_in, path_of};
 use crate::works::VacuumWork;
 use ovl_board::Parcel;
 use ovl_inode::{Inode, is_directory};
-use ovl_layer::{Layer, LayerBuilder};
+use ovl_layer::{Draft, Layer, add_child, start_root};
 use ovl_lookup::Stack;
 use ovl_names::{Name, Path};
 use std::alloc::{AllocError, Global};
@@ -105,7 +107,8 @@ fn layer_left(alloc: Global, stack: &Stack, gone: &[bool]) -> Result<Layer, Allo
 {
     let sheet = stack.top();
     let root = sheet.inode(0).copy(alloc)?;
-    let mut builder = begun(alloc, root)?;
+    let mut draft = begun(alloc, root)?;
+    let mut count = 1;
     // The path of a row's directory is kept for the next row.
     let mut directory = 0;
     let mut above = Path::root(alloc);
@@ -118,33 +121,40 @@ fn layer_left(alloc: Global, stack: &Stack, gone: &[bool]) -> Result<Layer, Allo
             }
             let name = sheet.name(number).unwrap().copy(alloc)?;
             let inode = sheet.inode(number).copy(alloc)?;
-            add_child(alloc, &mut builder, &above, name, inode)?;
+            enter(alloc, &mut draft, count, &above, name, inode)?;
+            count += 1;
         }
     }
-    builder.finish()
+    draft.finish()
 }
 
 // The layer of a root alone. What vacuum leaves is a layer, so that nothing but memory can stand in the way.
-fn begun(alloc: Global, root: Inode) -> Result<LayerBuilder, AllocError>
-    ensures { IfOk result (λ builder. pair_after [] ([], root) ≡ Ok builder) }
+fn begun(alloc: Global, root: Inode) -> Result<Draft, AllocError>
+    ensures { IfOk result (λ draft. (entry_after [] (stated_pair ([], root)) ≡ Ok (draft_entries draft)) × IsDraft draft) }
 {
-    match LayerBuilder::new(alloc, root) {
-        Ok(builder) => Ok(builder),
+    match start_root(alloc, root) {
+        Ok(draft) => Ok(draft),
         Err(_) => Err(AllocError),
     }
 }
 
-// Adds the entry `name` of a directory. Here too nothing but memory can stand in the way.
-fn add_child(
+// Enters the entry `name` of a directory, after so many others. Here too nothing but memory can stand in the way.
+fn enter(
     alloc: Global,
-    builder: &mut LayerBuilder,
+    draft: &mut Draft,
+    count: u32,
     directory: &Path,
     name: Name,
     inode: Inode,
 ) -> Result<(), AllocError>
-    ensures { IfOk result (λ _. pair_after builder.old (child_path directory.now name, inode) ≡ Ok builder.new) }
+    requires draft { IsDraft draft.old }
+    requires count { count ≡ length (draft_entries draft.old) }
+    requires room { count < entry_limit }
+    ensures { IfOk result
+        (λ _. (entry_after (draft_entries draft.old) (stated_pair (child_path directory.now name, inode)) ≡ Ok (draft_entries draft.new))
+        × IsDraft draft.new) }
 {
-    match builder.add_child(alloc, directory, name, inode) {
+    match add_child(alloc, draft, count, directory, name, inode) {
         Ok(()) => Ok(()),
         Err(_) => Err(AllocError),
     }
