@@ -9,9 +9,9 @@ ghost use Rattle.ovl_check.specs.CheckViews.{check_view};
 ghost use Rattle.ovl_check.specs.Walks.{AreLayerWalks, double_at, places_with, doubles_after, found_along, all_left};
 
 use crate::findings::{Code, Finding};
+use crate::next_places::LentPlace;
 use crate::subjects::{CheckOut, CheckWork};
 use ovl_board::Parcel;
-use ovl_lookup::Trail;
 use ovl_names::Path;
 use std::alloc::{AllocError, Global};
 use std::collections::BTreeSet;
@@ -128,9 +128,9 @@ fn move_before(
 }
 
 // Adds a finding for each moved directory that goes on where an earlier one does.
-fn push_doubles(
+fn push_doubles<'p, 'a>(
     alloc: Global,
-    parcels: &[Parcel<CheckOut<'_>>],
+    parcels: &'p [Parcel<CheckOut<'a>>],
     findings: &mut Vec<Finding>,
 ) -> Result<(), AllocError>
     ensures { OnOk result (findings.new.items ≡ findings.old.items ++ doubles_after [] (parcel_views check_seen parcels.now)) }
@@ -153,10 +153,10 @@ fn has_moved(parcels: &[Parcel<CheckOut<'_>>]) -> bool
 }
 
 // Notes where a directory goes on, and adds a finding where it is moved and an earlier one goes on there.
-fn note_place<'p>(
+fn note_place<'p, 'a>(
     alloc: Global,
-    parcel: &'p Parcel<CheckOut<'_>>,
-    places: &mut BTreeSet<Trail<'p>>,
+    parcel: &'p Parcel<CheckOut<'a>>,
+    places: &mut BTreeSet<LentPlace<'p, 'a>>,
     findings: &mut Vec<Finding>,
 ) -> Result<(), AllocError>
     ensures found { OnOk result (findings.new.items ≡ findings.old.items
@@ -166,7 +166,7 @@ fn note_place<'p>(
     let Some(place) = &parcel.out.place else {
         return Ok(());
     };
-    let first = places.insert(place.trail(alloc)?)?;
+    let first = places.insert(LentPlace { place })?;
     if parcel.out.moved && !first {
         findings.push(Finding {
             layer: parcel.piece.space,
