@@ -211,6 +211,26 @@ def alike_redirects(size: int) -> Sources:
     return [layer, []]
 
 
+def moved_chain(depth: int, size: int, redirect: str, to_all: bool) -> Sources:
+    """Directories at the end of a chain of so many, the first moved or all of them, each by a name alone."""
+    paths = ["/a" + "/x" * n for n in range(depth)]
+    moved = paths if to_all else paths[:1]
+    upper = [entry(path, attrs={REDIRECT: redirect} if path in moved else None) for path in paths]
+    return [upper + directories(paths[-1], size) + [whiteout(f"/{redirect}")], chain(redirect, len(moved))]
+
+
+def below_one_moved(size: int) -> Sources:
+    return moved_chain(127, size, "b", False)
+
+
+def below_60_moved(size: int) -> Sources:
+    return moved_chain(60, size, "b", True)
+
+
+def below_moved_of_long_names(size: int) -> Sources:
+    return moved_chain(127, size, "b" * 30, True)
+
+
 def moved_in_redirected(size: int) -> Sources:
     return [[entry("/m", attrs={REDIRECT: "/a" * (20 * size)})]
             + [entry(f"/m/d{n:07d}", attrs={REDIRECT: f"x{n:07d}"}) for n in range(size)], []]
@@ -330,6 +350,10 @@ CASES = [
     Case("a directory with a redirect of 20 N names, and N moved directories in it", "fsck", moved_in_redirected, (100, 200, 400, 800), status=1),
     Case("a directory with a redirect of 20 N names, and N directories of a whiteout in it", "fsck", whiteouts_in_redirected,
          (100, 200, 400, 800), status=1),
+    *(Case("N directories at the end of a chain of 126 below a moved directory", command, below_one_moved, (5_000, 10_000), most=MOST)
+      for command in ("fsck", "vacuum", "deref")),
+    Case("N directories at the end of a chain of 60 moved ones", "fsck", below_60_moved, (5_000, 10_000), most=MOST),
+    Case("N directories at the end of a chain of 127 moved from long names", "fsck", below_moved_of_long_names, (5_000, 10_000), most=MOST),
     Case("a directory with N attributes and N whiteouts", "fsck", attributes_and_whiteouts, (500, 1_000, 2_000)),
     Case("N metacopy files of one file with an attribute of 40 N bytes", "show", copies_of_long_attribute, (500, 1_000, 2_000, 4_000)),
     Case("N metacopy files of one file with an attribute of 40 N bytes", "fsck", copies_of_long_attribute, (500, 1_000, 2_000, 4_000)),

@@ -32,7 +32,7 @@ equal Less e = let bad : false ≡ true = e in cc
 equal Equal e = refl
 equal Greater e = let bad : false ≡ true = e in cc
 
-among-In : (places : List PathNames) (place : PathNames) → is_among places place ≡ true → In place places
+pub among-In : (places : List PathNames) (place : PathNames) → is_among places place ≡ true → In place places
 among-In [] place is = let bad : false ≡ true = is in cc
 among-In (other ∷ places) place is = by (among-In places place) (is_eq (trail_cmp place other)) refl is
   where
@@ -40,7 +40,7 @@ among-In (other ∷ places) place is = by (among-In places place) (is_eq (trail_
     by later true e is = inl (same_trail place other (equal (trail_cmp place other) e))
     by later false e is = inr (later is)
 
-In-among : (places : List PathNames) (place : PathNames) → In place places → is_among places place ≡ true
+pub In-among : (places : List PathNames) (place : PathNames) → In place places → is_among places place ≡ true
 In-among [] place h = absurd h
 In-among (other ∷ places) place (inl e) = ap (λ b. b || is_among places place) (ap is_eq (ap (trail_cmp place) (sym e) ∙ tied_itself (lists_total nat_list_cmp_total) (reverse place)))
 In-among (other ∷ places) place (inr h) = ap (λ b. is_eq (trail_cmp place other) || b) (In-among places place h) ∙ or-true (is_eq (trail_cmp place other))
@@ -76,15 +76,15 @@ insert-new place (first ∷ places) = by (insert-new place places) (trail_cmp pl
     by later Equal e = inl (same_trail place first e)
     by later Greater e = inr later
 
-with-cases : (q : PathNames) (places : List PathNames) (o : Option PathNames) → In q (places_with places o) → (o ≡ Some q) ⊎ In q places
+pub with-cases : (q : PathNames) (places : List PathNames) (o : Option PathNames) → In q (places_with places o) → (o ≡ Some q) ⊎ In q places
 with-cases q places None h = inr h
 with-cases q places (Some place) h = elim (insert-cases q place places h) [ inl e ↦ inl (ap Some (sym e)) | inr k ↦ inr k ]
 
-with-old : (q : PathNames) (places : List PathNames) (o : Option PathNames) → In q places → In q (places_with places o)
+pub with-old : (q : PathNames) (places : List PathNames) (o : Option PathNames) → In q places → In q (places_with places o)
 with-old q places None h = h
 with-old q places (Some place) h = insert-old q place places h
 
-with-new : (q : PathNames) (places : List PathNames) (o : Option PathNames) → o ≡ Some q → In q (places_with places o)
+pub with-new : (q : PathNames) (places : List PathNames) (o : Option PathNames) → o ≡ Some q → In q (places_with places o)
 with-new q places o is = subst (λ (p : Option PathNames). In q (places_with places p)) (sym is) (insert-new q places)
 
 abbrev pub ViewBefore : View → View → Type 0

@@ -15,6 +15,7 @@ mod GatherLemmas
 mod SeenLemmas
 mod FactLemmas
 mod DoubleLemmas
+mod SoughtLemmas
 mod MemberLemmas
 mod FinishLemmas
 mod OrderLemmas

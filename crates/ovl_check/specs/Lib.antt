@@ -6,7 +6,6 @@ pub mod Named
 pub mod Stated
 pub mod Told
 pub mod Findings
-pub mod Places
 pub mod Laws
 pub mod Checks
 pub mod CheckViews

@@ -42,6 +42,24 @@ doubles_after places [] = []
 doubles_after places (view ∷ views) =
     double_at places view view.seen.place ++ doubles_after (places_with places view.seen.place) views
 
+-- the places where moved directories go on
+abbrev pub moved_places : List PathNames → List View → List PathNames
+moved_places places [] = places
+moved_places places (view ∷ views) =
+    moved_places (if view.seen.moved then places_with places view.seen.place else places) views
+
+-- a place, if it is among these
+abbrev pub if_among : List PathNames → Option PathNames → Option PathNames
+if_among wanted None = None
+if_among wanted (Some place) = if is_among wanted place then Some place else None
+
+-- the doubles among directories in their order, where no other places count than these
+abbrev pub doubles_among : List PathNames → List PathNames → List View → List Finding
+doubles_among wanted places [] = []
+doubles_among wanted places (view ∷ views) =
+    double_at places view (if_among wanted view.seen.place)
+    ++ doubles_among wanted (places_with places (if_among wanted view.seen.place)) views
+
 -- all that is found in a layer, in the order of the walk
 abbrev pub found_along : List View → List Finding
 found_along views = doubles_after [] views ++ flat_map (λ view. view.seen.findings) views

@@ -1,4 +1,4 @@
-ghost use Rattle.std.specs.Prelude.{◌≡◌, ◌++◌, [], length, map, IfOk, OnOk};
+ghost use Rattle.std.specs.Prelude.{◌≡◌, ◌++◌, [], if◌then◌else◌, length, map, IfOk, OnOk};
 ghost use Rattle.std.specs.List.{flat_map, list_any};
 ghost use Rattle.std.specs.List.Sorted.{IsPermutation};
 ghost use Rattle.ovl_lookup.specs.Stacks.{all_layers};
@@ -6,12 +6,12 @@ ghost use Rattle.ovl_board.specs.Parcels.{parcel_view, parcel_views};
 ghost use Rattle.ovl_check.specs.Contents.{findings_of_contents};
 ghost use Rattle.ovl_check.specs.Checks.{check_seen};
 ghost use Rattle.ovl_check.specs.CheckViews.{check_view};
-ghost use Rattle.ovl_check.specs.Walks.{AreLayerWalks, double_at, places_with, doubles_after, found_along, all_left};
+ghost use Rattle.ovl_check.specs.Walks.{AreLayerWalks, double_at, places_with, moved_places, if_among, doubles_after, found_along, all_left};
 
 use crate::findings::{Code, Finding};
+use crate::next_places::LentPlace;
 use crate::subjects::{CheckOut, CheckWork};
 use ovl_board::Parcel;
-use ovl_lookup::Trail;
 use ovl_names::Path;
 use std::alloc::{AllocError, Global};
 use std::collections::BTreeSet;
@@ -128,9 +128,9 @@ fn move_before(
 }
 
 // Adds a finding for each moved directory that goes on where an earlier one does.
-fn push_doubles(
+fn push_doubles<'p, 'a>(
     alloc: Global,
-    parcels: &[Parcel<CheckOut<'_>>],
+    parcels: &'p [Parcel<CheckOut<'a>>],
     findings: &mut Vec<Finding>,
 ) -> Result<(), AllocError>
     ensures { OnOk result (findings.new.items ≡ findings.old.items ++ doubles_after [] (parcel_views check_seen parcels.now)) }
@@ -138,9 +138,10 @@ fn push_doubles(
     if !has_moved(parcels) {
         return Ok(());
     }
+    let moved = places_of_moved(alloc, parcels)?;
     let mut places = BTreeSet::new(alloc);
     for parcel in parcels {
-        note_place(alloc, parcel, &mut places, findings)?;
+        note_place(alloc, parcel, &moved, &mut places, findings)?;
     }
     Ok(())
 }
@@ -152,21 +153,54 @@ fn has_moved(parcels: &[Parcel<CheckOut<'_>>]) -> bool
     parcels.iter().any(|parcel| parcel.out.moved)
 }
 
-// Notes where a directory goes on, and adds a finding where it is moved and an earlier one goes on there.
-fn note_place<'p>(
+// Where the moved ones of these directories go on. No other place can be that of a double.
+fn places_of_moved<'p, 'a>(
     alloc: Global,
-    parcel: &'p Parcel<CheckOut<'_>>,
-    places: &mut BTreeSet<Trail<'p>>,
-    findings: &mut Vec<Finding>,
-) -> Result<(), AllocError>
-    ensures found { OnOk result (findings.new.items ≡ findings.old.items
-        ++ double_at places.old.keys (parcel_view check_seen parcel.now) (check_seen parcel.now.out).place) }
-    ensures noted { OnOk result (places.new.keys ≡ places_with places.old.keys (check_seen parcel.now.out).place) }
+    parcels: &'p [Parcel<CheckOut<'a>>],
+) -> Result<BTreeSet<LentPlace<'p, 'a>>, AllocError>
+    ensures { IfOk result (λ places. places.keys ≡ moved_places [] (parcel_views check_seen parcels.now)) }
 {
+    let mut places = BTreeSet::new(alloc);
+    for parcel in parcels {
+        add_moved(parcel, &mut places)?;
+    }
+    Ok(places)
+}
+
+// Adds where a directory goes on, if it is a moved one.
+fn add_moved<'p, 'a>(
+    parcel: &'p Parcel<CheckOut<'a>>,
+    places: &mut BTreeSet<LentPlace<'p, 'a>>,
+) -> Result<(), AllocError>
+    ensures { OnOk result (places.new.keys ≡ (if parcel.now.out.moved then places_with places.old.keys (check_seen parcel.now.out).place else places.old.keys)) }
+{
+    if !parcel.out.moved {
+        return Ok(());
+    }
     let Some(place) = &parcel.out.place else {
         return Ok(());
     };
-    let first = places.insert(place.trail(alloc)?)?;
+    places.insert(LentPlace { place })?;
+    Ok(())
+}
+
+// Notes where a directory goes on, if a moved one does too, and adds a finding where it is moved and an earlier one goes on
+// there.
+fn note_place<'p, 'a>(
+    alloc: Global,
+    parcel: &'p Parcel<CheckOut<'a>>,
+    moved: &BTreeSet<LentPlace<'p, 'a>>,
+    places: &mut BTreeSet<LentPlace<'p, 'a>>,
+    findings: &mut Vec<Finding>,
+) -> Result<(), AllocError>
+    ensures found { OnOk result (findings.new.items ≡ findings.old.items
+        ++ double_at places.old.keys (parcel_view check_seen parcel.now) (if_among moved.now.keys (check_seen parcel.now.out).place)) }
+    ensures noted { OnOk result (places.new.keys ≡ places_with places.old.keys (if_among moved.now.keys (check_seen parcel.now.out).place)) }
+{
+    let Some(place) = place_among(parcel, moved) else {
+        return Ok(());
+    };
+    let first = places.insert(place)?;
     if parcel.out.moved && !first {
         findings.push(Finding {
             layer: parcel.piece.space,
@@ -175,4 +209,21 @@ fn note_place<'p>(
         })?;
     }
     Ok(())
+}
+
+// Where a directory goes on, if that is among these places.
+fn place_among<'p, 'a>(
+    parcel: &'p Parcel<CheckOut<'a>>,
+    places: &BTreeSet<LentPlace<'p, 'a>>,
+) -> Option<LentPlace<'p, 'a>>
+    ensures { result ≡ if_among places.now.keys (check_seen parcel.now.out).place }
+{
+    let Some(place) = &parcel.out.place else {
+        return None;
+    };
+    let place = LentPlace { place };
+    if !places.contains(&place) {
+        return None;
+    }
+    Some(place)
 }

@@ -1,4 +1,4 @@
-ghost use Rattle.std.specs.Prelude.{◌≡◌, ◌<◌, true, false, Some, length, IfOk};
+ghost use Rattle.std.specs.Prelude.{◌≡◌, ◌<◌, not, true, false, Some, length, unwrap_or, IfOk};
 ghost use Rattle.std.specs.List.{list_any};
 ghost use Rattle.ovl_lookup.specs.Stacks.{all_layers};
 ghost use Rattle.ovl_names.specs.Paths.{child_path};
@@ -9,6 +9,7 @@ ghost use Rattle.ovl_layer.specs.Layers.{entry_at};
 ghost use Rattle.ovl_lookup.specs.declared.looks.Look.{Look};
 ghost use Rattle.ovl_lookup.specs.Walk.{walk_to_file};
 ghost use Rattle.ovl_lookup.specs.Sights.{sight_of};
+ghost use Rattle.ovl_lookup.specs.Trails.{trail_eq};
 ghost use Rattle.ovl_lookup.specs.Merged.{place_of_data};
 ghost use Rattle.ovl_lookup.specs.Sound.{is_seen_there};
 ghost use Rattle.ovl_check.specs.Checks.{layer_at, layers_below};
@@ -22,7 +23,7 @@ use crate::marks::is_plain;
 use crate::places::{data_size_below, sight_below, step_of};
 use crate::subjects::CheckWork;
 use ovl_inode::{Inode, Mark, Redirect};
-use ovl_lookup::{Sight, Stack, Trail, TrailStep};
+use ovl_lookup::{OwnStep, Sight, Stack, Trail};
 use ovl_names::{Name, Path};
 use std::alloc::{AllocError, Global};
 
@@ -163,20 +164,31 @@ fn is_seen<'a>(
 {
     // Each of them is a layer.
     let _layers = stack.layers();
-    let TrailStep {
+    let OwnStep {
         found,
-        next,
+        turned,
         closed,
-    } = step_of(alloc, stack, i, place.copy(alloc)?)?;
+    } = step_of(alloc, stack, i, place)?;
     if closed {
         return Ok(false);
     }
-    if next != *place {
+    if is_elsewhere(&turned, place) {
         return Ok(false);
     }
     match found {
         Some(found) => Ok(place.is_root() || is_plain(found.mark)),
         None => Ok(true),
+    }
+}
+
+// Whether a walk that marks may turn goes on at another path than a place.
+fn is_elsewhere(turned: &Option<Trail<'_>>, place: &Trail<'_>) -> bool
+    ensures { result ≡ not (trail_eq (unwrap_or turned.now place.now) place.now) }
+{
+    match turned {
+        Some(next) => *next != *place,
+        // A redirect of any length isn't compared with itself.
+        None => false,
     }
 }
 

@@ -1,35 +1,37 @@
-ghost use Rattle.std.specs.Prelude.{◌≡◌, unwrap_or, IfOk};
+ghost use Rattle.std.specs.Prelude.{◌≡◌, Some, reverse, unwrap_or, IfOk};
+ghost use Rattle.std.specs.Cmp.{partial_equiv_from_equiv, po};
+ghost use Rattle.std.specs.Cmp.Lexicographic.{nat_list_cmp_total, nat_list_eq_equiv, texts_ties, lists_total, lists_equiv, lists_ties};
+ghost use Rattle.std.proofs.Common.{refl};
+ghost use Rattle.std.proofs.lemmas.Cmp.{on_total, on_equiv};
+ghost use Rattle.ovl_names.specs.Names.{name_cmp};
+ghost use Rattle.ovl_lookup.specs.Trails.{trail_cmp, trail_eq};
 
 use ovl_lookup::Trail;
 use ovl_names::Path;
 use std::alloc::{AllocError, Global};
+use std::cmp::Ordering;
 use std::marker::Model;
 
-/// The path by which the layers below know a directory: its own, or where marks turn that, another one in names that the
-/// layer holds.
+/// The path by which the layers below know a directory: its own, or where marks turn that, another one.
 #[derive(Debug, Drop)]
 pub struct Place<'a> {
-    names: PlaceNames<'a>,
-}
-
-// The names of a place. Those of the directory's own path stand in one text.
-#[derive(Debug, Drop)]
-enum PlaceNames<'a> {
-    Own(Path),
-    Turned(Trail<'a>),
+    // Names that the layer holds, where in a text of their own they would take more bytes.
+    held: Trail<'a>,
+    // The names below these.
+    below: Path,
 }
 
 impl<'a> Model for Place<'a> {
+    ghost use Rattle.std.specs.Prelude.{◌++◌};
     ghost use Rattle.ovl_names.specs.Paths.{PathNames};
-    ghost use Rattle.ovl_check.specs.Places.{names_of};
 
     ghost Value = { PathNames };
 
-    ghost view = { λ a. names_of a.names };
+    ghost view = { λ a. a.held ++ a.below };
 }
 
 impl<'a> Place<'a> {
-    // That of a directory of this path, which is copied unless marks turn it.
+    // That of a directory of this path, unless marks turn it.
     pub(crate) fn of(
         alloc: Global,
         path: &Path,
@@ -37,23 +39,21 @@ impl<'a> Place<'a> {
     ) -> Result<Place<'a>, AllocError>
         ensures { IfOk result (λ place. place ≡ unwrap_or turned.entry path.now) }
     {
-        match turned {
-            Some(next) => Ok(Place {
-                names: PlaceNames::Turned(next),
+        let Some(held) = turned else {
+            return Ok(Place {
+                held: Trail::root(alloc),
+                below: path.copy(alloc)?,
+            });
+        };
+        match held.short_path(alloc)? {
+            Some(below) => Ok(Place {
+                held: Trail::root(alloc),
+                below,
             }),
             None => Ok(Place {
-                names: PlaceNames::Own(path.copy(alloc)?),
+                held,
+                below: Path::root(alloc),
             }),
-        }
-    }
-
-    /// The path as a trail, of one part where it is the directory's own; fails only when out of memory.
-    pub fn trail(&self, alloc: Global) -> Result<Trail<'_>, AllocError>
-        ensures { IfOk result (λ trail. trail ≡ self.now) }
-    {
-        match &self.names {
-            PlaceNames::Own(path) => Trail::of(alloc, &path.names()),
-            PlaceNames::Turned(next) => next.copy(alloc),
         }
     }
 
@@ -61,9 +61,71 @@ impl<'a> Place<'a> {
     pub fn path(&self, alloc: Global) -> Result<Path, AllocError>
         ensures { IfOk result (λ path. path ≡ self.now) }
     {
-        match &self.names {
-            PlaceNames::Own(path) => path.copy(alloc),
-            PlaceNames::Turned(next) => next.path(alloc),
-        }
+        let mut path = self.held.path(alloc)?;
+        path.extend(&self.below.names())?;
+        Ok(path)
+    }
+}
+
+/// A place that is lent. They are ordered name by name from the last one on, as those below one redirect begin with all
+/// its names.
+#[derive(Debug, Drop)]
+pub(crate) struct LentPlace<'p, 'a> {
+    pub(crate) place: &'p Place<'a>,
+}
+
+impl<'p, 'a> Model for LentPlace<'p, 'a> {
+    ghost use Rattle.ovl_names.specs.Paths.{PathNames};
+
+    ghost Value = { PathNames };
+
+    ghost view = { λ a. a.place.now };
+}
+
+impl<'p, 'a> LentPlace<'p, 'a> {
+    fn compared(&self, other: &LentPlace<'p, 'a>) -> Ordering
+        ensures { result ≡ trail_cmp self.now other.now }
+    {
+        let (ours, theirs) = (self.place, other.place);
+        ours.held
+            .compare_with(&ours.below.names(), &theirs.held, &theirs.below.names())
+    }
+}
+
+impl<'p, 'a> PartialEq for LentPlace<'p, 'a> {
+    ghost eq = { trail_eq };
+
+    ghost laws = { partial_equiv_from_equiv (on_equiv reverse (lists_equiv nat_list_eq_equiv)) };
+
+    fn eq(&self, other: &LentPlace<'p, 'a>) -> bool {
+        self.compared(other).is_eq()
+    }
+}
+
+impl<'p, 'a> Eq for LentPlace<'p, 'a> {
+    ghost laws = { on_equiv reverse (lists_equiv nat_list_eq_equiv) };
+}
+
+impl<'p, 'a> PartialOrd for LentPlace<'p, 'a> {
+    ghost partial_cmp = { λ a b. Some (trail_cmp a b) };
+
+    ghost laws = { po (on_total reverse (lists_total nat_list_cmp_total)) (λ a b. lists_ties name_cmp texts_ties (reverse a) (reverse b)) };
+
+    fn partial_cmp(&self, other: &LentPlace<'p, 'a>) -> Option<Ordering> {
+        Some(self.compared(other))
+    }
+}
+
+impl<'p, 'a> Ord for LentPlace<'p, 'a> {
+    ghost cmp = { trail_cmp };
+
+    ghost total = { on_total reverse (lists_total nat_list_cmp_total) };
+
+    ghost matches_partial_cmp = { λ a b. refl };
+
+    ghost matches_eq = { λ a b. lists_ties name_cmp texts_ties (reverse a) (reverse b) };
+
+    fn cmp(&self, other: &LentPlace<'p, 'a>) -> Ordering {
+        self.compared(other)
     }
 }

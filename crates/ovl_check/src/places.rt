@@ -5,7 +5,7 @@ ghost use Rattle.ovl_inode.specs.declared.marks.Mark.TheVariants.{DirPlain};
 ghost use Rattle.ovl_layer.specs.Sheets.{path_at};
 ghost use Rattle.ovl_inode.specs.Kinds.{size_of};
 ghost use Rattle.ovl_lookup.specs.Walk.{walk, mark_at as the_mark};
-ghost use Rattle.ovl_lookup.specs.Passes.{IsMarked, step_of as the_step};
+ghost use Rattle.ovl_lookup.specs.Passes.{IsOwnMarked, own_step_of};
 ghost use Rattle.ovl_lookup.specs.Merged.{look as the_look};
 ghost use Rattle.ovl_lookup.specs.Sights.{sight_of};
 ghost use Rattle.ovl_check.specs.Checks.{layer_at, first_below as the_first_below, layers_below};
@@ -13,7 +13,7 @@ ghost use Rattle.ovl_check.specs.Facts.{data_size};
 
 use ovl_inode::{Inode, Mark, file_size};
 use ovl_layer::Sheet;
-use ovl_lookup::{Sight, Stack, Trail, TrailStep};
+use ovl_lookup::{OwnStep, Sight, Stack, Trail};
 use ovl_names::Path;
 use std::alloc::{AllocError, Global};
 
@@ -22,13 +22,13 @@ pub(crate) fn step_of<'a>(
     alloc: Global,
     stack: &'a Stack,
     i: usize,
-    trail: Trail<'a>,
-) -> Result<TrailStep<'a>, AllocError>
+    trail: &Trail<'a>,
+) -> Result<OwnStep<'a>, AllocError>
     requires { i < length (all_layers stack.now) }
-    ensures value { IfOk result (λ step. the_step step ≡ walk (layer_at stack.now i) trail.entry) }
-    ensures marked { IfOk result IsMarked }
+    ensures value { IfOk result (λ step. own_step_of trail.now step ≡ walk (layer_at stack.now i) trail.now) }
+    ensures marked { IfOk result IsOwnMarked }
 {
-    stack.own_walk(alloc, i, trail)
+    stack.own_step(alloc, i, trail)
 }
 
 // The first of the layers below layer `i`; below a data-only one there is none.

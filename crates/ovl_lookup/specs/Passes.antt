@@ -14,6 +14,7 @@ use Rattle.ovl_lookup.specs.declared.steps.Descent.{Descent}
 use Rattle.ovl_lookup.specs.declared.steps.OwnDirectory.{OwnDirectory}
 use Rattle.ovl_lookup.specs.declared.steps.Step.{Step}
 use Rattle.ovl_lookup.specs.declared.steps.TrailStep.{TrailStep}
+use Rattle.ovl_lookup.specs.declared.steps.OwnStep.{OwnStep}
 use Rattle.ovl_lookup.specs.declared.steps.Arrival.{Arrival}
 use Rattle.ovl_lookup.specs.declared.looks.Look.{Look}
 use Rattle.ovl_lookup.specs.declared.looks.Hit.{Hit}
@@ -66,6 +67,14 @@ step_of step = record { found = option_map (λ found. found.inode.now) step.foun
 
 abbrev pub IsMarked : TrailStep → Type 0
 IsMarked step = IfSome step.found (λ found. found.mark.now ≡ mark_of found.inode.now)
+
+-- the same of a walk of this path that says where it goes on only if that is another path
+abbrev pub own_step_of : PathNames → OwnStep → Step
+own_step_of path step =
+    record { found = option_map (λ found. found.inode.now) step.found; next = unwrap_or step.turned path; closed = step.closed }
+
+abbrev pub IsOwnMarked : OwnStep → Type 0
+IsOwnMarked step = IfSome step.found (λ found. found.mark.now ≡ mark_of found.inode.now)
 
 -- where the walk of a path leads that is no directory: nothing is found below, which goes on by its own names
 pub record IsPast (layer : Entries) (path onward : PathNames) (hidden : Bool) : Type 0 where

@@ -21,6 +21,6 @@ pub use looks::{Look, is_well_formed_metacopy};
 pub use onward::Onward;
 pub use sights::Sight;
 pub use stacks::{LAYER_LIMIT, Stack, StackFault};
-pub use steps::{Arrival, Found, OwnDirectory, Step, TrailStep, follow, walk};
+pub use steps::{Arrival, Found, OwnDirectory, OwnStep, Step, TrailStep, follow, walk};
 pub use trails::Trail;
 pub use views::DirView;

@@ -2,14 +2,14 @@ ghost use Rattle.std.specs.Prelude.{◌≡◌, ◌≢◌, ◌<◌, ◌≤◌, �
 ghost use Rattle.std.specs.Option.{option_map};
 ghost use Rattle.std.specs.List.{All};
 ghost use Rattle.ovl_layer.specs.Layers.{IsLayer, entry_at, is_directory_at, names_below};
-ghost use Rattle.ovl_lookup.specs.Passes.{IsMarked, IsOwnDirectory, step_of};
+ghost use Rattle.ovl_lookup.specs.Passes.{IsOwnMarked, IsOwnDirectory, own_step_of};
 ghost use Rattle.ovl_lookup.specs.Walk.{walk as the_walk};
 ghost use Rattle.ovl_lookup.specs.declared.stacks.StackFault.TheVariants.{Layers, Memory, DataCount};
 ghost use Rattle.ovl_lookup.specs.Stacks.{layer_limit, all_layers, stack_with};
 ghost use Rattle.ovl_lookup.specs.Words.{top_layer};
 
 use crate::steps::directory_in;
-use crate::{OwnDirectory, Trail, TrailStep, follow};
+use crate::{OwnDirectory, OwnStep, Trail};
 use ovl_inode::Inode;
 use ovl_layer::{Layer, Sheet};
 use ovl_names::{Name, Path};
@@ -192,18 +192,19 @@ impl Stack {
         self.any_sheet(i).children(alloc, path)
     }
 
-    /// The walk of a trail in layer `i`, see [`follow`]; `i` is below the number of layers. Fails only when out of memory.
-    pub fn own_walk<'a>(
+    /// The walk of a trail in layer `i`, see [`OwnStep::at`]; `i` is below the number of layers. Fails only when out of
+    /// memory.
+    pub fn own_step<'a>(
         &'a self,
         alloc: Global,
         i: usize,
-        trail: Trail<'a>,
-    ) -> Result<TrailStep<'a>, AllocError>
+        trail: &Trail<'a>,
+    ) -> Result<OwnStep<'a>, AllocError>
         requires { i < length (all_layers self.now) }
-        ensures value { IfSome (slice_get (all_layers self.now) i) (λ layer. IfOk result (λ step. step_of step ≡ the_walk layer trail.entry)) }
-        ensures marked { IfOk result IsMarked }
+        ensures value { IfSome (slice_get (all_layers self.now) i) (λ layer. IfOk result (λ step. own_step_of trail.now step ≡ the_walk layer trail.now)) }
+        ensures marked { IfOk result IsOwnMarked }
     {
-        follow(alloc, self.any_sheet(i), trail)
+        OwnStep::at(alloc, self.any_sheet(i), trail)
     }
 
     /// The directory that layer `i` has at a path, with how its walk goes on, and `None` where it has none; `i` is below

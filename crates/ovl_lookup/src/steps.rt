@@ -5,7 +5,7 @@ ghost use Rattle.ovl_inode.specs.Marks.{mark_of as the_mark};
 ghost use Rattle.ovl_layer.specs.Layers.{entry_at, is_directory_at};
 ghost use Rattle.ovl_layer.specs.Sheets.{path_at};
 ghost use Rattle.ovl_lookup.specs.Onwards.{next_on, closed_on};
-ghost use Rattle.ovl_lookup.specs.Passes.{IsDescent, IsArrival, IsOwnDirectory, IsOwnEntry, IsMarked, step_of};
+ghost use Rattle.ovl_lookup.specs.Passes.{IsDescent, IsArrival, IsOwnDirectory, IsOwnEntry, IsMarked, IsOwnMarked, step_of, own_step_of};
 ghost use Rattle.ovl_lookup.specs.Walk.{walk as the_walk};
 
 use crate::trails::Trail;
@@ -102,67 +102,96 @@ pub fn follow<'a>(
     ensures value { IfOk result (λ step. step_of step ≡ the_walk sheet.now trail.entry) }
     ensures marked { IfOk result IsMarked }
 {
-    let Descent { own, depth, number } = descend(alloc, sheet, &trail)?;
-    let OwnDirectory {
-        row,
+    let OwnStep {
+        found,
         turned,
         closed,
-    } = own;
-    if depth == trail.len() {
-        return Ok(TrailStep {
-            found: Some(Found::in_row(sheet, row)),
-            next: turned.unwrap_or(trail),
-            closed,
-        });
-    }
-    let Some(number) = number else {
-        return Ok(TrailStep {
-            found: None,
-            next: past(turned, trail, depth)?,
-            closed,
-        });
-    };
-    if depth + 1 < trail.len() {
-        return Ok(TrailStep {
-            found: None,
-            next: past(turned, trail, depth)?,
-            closed: true,
-        });
-    }
-    let own = OwnDirectory {
-        row,
-        turned,
-        closed,
-    };
-    let OwnDirectory { turned, closed, .. } = own.enter(alloc, sheet, number, depth)?;
-    let next = turned.unwrap_or(trail);
-    let found = Found::in_row(sheet, number);
-    if is_whiteout(found.inode) {
-        return Ok(TrailStep {
-            found: None,
-            next,
-            closed,
-        });
-    }
+    } = OwnStep::at(alloc, sheet, &trail)?;
     Ok(TrailStep {
-        found: Some(found),
-        next,
+        found,
+        next: turned.unwrap_or(trail),
         closed,
     })
+}
+
+/// What a walk in one layer found, and where it goes on if marks turn it from its own path.
+#[derive(Debug, Drop)]
+pub struct OwnStep<'a> {
+    /// What the layer has at the path; a whiteout isn't found.
+    pub found: Option<Found<'a>>,
+    /// The path by which the layer below knows this one, where marks turn it from its own.
+    pub turned: Option<Trail<'a>>,
+    /// Whether the layers below are hidden there.
+    pub closed: bool,
+}
+
+impl<'a> OwnStep<'a> {
+    /// The walk of a trail in one layer, see [`walk`]. Fails only when out of memory.
+    pub fn at(alloc: Global, sheet: &'a Sheet, trail: &Trail<'a>) -> Result<OwnStep<'a>, AllocError>
+        ensures value { IfOk result (λ step. own_step_of trail.now step ≡ the_walk sheet.now trail.now) }
+        ensures marked { IfOk result IsOwnMarked }
+    {
+        let Descent { own, depth, number } = descend(alloc, sheet, trail)?;
+        let OwnDirectory {
+            row,
+            turned,
+            closed,
+        } = own;
+        if depth == trail.len() {
+            return Ok(OwnStep {
+                found: Some(Found::in_row(sheet, row)),
+                turned,
+                closed,
+            });
+        }
+        let Some(number) = number else {
+            return Ok(OwnStep {
+                found: None,
+                turned: past(turned, trail, depth)?,
+                closed,
+            });
+        };
+        if depth + 1 < trail.len() {
+            return Ok(OwnStep {
+                found: None,
+                turned: past(turned, trail, depth)?,
+                closed: true,
+            });
+        }
+        let own = OwnDirectory {
+            row,
+            turned,
+            closed,
+        };
+        let OwnDirectory { turned, closed, .. } = own.enter(alloc, sheet, number, depth)?;
+        let found = Found::in_row(sheet, number);
+        if is_whiteout(found.inode) {
+            return Ok(OwnStep {
+                found: None,
+                turned,
+                closed,
+            });
+        }
+        Ok(OwnStep {
+            found: Some(found),
+            turned,
+            closed,
+        })
+    }
 }
 
 // The path that goes on past so many names of the trail, which lead to a directory that is known by another path, if
 // marks turn it.
 fn past<'a>(
     turned: Option<Trail<'a>>,
-    trail: Trail<'a>,
+    trail: &Trail<'a>,
     depth: usize,
-) -> Result<Trail<'a>, AllocError>
-    ensures { IfOk result (λ next. next ≡ unwrap_or turned.entry (take depth trail.entry) ++ drop depth trail.entry) }
+) -> Result<Option<Trail<'a>>, AllocError>
+    ensures { IfOk result (λ next. unwrap_or next trail.now ≡ unwrap_or turned.entry (take depth trail.now) ++ drop depth trail.now) }
 {
     match turned {
-        Some(next) => trail.onward(next, depth),
-        None => Ok(trail),
+        Some(next) => Ok(Some(trail.onward(next, depth)?)),
+        None => Ok(None),
     }
 }
 
@@ -410,7 +439,7 @@ impl<'a> Arrival<'a> {
                 closed,
             });
         }
-        let next = past(turned, trail, depth)?;
+        let next = past(turned, &trail, depth)?.unwrap_or(trail);
         Ok(Arrival {
             row: None,
             next,

@@ -13,14 +13,14 @@ pub(crate) struct TrailEnd<'t, 'a> {
 }
 
 impl<'t, 'a> TrailEnd<'t, 'a> {
-    // All names of these parts; where the last one has none, there are none.
-    pub(crate) fn of(parts: &'t [Names<'a>]) -> TrailEnd<'t, 'a>
-        ensures names { names_of_parts (iter_rest result.parts) ++ result.last ≡ names_of_parts parts.now }
+    // All names of these parts, and of a last one; where what has begun has none, there are none.
+    pub(crate) fn of(parts: &'t [Names<'a>], last: Names<'a>) -> TrailEnd<'t, 'a>
+        ensures names { names_of_parts (iter_rest result.parts) ++ result.last ≡ names_of_parts parts.now ++ last.entry }
         ensures all { result.last ≡ [] → names_of_parts (iter_rest result.parts) ≡ [] }
     {
         let mut end = TrailEnd {
             parts: parts.iter(),
-            last: Names::none(),
+            last,
         };
         end.refill();
         end

@@ -1,9 +1,8 @@
-ghost use Rattle.std.specs.Prelude.{◌≡◌, ◌<◌, ◌^◌, ◌++◌, ◌↔◌, [], Some, length, drop, reverse, IsTrue, IfOk};
-ghost use Rattle.std.specs.Cmp.{partial_equiv_from_equiv, po};
-ghost use Rattle.std.specs.Cmp.Lexicographic.{nat_list_cmp_total, nat_list_eq_equiv, texts_ties, lists_total, lists_equiv, lists_ties};
-ghost use Rattle.std.proofs.Common.{refl};
-ghost use Rattle.std.proofs.lemmas.Cmp.{on_total, on_equiv};
-ghost use Rattle.ovl_names.specs.Names.{name_cmp, is_name};
+ghost use Rattle.std.specs.Prelude.{◌≡◌, ◌<◌, ◌^◌, ◌++◌, ◌↔◌, [], Some, length, drop, reverse, IsTrue, IfOk, IfSome};
+ghost use Rattle.std.specs.Cmp.{partial_equiv_from_equiv};
+ghost use Rattle.std.specs.Cmp.Lexicographic.{nat_list_eq_equiv, lists_equiv};
+ghost use Rattle.std.proofs.lemmas.Cmp.{on_equiv};
+ghost use Rattle.ovl_names.specs.Names.{is_name};
 ghost use Rattle.ovl_names.specs.Paths.{child_path, has_names};
 ghost use Rattle.ovl_lookup.specs.Trails.{trail_cmp, trail_eq};
 
@@ -14,8 +13,7 @@ use std::alloc::{AllocError, Global};
 use std::cmp::Ordering;
 use std::marker::Model;
 
-/// A path from the root in parts that others hold, so that no name of it is copied. Trails are ordered name by name from
-/// the last one on, as those below one redirect begin with all its names.
+/// A path from the root in parts that others hold, so that no name of it is copied.
 #[derive(Debug, Drop)]
 pub struct Trail<'a> {
     parts: Vec<Names<'a>>,
@@ -34,9 +32,12 @@ impl<'a> Model for Trail<'a> {
     ghost invariant = { λ a. (a.len ≡ length (names_of_parts a.parts.items)) × (has_names (names_of_parts a.parts.items) ≡ true) };
 }
 
+// The bytes that a part takes.
+const PART_BYTES: usize = 24;
+
 impl<'a> Trail<'a> {
-    // The trail of the root.
-    pub(crate) fn root(alloc: Global) -> Trail<'a>
+    /// The trail of the root.
+    pub fn root(alloc: Global) -> Trail<'a>
         ensures { result ≡ [] }
     {
         Trail {
@@ -135,12 +136,46 @@ impl<'a> Trail<'a> {
         Ok(path)
     }
 
-    // How this trail is to another, name by name from the last one on.
+    /// The path in a text of its own, if that takes no more bytes than the parts; fails only when out of memory.
+    pub fn short_path(&self, alloc: Global) -> Result<Option<Path>, AllocError>
+        ensures { IfOk result (λ short. IfSome short (λ path. path ≡ self.now)) }
+    {
+        if !self.is_short() {
+            return Ok(None);
+        }
+        Ok(Some(self.path(alloc)?))
+    }
+
+    // Whether its names take no more bytes than its parts.
+    fn is_short(&self) -> bool {
+        let mut room = self.parts.len().saturating_mul(PART_BYTES);
+        for name in self.names() {
+            let Some(left) = room.checked_sub(name.len()) else {
+                return false;
+            };
+            room = left;
+        }
+        true
+    }
+
+    // How this trail is to another.
     fn compared(&self, other: &Trail<'_>) -> Ordering
         ensures { result ≡ trail_cmp self.now other.now }
     {
-        let mut ours = TrailEnd::of(&self.parts);
-        let mut theirs = TrailEnd::of(&other.parts);
+        self.compare_with(&Names::none(), other, &Names::none())
+    }
+
+    /// How this trail with these names below it is to another with others below that, name by name from the last one on.
+    pub fn compare_with(
+        &self,
+        below: &Names<'_>,
+        other: &Trail<'_>,
+        other_below: &Names<'_>,
+    ) -> Ordering
+        ensures { result ≡ trail_cmp (self.now ++ below.now) (other.now ++ other_below.now) }
+    {
+        let mut ours = TrailEnd::of(&self.parts, below.rest());
+        let mut theirs = TrailEnd::of(&other.parts, other_below.rest());
         while !ours.last.is_empty() && !theirs.last.is_empty() {
             let order = ours.last.compare_ends(&mut theirs.last);
             if order.is_ne() {
@@ -166,28 +201,4 @@ impl<'a> PartialEq for Trail<'a> {
 
 impl<'a> Eq for Trail<'a> {
     ghost laws = { on_equiv reverse (lists_equiv nat_list_eq_equiv) };
-}
-
-impl<'a> PartialOrd for Trail<'a> {
-    ghost partial_cmp = { λ a b. Some (trail_cmp a b) };
-
-    ghost laws = { po (on_total reverse (lists_total nat_list_cmp_total)) (λ a b. lists_ties name_cmp texts_ties (reverse a) (reverse b)) };
-
-    fn partial_cmp(&self, other: &Trail<'a>) -> Option<Ordering> {
-        Some(self.compared(other))
-    }
-}
-
-impl<'a> Ord for Trail<'a> {
-    ghost cmp = { trail_cmp };
-
-    ghost total = { on_total reverse (lists_total nat_list_cmp_total) };
-
-    ghost matches_partial_cmp = { λ a b. refl };
-
-    ghost matches_eq = { λ a b. lists_ties name_cmp texts_ties (reverse a) (reverse b) };
-
-    fn cmp(&self, other: &Trail<'a>) -> Ordering {
-        self.compared(other)
-    }
 }

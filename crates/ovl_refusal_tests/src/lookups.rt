@@ -12,8 +12,9 @@ fn is_walked(alloc: Global, stack: &Stack, path: &Path) -> Result<bool, AllocErr
         return Ok(false);
     }
     let step = walk(alloc, stack.sheet(0), path)?;
-    let own = stack.own_walk(alloc, 0, Trail::of(alloc, &path.names())?)?;
-    let next = own.next.path(alloc)?;
+    let trail = Trail::of(alloc, &path.names())?;
+    let own = stack.own_step(alloc, 0, &trail)?;
+    let next = own.turned.unwrap_or(trail).path(alloc)?;
     let names = stack.own_names(alloc, 0, path)?;
     let place = stack.data_place(alloc, path)?;
     Ok(step.next.len() == 1 && next == step.next && names.is_empty() && place.is_none())

@@ -23,5 +23,5 @@ returns c =
       | then-closed w ↦ w.result-is ∙ (w.if-closed.true ∙ sym (ap (λ b. b || is_some d.number) w.if-closed.true))
       | else-closed w ↦ w.result-is ∙ (w.is_some.ensures ∙ sym (ap (λ b. b || is_some d.number) w.if-closed.false))
     ] in
-    subst (λ (next : PathNames). IsPast layer c.args.trail next c.if-closed.result) (sym c.in_ok-next.ensures)
+    subst (λ (next : PathNames). IsPast layer c.args.trail next c.if-closed.result) (sym (c.unwrap_or-next.ensures ∙ c.in_ok-past.ensures))
     (subst (λ (b : Bool). IsPast layer c.args.trail (unwrap_or d.own.turned (take d.depth c.args.trail) ++ drop d.depth c.args.trail) b) (sym shut) past)

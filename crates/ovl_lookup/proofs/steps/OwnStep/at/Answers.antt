@@ -1,4 +1,5 @@
 use Rattle.std.proofs.Common.{◌≡◌, ◌+◌, ◌<◌, ◌∙◌, true, false, cond, Some, None, length, sym, ap, arith}
+use Rattle.std.specs.Prelude.{unwrap_or}
 use Rattle.std.proofs.lemmas.Bool.Decides.{nat_tests}
 use Rattle.ovl_names.specs.Paths.{PathNames}
 use Rattle.ovl_inode.specs.declared.inodes.Inode.{Inode}
@@ -7,35 +8,34 @@ use Rattle.ovl_layer.specs.Layers.{Entries}
 use Rattle.ovl_lookup.specs.declared.steps.Descent.{Descent}
 use Rattle.ovl_lookup.specs.Walk.{nothing_found}
 use Rattle.ovl_lookup.proofs.WalkFacts.{walked-through, stopped, walked-past, row-there, walked-below, walked-to}
-use Rattle.ovl_lookup.proofs.steps.follow.Goals as goal
+use Rattle.ovl_lookup.proofs.steps.OwnStep.at.Goals as goal
 
 pub returns-then-depth-len-clause-value : goal.returns-then-depth-len-clause-value
 returns-then-depth-len-clause-value c =
     let d : Descent = c.in_ok-own.field-0 in
     let inode : Inode = c.in_row.result.inode.now in
-    let all : d.depth ≡ length c.args.trail = grind (arith, nat_tests, c.if-depth-len.true, c.len.ensures) in
-    ap (λ (next : PathNames). record { found = Some inode; next = next; closed = d.own.closed }) c.unwrap_or.ensures
-    ∙ walked-through c.args.sheet.now c.args.trail d c.in_ok-own.ensures all inode c.in_row.ensures.value
+    let all : d.depth ≡ length c.args.trail.now = grind (arith, nat_tests, c.if-depth-len.true, c.len.ensures) in
+    walked-through c.args.sheet.now c.args.trail.now d c.in_ok-own.ensures all inode c.in_row.ensures.value
 
 pub returns-in_default-clause-value : goal.returns-in_default-clause-value
 returns-in_default-clause-value c =
     let d : Descent = c.in_ok-own.field-0 in
-    let short : d.depth ≡ length c.args.trail → ⊥ = λ all. grind (arith, nat_tests, all, c.if-depth-len.false, c.len.ensures) in
+    let short : d.depth ≡ length c.args.trail.now → ⊥ = λ all. grind (arith, nat_tests, all, c.if-depth-len.false, c.len.ensures) in
     ap (λ (next : PathNames). nothing_found next d.own.closed) c.in_ok-past.ensures
-    ∙ walked-past c.args.sheet.now c.args.trail d c.in_ok-own.ensures short c.in_default.is
+    ∙ walked-past c.args.sheet.now c.args.trail.now d c.in_ok-own.ensures short c.in_default.is
 
 pub returns-then-depth-len-2-clause-value : goal.returns-then-depth-len-2-clause-value
 returns-then-depth-len-2-clause-value c =
     let d : Descent = c.in_ok-own.field-0 in
-    let short : d.depth ≡ length c.args.trail → ⊥ = λ all. grind (arith, nat_tests, all, c.if-depth-len.false, c.len.ensures) in
-    let more : d.depth + 1 < length c.args.trail = grind (arith, nat_tests, c.if-depth-len-2.true, c.len-2.ensures) in
+    let short : d.depth ≡ length c.args.trail.now → ⊥ = λ all. grind (arith, nat_tests, all, c.if-depth-len.false, c.len.ensures) in
+    let more : d.depth + 1 < length c.args.trail.now = grind (arith, nat_tests, c.if-depth-len-2.true, c.len-2.ensures) in
     ap (λ (next : PathNames). nothing_found next true) c.in_ok-past-2.ensures
-    ∙ walked-below c.args.sheet.now c.args.trail d c.in_ok-own.ensures short c.in-Some.number c.in-Some.is more
+    ∙ walked-below c.args.sheet.now c.args.trail.now d c.in_ok-own.ensures short c.in-Some.number c.in-Some.is more
 
 pub enter-requires-clause-number : goal.enter-requires-clause-number
 enter-requires-clause-number c =
-    let short : c.in_ok-own.field-0.depth ≡ length c.args.trail → ⊥ = λ all. grind (arith, nat_tests, all, c.if-depth-len.false, c.len.ensures) in
-    (row-there c.args.sheet.now c.args.trail c.in_ok-own.field-0 c.in_ok-own.ensures short c.in-Some.number c.in-Some.is).0
+    let short : c.in_ok-own.field-0.depth ≡ length c.args.trail.now → ⊥ = λ all. grind (arith, nat_tests, all, c.if-depth-len.false, c.len.ensures) in
+    (row-there c.args.sheet.now c.args.trail.now c.in_ok-own.field-0 c.in_ok-own.ensures short c.in-Some.number c.in-Some.is).0
 
 pub enter-requires-clause-depth : goal.enter-requires-clause-depth
 enter-requires-clause-depth c = c.in_ok-own.ensures.depth ∙ ap length (sym c.in_ok-own.ensures.own.here)
@@ -43,7 +43,7 @@ enter-requires-clause-depth c = c.in_ok-own.ensures.depth ∙ ap length (sym c.i
 pub returns-then-is_whiteout-clause-value : goal.returns-then-is_whiteout-clause-value
 returns-then-is_whiteout-clause-value c =
     let d : Descent = c.in_ok-own.field-0 in
-    let path : PathNames = c.args.trail in
+    let path : PathNames = c.args.trail.now in
     let layer : Entries = c.args.sheet.now in
     let is = c.in_ok-own.ensures in
     let inode : Inode = c.in_row-found.result.inode.now in
@@ -52,13 +52,13 @@ returns-then-is_whiteout-clause-value c =
     let last : d.depth + 1 < length path → ⊥ = λ more. grind (arith, nat_tests, more, c.if-depth-len-2.false, c.len-2.ensures) in
     let there = row-there layer path d is short c.in-Some.number c.in-Some.is in
     let white : is_whiteout inode ≡ true = sym c.is_whiteout.ensures ∙ c.if-is_whiteout.true in
-    (λ j. record { found = cond (sym white j) None (Some inode); next = c.unwrap_or-next.ensures j; closed = end.closed })
+    (λ j. record { found = cond (sym white j) None (Some inode); next = unwrap_or end.turned path; closed = end.closed })
     ∙ walked-to layer path d is short c.in-Some.number c.in-Some.is last end (c.in_ok-turned.ensures is.above (stopped layer path d is short).name is.own there.1) inode c.in_row-found.ensures.value
 
 pub returns-clause-value : goal.returns-clause-value
 returns-clause-value c =
     let d : Descent = c.in_ok-own.field-0 in
-    let path : PathNames = c.args.trail in
+    let path : PathNames = c.args.trail.now in
     let layer : Entries = c.args.sheet.now in
     let is = c.in_ok-own.ensures in
     let inode : Inode = c.in_row-found.result.inode.now in
@@ -67,5 +67,5 @@ returns-clause-value c =
     let last : d.depth + 1 < length path → ⊥ = λ more. grind (arith, nat_tests, more, c.if-depth-len-2.false, c.len-2.ensures) in
     let there = row-there layer path d is short c.in-Some.number c.in-Some.is in
     let found : is_whiteout inode ≡ false = sym c.is_whiteout.ensures ∙ c.if-is_whiteout.false in
-    (λ j. record { found = cond (sym found j) None (Some inode); next = c.unwrap_or-next.ensures j; closed = end.closed })
+    (λ j. record { found = cond (sym found j) None (Some inode); next = unwrap_or end.turned path; closed = end.closed })
     ∙ walked-to layer path d is short c.in-Some.number c.in-Some.is last end (c.in_ok-turned.ensures is.above (stopped layer path d is short).name is.own there.1) inode c.in_row-found.ensures.value

@@ -2,8 +2,8 @@ use Rattle.std.proofs.Common.{◌≡◌, ◌∙◌, ◌⊎◌, inl, inr, [], nat
 use Rattle.std.specs.Slice.Iter.{iter_rest}
 use Rattle.ovl_lookup.specs.Trails.{names_of_parts}
 use Rattle.ovl_lookup.proofs.TrailOrderLemmas.{order-at_end}
-use Rattle.ovl_lookup.proofs.trails.Trail.compared.Goals.{then-loop-theirs-test+else-not-is_empty, else-loop-theirs-test}
-use Rattle.ovl_lookup.proofs.trails.Trail.compared.Goals as goal
+use Rattle.ovl_lookup.proofs.trails.Trail.compare_with.Goals.{then-loop-theirs-test+else-not-is_empty, else-loop-theirs-test}
+use Rattle.ovl_lookup.proofs.trails.Trail.compare_with.Goals as goal
 
 pub returns : goal.returns
 returns c =
