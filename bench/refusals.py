@@ -5,8 +5,8 @@ Python 3.11, standard library, and `rt`, whose compiler builds refuse.c. Each co
 2 workers, and on one of 40 directories by 7, again and again: the first, the second, the third and each later request
 for memory is refused, then all from the first on, from the second on, and so forth, each time until a run meets no
 refusal; and so is each start of a thread, of which there is none by 1 worker, and by others one fewer than they are for each
-thing that a command does, at most. A run must end with its full answer, or with status 5 and `out of memory`, nothing on
-standard output, no new layer, and the one that was there as it was.
+thing that a command does, at most. A run must end with its full answer, which is that by 1 worker, or with status 5 and
+`out of memory`, nothing on standard output, no new layer, and the one that was there as it was.
 
 Where no contract says how many threads share a thing, the starts are counted: of forty layers with forty contents and of a
 layer whose report has many lines, by 2, 4 and 12 workers. So a command is told in which one thread reads all manifests or
@@ -167,14 +167,21 @@ class Sweep:
         return words + write(str(folder), stack.layers)
 
 
+def by_one(words: list[str]) -> list[str]:
+    """The same words, with one worker."""
+    at = words.index("--workers") + 1
+    return [*words[:at], "1", *words[at + 1:]]
+
+
 def swept(program: str, library: str, sweep: Sweep) -> tuple[int, list[str]]:
     """How many runs there were, and what is told of those that ended wrongly."""
     with tempfile.TemporaryDirectory(prefix="ovl-refusals-") as folder:
         room = Path(folder)
         words = sweep.words(program, room)
         full, _, _ = run(words, room, {})
+        alone, _, _ = run(by_one(words), room, {})
         how = f"{sweep.command} of {sweep.stack} by {sweep.workers}"
-        wrong = [] if full.status in (0, 1, 3) else [f"{how}, nothing refused: {full}"]
+        wrong = [] if full.status in (0, 1, 3) and full == alone else [f"{how}, nothing refused: {full}, and by 1: {alone}"]
         for number in range(1, MOST):
             env = {"LD_PRELOAD": library, "REFUSE_AT": str(number), **WAYS[sweep.refused]}
             ending, _, refused = run(words, room, env)

@@ -1,7 +1,7 @@
 //! Bytes that go out whole, or those that a fault counts
 //! where a write fails; and blobs that are named.
 
-use crate::tables::same;
+use crate::tables::{parts_of, same};
 use ovl_engine::{Blob, EmitFault, emit, named_blobs};
 use std::alloc::{AllocError, Global};
 use std::io::{self, Error, Write};
@@ -59,21 +59,27 @@ fn told(alloc: Global, room: usize, fails: bool) -> Result<String, AllocError> {
     }
 }
 
+// The room of a writer, and what it does where it has none: it fails, or takes nothing.
+const ROOMS: &str = "\
+5 fails -> all [97, 98, 99, 100, 101]
+3 fails -> 3 [97, 98, 99]
+3 takes nothing -> 3 [97, 98, 99]
+0 takes nothing -> 0 []
+";
+
+fn row_told(alloc: Global, row: &str) -> Result<(), Fail> {
+    let (given, wanted) = parts_of(row);
+    let (room, end) = given.split_once(' ').unwrap_or((given, ""));
+    let found = told(alloc, room.parse()?, end == "fails")?;
+    same(row, found.as_str(), wanted)
+}
+
 #[test]
 fn all_bytes_go_out_or_those_that_the_fault_counts(rt: HostRuntime) -> Result<(), Fail> {
-    let alloc = rt.alloc();
-    same(
-        "room",
-        told(alloc, 5, true)?.as_str(),
-        "all [97, 98, 99, 100, 101]",
-    )?;
-    same("no room", told(alloc, 3, true)?.as_str(), "3 [97, 98, 99]")?;
-    same(
-        "none taken",
-        told(alloc, 3, false)?.as_str(),
-        "3 [97, 98, 99]",
-    )?;
-    same("nothing", told(alloc, 0, false)?.as_str(), "0 []")
+    for row in ROOMS.lines() {
+        row_told(rt.alloc(), row)?;
+    }
+    Ok(())
 }
 
 // The names of the blobs of these words, and their bytes.

@@ -8,14 +8,7 @@ use ovl_names::Path;
 use std::alloc::Global;
 use std::test::Fail;
 
-fn piece(alloc: Global, text: &str) -> Result<Piece, Fail> {
-    Ok(Piece {
-        space: 0,
-        dir: Path::parse(alloc, text)?,
-    })
-}
-
-fn seat(alloc: Global) -> Result<Seat, Fail>
+pub(crate) fn seat(alloc: Global) -> Result<Seat, Fail>
     ensures { IfOk result IsNew }
 {
     lanes(alloc, 1)?.pop().ok_or_else(|| Fail::from("no lane"))
@@ -34,51 +27,47 @@ fn steal_once(seat: &mut Seat) -> Option<Piece>
 
 #[test]
 fn there_are_1_to_64_lanes(rt: HostRuntime) -> Result<(), Fail> {
-    for (n, answer) in [
-        (0, Err(LaneFault::Count)),
-        (1, Ok(1)),
-        (64, Ok(64)),
-        (65, Err(LaneFault::Count)),
-    ] {
-        let number = lanes(rt.alloc(), n).map(|seats| seats.len());
-        assert_eq!(rt; number, answer, "at {n}");
+    for number in [0, 1, 64, 65] {
+        let is_refused = lanes(rt.alloc(), number).err() == Some(LaneFault::Count);
+        assert!(rt; is_refused == (number == 0 || number == 65), "at {number}");
     }
     Ok(())
 }
 
+fn piece_of(alloc: Global, space: u16) -> Piece {
+    Piece {
+        space,
+        dir: Path::root(alloc),
+    }
+}
+
+fn space_of(piece: Option<Piece>) -> Option<u16> {
+    match piece {
+        Some(piece) => Some(piece.space),
+        None => None,
+    }
+}
+
 #[test]
-fn a_pass_steals_the_first_piece(rt: HostRuntime) -> Result<(), Fail> {
+fn a_lane_gives_its_first_piece_to_a_pass_or_to_its_owner(rt: HostRuntime) -> Result<(), Fail> {
     let mut seat = seat(rt.alloc())?;
-    let a = piece(rt.alloc(), "/a")?;
-    let b = piece(rt.alloc(), "/b")?;
-    let pushed = [seat.lane.push(a), seat.lane.push(b)];
-    let stolen = steal_once(&mut seat);
+    let first = seat.lane.push(piece_of(rt.alloc(), 2)).is_ok();
+    let second = seat.lane.push(piece_of(rt.alloc(), 1)).is_ok();
+    let stolen = space_of(steal_once(&mut seat));
+    let popped = space_of(seat.lane.pop());
+    let third = seat.lane.push(piece_of(rt.alloc(), 3)).is_ok();
     let gathered = close(seat);
-    assert_eq!(rt; pushed, [Ok(()), Ok(())]);
-    assert_eq!(rt; stolen, Some(piece(rt.alloc(), "/a")?));
-    assert_eq!(rt; (gathered.pushed, gathered.taken, gathered.left), (2, 1, 1));
+    assert!(rt; first && second && third);
+    assert!(rt; (stolen, popped) == (Some(2), Some(1)));
+    assert!(rt; (gathered.pushed, gathered.taken, gathered.left) == (3, 2, 1));
     Ok(())
 }
 
 #[test]
 fn an_empty_lane_gives_nothing(rt: HostRuntime) -> Result<(), Fail> {
     let mut seat = seat(rt.alloc())?;
-    let pushed = seat.lane.push(piece(rt.alloc(), "/a")?);
-    let popped = seat.lane.pop();
-    let again = seat.lane.pop();
-    let stolen = steal_once(&mut seat);
-    assert_eq!(rt; pushed, Ok(()));
-    assert_eq!(rt; popped, Some(piece(rt.alloc(), "/a")?));
-    assert_eq!(rt; (again, stolen), (None, None));
-    Ok(())
-}
-
-#[test]
-fn a_lane_gives_its_first_piece(rt: HostRuntime) -> Result<(), Fail> {
-    let mut seat = seat(rt.alloc())?;
-    for text in ["/b", "/a"] {
-        assert_eq!(rt; seat.lane.push(piece(rt.alloc(), text)?), Ok(()));
-    }
-    assert_eq!(rt; seat.lane.pop(), Some(piece(rt.alloc(), "/b")?));
+    let popped = space_of(seat.lane.pop());
+    let stolen = space_of(steal_once(&mut seat));
+    assert!(rt; (popped, stolen) == (None, None));
     Ok(())
 }

@@ -9,4 +9,6 @@ mod lanes;
 #[cfg(test)]
 mod pool;
 #[cfg(test)]
+mod tables;
+#[cfg(test)]
 mod thieves;

@@ -1,8 +1,9 @@
 ghost use Rattle.std.specs.Prelude.{◌≡◌, []};
 ghost use Rattle.ovl_board.specs.Trees.{tree_kids, deepest_path};
 
+use crate::board::{piece, tree};
+use crate::tables::{parts_of, same};
 use ovl_board::{Piece, Tree, Work};
-use ovl_names::Path;
 use ovl_pool::{Gate, OpenGate, RunFault, Tally, run};
 use std::alloc::{AllocError, Global};
 use std::marker::Brand;
@@ -24,21 +25,6 @@ const YIELDS: u32 = 50_000;
 
 // And how often where that one wasn't refused yet.
 const YIELDS_BEFORE: u32 = 10_000_000;
-
-fn piece(alloc: Global, text: &str) -> Result<Piece, Fail> {
-    Ok(Piece {
-        space: 0,
-        dir: Path::parse(alloc, text)?,
-    })
-}
-
-fn tree(alloc: Global, texts: &str) -> Result<Tree, Fail> {
-    let mut paths = Vec::new(alloc);
-    for text in texts.split_whitespace() {
-        paths.push(Path::parse(alloc, text)?)?;
-    }
-    Ok(Tree::of(paths)?)
-}
 
 // What a tally answers where pieces with so many kids are delivered one after another by one worker, and how many pieces
 // are known and delivered then.
@@ -65,44 +51,64 @@ fn deliver_all(alloc: Global, pieces: &[u64]) -> Result<(Vec<bool>, u64, u64), A
     deliver_by::<Brand, Brand>(alloc, Blank::new(1), Blank::new(1), pieces)
 }
 
+fn tally_told(alloc: Global, pieces: &[u64]) -> Result<String, AllocError> {
+    let (answers, known, delivered) = deliver_all(alloc, pieces)?;
+    format!(in alloc; "{answers:?} {known} {delivered}")
+}
+
 #[test]
 fn a_tally_notes_each_known_piece_once_and_no_more_than_it_can_count(
     rt: HostRuntime,
 ) -> Result<(), Fail> {
-    let (answers, known, delivered) = deliver_all(rt.alloc(), &[2, 0, 0, 0])?;
-    assert_eq!(rt; answers.as_slice(), [true, true, true, false].as_slice());
-    assert_eq!(rt; (known, delivered), (3, 3));
-    let (answers, known, delivered) = deliver_all(rt.alloc(), &[u64::MAX, u64::MAX - 1, 1])?;
-    assert_eq!(rt; answers.as_slice(), [false, true, false].as_slice());
-    assert_eq!(rt; (known, delivered), (u64::MAX, 1));
-    Ok(())
+    let few = tally_told(rt.alloc(), &[2, 0, 0, 0])?;
+    same("few", few.as_str(), "[true, true, true, false] 3 3")?;
+    let most = tally_told(rt.alloc(), &[u64::MAX, u64::MAX - 1, 1])?;
+    same(
+        "most",
+        most.as_str(),
+        "[false, true, false] 18446744073709551615 1",
+    )
 }
 
-// The number of parcels of a run over the small tree, and its own numbers; or what is told of its fault.
+// Workers, and the parcels of a run over the small tree with its own numbers; or what is told of its fault.
+const RUNS: &str = "\
+0 -> there are 1 to 64 workers
+1 -> 3 RunCount { known: 3, delivered: 3, taken: 3, left: 0 }
+64 -> 3 RunCount { known: 3, delivered: 3, taken: 3, left: 0 }
+65 -> there are 1 to 64 workers
+";
+
 fn counted<R: Threads + Wait + Sync>(
     rt: &R,
     alloc: Global,
+    work: &Tree,
     workers: usize,
 ) -> Result<String, Fail> {
-    let root = piece(alloc, "/")?;
-    match run(rt, alloc, &tree(alloc, SMALL)?, root, workers, &OpenGate) {
+    match run(rt, alloc, work, piece(alloc, "/")?, workers, &OpenGate) {
         Ok((parcels, count)) => Ok(format!(in alloc; "{} {count:?}", parcels.len())?),
         Err(fault) => Ok(fault.to_string(alloc)?),
     }
 }
 
+fn row_counted<R: Threads + Wait + Sync>(
+    rt: &R,
+    alloc: Global,
+    work: &Tree,
+    row: &str,
+) -> Result<(), Fail> {
+    let (workers, wanted) = parts_of(row);
+    same(
+        row,
+        counted(rt, alloc, work, workers.parse()?)?.as_str(),
+        wanted,
+    )
+}
+
 #[test]
 fn a_run_gives_the_plain_walk_by_1_to_64_workers(rt: HostRuntime) -> Result<(), Fail> {
-    let refused = RunFault::Workers.to_string(rt.alloc())?;
-    let whole = "3 RunCount { known: 3, delivered: 3, taken: 3, left: 0 }";
-    for (workers, wanted) in [
-        (0, refused.as_str()),
-        (1, whole),
-        (64, whole),
-        (65, refused.as_str()),
-    ] {
-        let counted = counted(&rt, rt.alloc(), workers)?;
-        assert_eq!(rt; counted.as_str(), wanted, "by {workers}");
+    let work = tree(rt.alloc(), SMALL)?;
+    for row in RUNS.lines() {
+        row_counted(&rt, rt.alloc(), &work, row)?;
     }
     Ok(())
 }
@@ -187,13 +193,24 @@ impl Work for Watched {
     }
 }
 
+fn is_in_turn<R: Threads + Wait + Sync>(
+    rt: &R,
+    alloc: Global,
+    watched: &Watched,
+    workers: usize,
+) -> Result<bool, Fail> {
+    run(rt, alloc, watched, piece(alloc, "/")?, workers, watched)?;
+    Ok(watched.was_in_turn())
+}
+
 #[test]
 fn the_gate_is_asked_once_for_each_piece_before_its_visit(rt: HostRuntime) -> Result<(), Fail> {
     for workers in [1, 2, 7] {
-        let watched = Watched::of(rt.alloc(), SMALL)?;
-        let root = piece(rt.alloc(), "/")?;
-        run(&rt, rt.alloc(), &watched, root, workers, &watched)?;
-        assert!(rt; watched.was_in_turn(), "at {workers}");
+        let watched = Watched::of(rt.alloc(), DEEP)?;
+        assert!(rt;
+            is_in_turn(&rt, rt.alloc(), &watched, workers)?,
+            "at {workers}"
+        );
     }
     Ok(())
 }
@@ -245,13 +262,21 @@ impl Gate for Refusing {
     }
 }
 
+fn ends_refused<R: Threads + Wait + Sync>(
+    rt: &R,
+    alloc: Global,
+    work: &Tree,
+    gate: &Refusing,
+) -> Result<bool, Fail> {
+    let answer = run(rt, alloc, work, piece(alloc, "/")?, 2, gate);
+    Ok(answer.err() == Some(RunFault::Gate))
+}
+
 #[test]
 fn the_others_end_once_a_worker_is_refused(rt: HostRuntime) -> Result<(), Fail> {
     let work = tree(rt.alloc(), DEEP)?;
     let gate = Refusing::of(rt.alloc(), "/b/c/d/e/f/g/h/i/j")?;
-    let root = piece(rt.alloc(), "/")?;
-    let answer = run(&rt, rt.alloc(), &work, root, 2, &gate);
-    assert_eq!(rt; answer, Err(RunFault::Gate));
+    assert!(rt; ends_refused(&rt, rt.alloc(), &work, &gate)?);
     assert!(rt; !gate.was_asked_for_last.load(Ordering::SeqCst));
     Ok(())
 }
@@ -325,25 +350,35 @@ impl Work for Meet {
     }
 }
 
+impl Meet {
+    fn of(alloc: Global) -> Result<Meet, Fail> {
+        let (a, b) = (piece(alloc, "/a")?, piece(alloc, "/b")?);
+        let tree = tree(alloc, SMALL)?;
+        Ok(Meet {
+            tree,
+            a: Place::new(a),
+            b: Place::new(b),
+        })
+    }
+}
+
 // Whether the visits of `/a` and of `/b` saw each other.
 fn visited<R: Threads + Wait + Sync>(
     rt: &R,
     alloc: Global,
+    work: &Meet,
     workers: usize,
 ) -> Result<(bool, bool), Fail> {
-    let work = Meet {
-        tree: tree(alloc, SMALL)?,
-        a: Place::new(piece(alloc, "/a")?),
-        b: Place::new(piece(alloc, "/b")?),
-    };
-    run(rt, alloc, &work, piece(alloc, "/")?, workers, &OpenGate)?;
+    run(rt, alloc, work, piece(alloc, "/")?, workers, &OpenGate)?;
     Ok((work.a.has_seen(), work.b.has_seen()))
 }
 
 #[test]
 fn several_workers_visit_at_the_same_time(rt: HostRuntime) -> Result<(), Fail> {
-    for (workers, seen) in [(1, (false, true)), (2, (true, true)), (4, (true, true))] {
-        assert_eq!(rt; visited(&rt, rt.alloc(), workers)?, seen, "at {workers}");
+    for workers in [1, 2, 4] {
+        let work = Meet::of(rt.alloc())?;
+        let seen = visited(&rt, rt.alloc(), &work, workers)?;
+        assert!(rt; seen == (workers > 1, true), "at {workers}");
     }
     Ok(())
 }

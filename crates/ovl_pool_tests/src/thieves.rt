@@ -5,8 +5,9 @@ ghost use Rattle.std.specs.Thread.{IsSync};
 ghost use Rattle.ovl_lanes.specs.Lanes.{account_of, thief_id, IsPass, IsSameLane};
 ghost use Rattle.ovl_lanes.specs.Seats.{IsNew};
 
+use crate::lanes::seat;
 use ovl_board::Piece;
-use ovl_lanes::{Gathered, Lane, Pass, Seat, Thief, close, lanes};
+use ovl_lanes::{Gathered, Lane, Pass, Seat, Thief, close};
 use ovl_names::Path;
 use std::alloc::{AllocError, Global};
 use std::test::Fail;
@@ -147,19 +148,19 @@ fn hammered<R: Threads + Sync>(
     Ok((close(seat), stolen))
 }
 
+// Whether no piece is there twice.
+fn are_different(pieces: &mut Vec<Piece>) -> Result<bool, AllocError> {
+    let number = pieces.len();
+    pieces.sort()?;
+    pieces.dedup();
+    Ok(pieces.len() == number)
+}
+
 #[test]
 fn no_piece_is_lost_or_stolen_twice(rt: HostRuntime) -> Result<(), Fail> {
-    let Some(seat) = lanes(rt.alloc(), 1)?.pop() else {
-        return Err(Fail::from("no lane"));
-    };
-    let (gathered, mut stolen) = hammered(&rt, rt.alloc(), seat)?;
-    let number = stolen.len();
-    stolen.sort()?;
-    stolen.dedup();
-    assert_eq!(rt;
-        (gathered.pushed, gathered.taken + gathered.left),
-        (10_000, 10_000)
-    );
-    assert_eq!(rt; (gathered.taken, stolen.len()), (number as u64, number));
+    let (gathered, mut stolen) = hammered(&rt, rt.alloc(), seat(rt.alloc())?)?;
+    assert!(rt; gathered.taken == stolen.len() as u64);
+    assert!(rt; (gathered.pushed, gathered.taken + gathered.left) == (10_000, 10_000));
+    assert!(rt; are_different(&mut stolen)?);
     Ok(())
 }

@@ -58,8 +58,25 @@ impl<'a> Directory<'a> {
         }))
     }
 
+    // The pieces of the directories in it, and the names in it, each with whether its entry is idle.
+    pub(crate) fn told(
+        &self,
+        alloc: Global,
+        space: u16,
+    ) -> Result<(Vec<Piece>, Vec<(Name, bool)>), AllocError>
+        requires { IsVisited self.now.stack.now self.now.path.now self.now }
+        ensures kids { IfOk result (λ told. told.0.items
+            ≡ vacuum_kids self.now.stack.now (directory_piece space self.now.path.now)) }
+        ensures names { IfOk result (λ told. told.1.items
+            ≡ map (idle_name self.now.stack.now self.now.path.now) (names_below (top_layer self.now.stack.now) self.now.path.now)) }
+    {
+        let kids = self.kids(alloc, space)?;
+        let names = self.idle_names(alloc)?;
+        Ok((kids, names))
+    }
+
     // The pieces of the directories in it.
-    pub(crate) fn kids(&self, alloc: Global, space: u16) -> Result<Vec<Piece>, AllocError>
+    fn kids(&self, alloc: Global, space: u16) -> Result<Vec<Piece>, AllocError>
         requires { IsVisited self.now.stack.now self.now.path.now self.now }
         ensures { IfOk result (λ kids. kids.items ≡ vacuum_kids self.now.stack.now (directory_piece space self.now.path.now)) }
     {
@@ -76,7 +93,7 @@ impl<'a> Directory<'a> {
     }
 
     // The names in it, each with whether its entry is idle.
-    pub(crate) fn idle_names(&self, alloc: Global) -> Result<Vec<(Name, bool)>, AllocError>
+    fn idle_names(&self, alloc: Global) -> Result<Vec<(Name, bool)>, AllocError>
         requires { IsVisited self.now.stack.now self.now.path.now self.now }
         ensures { IfOk result (λ names. names.items
             ≡ map (idle_name self.now.stack.now self.now.path.now) (names_below (top_layer self.now.stack.now) self.now.path.now)) }

@@ -63,9 +63,7 @@ impl<'a> Work for VacuumWork<'a> {
         let Some(directory) = Directory::of(alloc, self.stack, &piece.dir)? else {
             return Ok((Vec::new(alloc), Vec::new(alloc)));
         };
-        let kids = directory.kids(alloc, piece.space)?;
-        let idle_names = directory.idle_names(alloc)?;
-        Ok((kids, idle_names))
+        directory.told(alloc, piece.space)
     }
 
     fn deepest(&self) -> u32 {

@@ -1,5 +1,6 @@
 use Rattle.std.proofs.Common.{◌≡◌, ◌∙◌, [], Option, subst}
 use Rattle.std.specs.Prelude.{MatchOption}
+use Rattle.std.proofs.lemmas.Result.{IfOk-weaker}
 use Rattle.ovl_layer.specs.Layers.{names_below}
 use Rattle.ovl_lookup.specs.Words.{top_layer}
 use Rattle.ovl_vacuum.specs.declared.directories.Directory.{Directory}
@@ -14,24 +15,25 @@ visited c =
     subst (λ (found : Option Directory). MatchOption found (names_below (top_layer c.self.inside.stack.now) c.args.piece.now.dir ≡ []) (IsVisited c.self.inside.stack.now c.args.piece.now.dir))
     c.in-Some.is c.in_ok-directory.ensures
 
-pub kids-requires : goal.kids-requires
-kids-requires c = visited-own c.self.inside.stack.now c.args.piece.now.dir c.in-Some.directory (visited (goal.at.kids-requires c).In-Some)
-
-pub idle_names-requires : goal.idle_names-requires
-idle_names-requires c = visited-own c.self.inside.stack.now c.args.piece.now.dir c.in-Some.directory (visited (goal.at.idle_names-requires c).In-Some)
+pub told-requires : goal.told-requires
+told-requires c = visited-own c.self.inside.stack.now c.args.piece.now.dir c.in-Some.directory (visited (goal.at.told-requires c).In-Some)
 
 pub returns-clause-kids : goal.returns-clause-kids
 returns-clause-kids c =
     let piece = c.args.piece.now in
     let is = visited (goal.at.returns-clause-kids c).In-Some in
-    c.in_ok-kids.ensures
+    IfOk-weaker c.told.result _ _
+    (λ told e. e
     ∙ ((λ j. vacuum_kids (is.over j) (directory_piece piece.space (is.stands j)))
-    ∙ (λ j. vacuum_kids (c.self.view_is j) piece))
+    ∙ (λ j. vacuum_kids (c.self.view_is j) piece)))
+    c.told.ensures.kids
 
 pub returns-clause-out : goal.returns-clause-out
 returns-clause-out c =
     let piece = c.args.piece.now in
     let is = visited (goal.at.returns-clause-out c).In-Some in
-    c.in_ok-idle_names.ensures
+    IfOk-weaker c.told.result _ _
+    (λ told e. e
     ∙ ((λ j. vacuum_out (is.over j) (directory_piece piece.space (is.stands j)))
-    ∙ (λ j. vacuum_out (c.self.view_is j) piece))
+    ∙ (λ j. vacuum_out (c.self.view_is j) piece)))
+    c.told.ensures.names
