@@ -31,7 +31,8 @@ import tempfile
 from collections.abc import Callable, Iterator, Sequence
 from dataclasses import dataclass, replace
 
-from growth import METACOPY, NSEC, REDIRECT, Entry, First, Layer, Sources, entry, manifest_of, write
+from entries import METACOPY, NSEC, REDIRECT, Entry, entry
+from growth import First, Layer, Sources, manifest_of, write
 
 OPAQUE, WHITEOUT = "trusted.overlay.opaque", "trusted.overlay.whiteout"
 CONTENTS = ("", "a", "b", "abc")

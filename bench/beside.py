@@ -29,7 +29,8 @@ from dataclasses import dataclass, replace
 
 import ample
 from generate import MOST_NAMES
-from growth import METACOPY, NSEC, REDIRECT, Entry, First, Layer, chain, entry, write
+from entries import METACOPY, NSEC, REDIRECT, Entry, entry
+from growth import First, Layer, chain, write
 
 COMMANDS = ("show", "fsck", "vacuum", "deref", "merge", "flatten")
 WORKERS = (1, 2, 3, 4, 7, 64)

@@ -17,7 +17,8 @@ import sys
 import tempfile
 from dataclasses import dataclass
 
-from growth import METACOPY, NSEC, REDIRECT, Entry, Layer, entry, write
+from entries import METACOPY, NSEC, REDIRECT, Entry, entry
+from growth import Layer, write
 from instructions import instructions
 
 CONTENTS = b"x" * 65_536

@@ -22,6 +22,7 @@ import tempfile
 from collections.abc import Iterator, Sequence
 
 import run
+from entries import entry
 from generate import LAST
 
 WORKERS = (1, 2, 4)
@@ -82,14 +83,13 @@ def make_blobs(folder: str, count: int, size: int) -> tuple[str, str]:
     blobs = os.path.join(folder, "blobs")
     os.mkdir(blobs)
     bits = random.Random(1)
-    entry = {"uid": 0, "gid": 0, "mtime": 0, "mtime-nsec": 0, "xattrs": {}}
-    entries = [dict(entry, path="/", kind="dir", mode=0o755)]
+    entries = [entry("/")]
     for n in range(count):
         content = bits.randbytes(size)
         name = hashlib.sha256(content).hexdigest()
         with open(os.path.join(blobs, name), "wb") as file:
             file.write(content)
-        entries.append(dict(entry, path="/f%07d" % n, kind="file", mode=0o644, size=size, blob=name))
+        entries.append(entry("/f%07d" % n, "file", size=size, blob=name))
     layer = os.path.join(folder, "blobs.json")
     with open(layer, "w") as file:
         json.dump({"overlay-layer": LAST, "entries": entries}, file, separators=(",", ":"), sort_keys=True)

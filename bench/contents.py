@@ -22,7 +22,8 @@ from dataclasses import dataclass
 from typing import BinaryIO
 
 import run
-from growth import entry, write
+from entries import entry
+from growth import write
 
 KIB, MIB, GIB = 1 << 10, 1 << 20, 1 << 30
 # What a run may take beyond `show`: for itself, and for each file.

@@ -22,19 +22,14 @@ import sys
 import tempfile
 from collections.abc import Callable, Mapping, Sequence
 from dataclasses import dataclass
-from typing import Any
 
 import instructions
 import run
+from entries import METACOPY, NSEC, OPAQUE, REDIRECT, Entry, entry
 from generate import LAST
 
 CONTENTS = b"x"
 BLOB = hashlib.sha256(CONTENTS).hexdigest()
-REDIRECT = "trusted.overlay.redirect"
-METACOPY = "trusted.overlay.metacopy"
-OPAQUE = "trusted.overlay.opaque"
-# The member of entries that version 1 of the manifest hasn't.
-NSEC = "mtime-nsec"
 # Growth of the instructions for a byte, at each doubling, that isn't told.
 ALLOWED = 1.2
 # The most bytes of memory for a byte of a manifest that anyone may hand in, and the status of one that is refused.
@@ -43,16 +38,10 @@ MOST, REFUSED = 12.0, 3
 
 # ---- layers: lists of entries, which are put into path order where they are written
 
-Entry = dict[str, Any]
 Layer = list[Entry]
 # What a manifest is written of: a layer, a function that makes it, or a text as it stands.
 Source = Layer | Callable[[], Layer] | str
 Sources = Sequence[Source]
-
-
-def entry(path: str, kind: str = "dir", attrs: Mapping[str, str] | None = None, **more: object) -> Entry:
-    return {"path": path, "kind": kind, "mode": 0o755 if kind == "dir" else 0o644, "uid": 0, "gid": 0, "mtime": 0, NSEC: 0,
-            "xattrs": {name: value.encode().hex() for name, value in (attrs or {}).items()}, **more}
 
 
 def file(path: str) -> Entry:

@@ -25,7 +25,8 @@ from dataclasses import dataclass
 from pathlib import Path
 
 from generate import MOST_NAMES, Generator
-from growth import REDIRECT, Entry, Layer, entry, manifest_of
+from entries import REDIRECT, Entry, entry
+from growth import Layer, manifest_of
 from refusals import build
 
 ENTRIES, MOST = 10_000, 0.8

@@ -29,6 +29,8 @@ from collections.abc import Callable, Sequence
 from dataclasses import dataclass
 from typing import Any
 
+from entries import METACOPY, NSEC
+
 WORKERS = (1, 4)
 # Seconds after which a program counts as one that gives no answer, and how many bytes of an answer are printed.
 LONGEST, TOLD = 120, 400
@@ -36,13 +38,11 @@ LONGEST, TOLD = 120, 400
 TWO, NONE, STACKED = 0.15, 0.03, 0.25
 
 MOST_ENTRIES = 1_048_576
-# How many names a path may have, by version; and the member of entries that version 1 hasn't.
+# How many names a path may have, by version.
 DEEPEST = {1: 64, 2: 128}
-NSEC = "mtime-nsec"
 KINDS = ("dir", "dir", "dir", "file", "file", "file", "symlink", "char", "block", "fifo", "socket")
 NAMES = ("a", "b", "bin", "lib", "etc", "a b", "a-b", "a.b", "\u00e9", "\u65e5\u672c", "\U0001f600", "\\", '"', "=", "~",
          "\x7f", "\n", "\t", "\x01", "..a", "...", "x" * 60)
-METACOPY = "trusted.overlay.metacopy"
 ATTRIBUTES = (("user.k", b"\x01\x02"), ("user.k", b""), ("user.\u00e9", b"\xff"), ('user."', b"q"),
               ("security.selinux", b"system_u:object_r:etc_t:s0\0"), ("trusted.overlay.opaque", b"y"),
               ("trusted.overlay.opaque", b"x"), ("trusted.overlay.redirect", b"/a/b"), ("trusted.overlay.redirect", b"a"),

@@ -61,7 +61,7 @@ def touched_by(change: str) -> Iterator[Touched]:
 
 def naming(words: list[str]) -> Iterator[Touched]:
     sought = [part for word in words for part in ("-e", word)]
-    for line in git("grep", "--count", "-I", "--fixed-strings", *sought):
+    for line in git("grep", "--count", "-I", "--fixed-strings", "--word-regexp", *sought):
         path, _, count = line.rpartition(":")
         yield Touched(path, [int(count)])
 

@@ -13,6 +13,7 @@ from pathlib import Path
 
 ROOT = Path(__file__).resolve().parents[2]
 COMMAND = ROOT / "layers.py"
+ROOT_LAYER = ROOT / "examples" / "root.json"  # a layer of a root alone
 PROGRAM = ROOT / "crates" / "ovl_layers" / "out" / "ovl_layers"
 sys.path.insert(0, str(ROOT))
 sys.dont_write_bytecode = True

@@ -23,7 +23,7 @@ import unittest
 import zlib
 from unittest import mock
 
-from support import COMMAND, ROOT, FolderTest, call, links, run, run_as_anybody, why_no_trusted
+from support import COMMAND, ROOT, ROOT_LAYER, FolderTest, call, links, run, run_as_anybody, why_no_trusted
 
 from convert import places
 from convert.compression import BLOCK, GZIP, packing
@@ -44,10 +44,10 @@ class CommandTest(FolderTest):
 
     def write_manifest(self, *entries: dict[str, object]) -> str:
         """A manifest of a root and these entries, with the blob of `a`."""
-        base = {"kind": "dir", "mode": 493, "uid": os.geteuid(), "gid": os.getegid(), "mtime": 0, "mtime-nsec": 0, "xattrs": {}}
+        layer = json.loads(ROOT_LAYER.read_text(encoding="utf-8"))
+        root = {**layer["entries"][0], "uid": os.geteuid(), "gid": os.getegid()}
         with open(self.path("l.json"), "w", encoding="utf-8") as file:
-            whole = [{**base, "path": "/"}, *({**base, **entry} for entry in entries)]
-            json.dump({"overlay-layer": 2, "entries": whole}, file)
+            json.dump({**layer, "entries": [root, *({**root, **entry} for entry in entries)]}, file)
         os.makedirs(self.path("blobs"), exist_ok=True)
         with open(self.path("blobs", A), "wb") as blob:
             blob.write(b"a")

@@ -14,7 +14,7 @@ import unittest
 
 from images import archive, folder, member, packed, write_layout
 from kernel_stacks import linked_names
-from support import COMMAND, FolderTest, call, links, program_words, why_no_trusted
+from support import COMMAND, ROOT_LAYER, FolderTest, call, links, program_words, why_no_trusted
 
 NAMES = [f"usr/lib/git-core/git-{number}" for number in range(140)]
 GIT = random.Random(1).randbytes(1 << 20)
@@ -210,11 +210,8 @@ class Links(FolderTest):
         write_layout(self.path("image"), [packed(b"".join(members))])
         self.bounded("unpack", self.path("image"), "--out", self.path("stack"))
         self.assertGreater(os.path.getsize(self.path("stack", "shown.links")), 39_000_000)
-        with open(self.path("small.json"), "w", encoding="utf-8") as file:
-            file.write('{"entries":[{"gid":0,"kind":"dir","mode":493,"mtime":0,"mtime-nsec":0,"path":"/","uid":0,'
-                       '"xattrs":{}}],"overlay-layer":2}\n')
         self.bounded(
-            "pack", self.path("small.json"), "--blobs", self.folder, "--links", self.path("stack", "shown.links"),
+            "pack", str(ROOT_LAYER), "--blobs", self.folder, "--links", self.path("stack", "shown.links"),
             "--out", self.path("out.tar"),
         )
 

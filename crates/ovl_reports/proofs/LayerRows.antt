@@ -1,5 +1,5 @@
 -- Worked reports of new layers, computed.
-use Rattle.std.specs.Prelude.{◌≡◌, pos, None, [], ◌∷◌, codes, refl}
+use Rattle.std.specs.Prelude.{◌≡◌, None, [], ◌∷◌, codes, refl}
 use Rattle.std.specs.Fmt.{digits}
 use Rattle.hex.specs.Hex.{encode_with}
 use Rattle.ovl_names.specs.Paths.{PathNames}
@@ -8,11 +8,12 @@ use Rattle.ovl_inode.specs.declared.inodes.Kind.{Kind}
 use Rattle.ovl_inode.specs.declared.inodes.Kind.TheVariants.{Dir, File, Char}
 use Rattle.ovl_inode.proofs.OnLiterals.{inode_on_literals}
 use Rattle.ovl_layer.specs.Layers.{Entry}
+use Rattle.ovl_lookup.proofs.Notation.{plain_inode}
 use Rattle.ovl_reports.specs.LayerReports.{layer_report}
 
 -- an entry of user, group and time 0
 abbrev entry : PathNames → Kind → Attributes → Entry
-entry path kind attrs = (path, record { kind = kind; mode = 0o644; uid = 0; gid = 0; mtime = pos 0; nsec = 0; attrs = attrs })
+entry path kind attrs = (path, plain_inode kind 0o644 attrs)
 
 abbrev root : Entry
 root = entry [] Dir []
