@@ -1,4 +1,4 @@
-use Rattle.std.proofs.Common.{◌≡◌, ◌∙◌, ◌∷◌, ◌++◌, ◌<◌, [], List, ℕ, not, sym, ap, subst, length, take, arith}
+use Rattle.std.proofs.Common.{◌≡◌, ◌∙◌, ◌∷◌, ◌++◌, ◌<◌, [], List, ℕ, not, sym, ap, subst, length, arith}
 use Rattle.std.specs.Prelude.{IsTrue, Contains, ◌↔◌, true}
 use Rattle.std.proofs.lemmas.List.{take_all}
 use Rattle.ovl_names.specs.Order.{ascends}

@@ -2,9 +2,8 @@ use Rattle.std.proofs.Common.{◌∙◌, ap}
 use Rattle.ovl_names.specs.Paths.{PathNames}
 use Rattle.ovl_lookup.specs.Merged.{look}
 use Rattle.ovl_lookup.specs.Sights.{sight_of}
-use Rattle.ovl_lookup.specs.Sound.{is_seen_there}
 use Rattle.ovl_check.specs.declared.facts.OldPlace.TheVariants.{Open}
-use Rattle.ovl_check.specs.Checks.{layer_at, layers_below}
+use Rattle.ovl_check.specs.Checks.{layers_below}
 use Rattle.ovl_check.proofs.gathering.open_place.Goals as goal
 
 pub returns : goal.returns
