@@ -154,13 +154,15 @@ class Broken(HostileTest):
         self.require_refused("gzip stream is broken")
 
     def test_what_is_read_ahead(self) -> None:
-        """An entry is told before a gzip stream that breaks off behind it, and no thread is left."""
+        """An entry is told before a stream that breaks off behind it, and no thread is left."""
         data = os.urandom(1 << 20)
-        for first, because in ((member("v", kind=b"V"), "an entry of type"), (member("f"), "gzip stream is broken")):
-            write_layout(self.path("image"), [packed(archive([first, member("g", data)]))[:-1_000]])
-            self.require_refused(because)
-            self.assertEqual(threading.active_count(), 1)
-            self.empty()
+        for first, because in ((member("v", kind=b"V"), "an entry of type"), (member("f"), "stream is broken")):
+            layer = archive([first, member("g", data)])
+            for whole in (packed(layer), *_by_zstd(layer)):
+                write_layout(self.path("image"), [whole[:-1_000]], [layer])
+                self.require_refused(because)
+                self.assertEqual(threading.active_count(), 1)
+                self.empty()
 
     def test_truncated_archives(self) -> None:
         whole = archive([member("f", bytes(1_000)), member("g", bytes(1_000))])
@@ -519,6 +521,12 @@ class Bomb(HostileTest):
             + _packed_zeros(GIGABYTE // 16) * (BOMB_BYTES // (GIGABYTE // 16))
             + gzip.compress(bytes(1024), mtime=0)
         )
+
+
+def _by_zstd(data: bytes) -> list[bytes]:
+    """Packed by zstd, where that is there."""
+    zstd = shutil.which("zstd")
+    return [subprocess.run([zstd, "-q"], input=data, stdout=subprocess.PIPE, check=True).stdout] if zstd else []
 
 
 def _global_records(records: dict[str, str]) -> bytes:

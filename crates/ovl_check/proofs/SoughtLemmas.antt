@@ -1,5 +1,5 @@
 -- The doubles among directories are those by the places of moved ones alone.
-use Rattle.std.proofs.Common.{◌≡◌, ◌⊎◌, inl, inr, Bool, true, false, cond, Option, Some, None, List, [], ◌∷◌, ◌++◌, refl, sym, ap, ◌∙◌, subst}
+use Rattle.std.proofs.Common.{◌≡◌, inl, inr, Bool, true, false, cond, Option, Some, None, List, [], ◌∷◌, ◌++◌, refl, sym, ap, ◌∙◌, subst}
 use Rattle.std.specs.Prelude.{◌&&◌}
 use Rattle.ovl_names.specs.Paths.{PathNames}
 use Rattle.ovl_board.proofs.LawsOfMembers.{In}
@@ -46,8 +46,8 @@ module _ (wanted : List PathNames) where
       by false e = λ q h. (
         λ there. elim (with-cases q places (Some p) there) [
           | inl is ↦
-            let same : p ≡ q = ap (λ (o : Option PathNames). elim o as (λ _. PathNames) [ Some r ↦ r | None ↦ p ]) is in
-            let bad : true ≡ false = sym (In-among wanted p (subst (λ (r : PathNames). In r wanted) (sym same) h)) ∙ e in cc
+              let same : p ≡ q = ap (λ (o : Option PathNames). elim o as (λ _. PathNames) [ Some r ↦ r | None ↦ p ]) is in
+              let bad : true ≡ false = sym (In-among wanted p (subst (λ (r : PathNames). In r wanted) (sym same) h)) ∙ e in cc
           | inr k ↦ (agree q h).0 k
         ],
         λ there. with-old q places (Some p) ((agree q h).1 there),

@@ -7,7 +7,7 @@ use Rattle.ovl_board.specs.Parcels.{parcel_views}
 use Rattle.ovl_check.specs.declared.findings.Finding.{Finding}
 use Rattle.ovl_check.specs.declared.subjects.CheckOut.{CheckOut}
 use Rattle.ovl_check.specs.Checks.{check_seen}
-use Rattle.ovl_check.specs.Walks.{View, doubles_after, doubles_among}
+use Rattle.ovl_check.specs.Walks.{View, doubles_among}
 use Rattle.ovl_check.proofs.FinishLemmas.{none-doubled}
 use Rattle.ovl_check.proofs.SoughtLemmas.{doubles-among_moved}
 use Rattle.ovl_check.proofs.finish.push_doubles.Goals as goal

@@ -1,13 +1,11 @@
-use Rattle.std.proofs.Common.{◌≡◌, ◌∙◌, Bool, true, false, Option, Some, None, sym, ap, subst}
-use Rattle.std.specs.Prelude.{not, unwrap_or}
+use Rattle.std.proofs.Common.{◌≡◌, ◌∙◌, true, false, Option, Some, sym, ap, subst}
+use Rattle.std.specs.Prelude.{unwrap_or}
 use Rattle.std.specs.Option.{option_map}
-use Rattle.ovl_names.specs.Paths.{PathNames, path_eq}
+use Rattle.ovl_names.specs.Paths.{PathNames}
 use Rattle.ovl_layer.specs.Layers.{Entries}
-use Rattle.ovl_lookup.specs.declared.steps.Step.{Step}
 use Rattle.ovl_lookup.specs.declared.steps.Found.{Found}
 use Rattle.ovl_lookup.specs.Passes.{own_step_of}
 use Rattle.ovl_lookup.specs.Walk.{walk}
-use Rattle.ovl_lookup.proofs.LawsOfPaths.{trail_eq-path}
 use Rattle.ovl_check.specs.Checks.{layer_at}
 use Rattle.ovl_lookup.specs.Stacks.{all_layers}
 use Rattle.ovl_check.proofs.SeenLemmas.{seen-closed, seen-elsewhere, seen-plain, seen-nothing, stays-by}
@@ -16,7 +14,6 @@ use Rattle.ovl_names.specs.Paths.{is_root}
 use Rattle.ovl_inode.specs.declared.inodes.Inode.{Inode}
 use Rattle.ovl_inode.specs.declared.marks.Mark.{Mark}
 use Rattle.ovl_inode.specs.Marks.{mark_of}
-use Rattle.ovl_layer.specs.Layers.{IsLayer}
 use Rattle.ovl_lookup.specs.Sound.{is_plain}
 use Rattle.ovl_check.proofs.GatherLemmas.{root-told}
 use Rattle.ovl_check.proofs.LayerFacts.{layer_at-is}

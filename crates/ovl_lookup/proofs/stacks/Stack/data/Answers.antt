@@ -1,7 +1,7 @@
 use denote.Ref.{Bor}
 use Rattle.ovl_names.specs.declared.paths.Path.{Path}
 use Rattle.ovl_lookup.specs.Merged.{place_of_data, data_at_place}
-use Rattle.std.proofs.Common.{◌≡◌, IfOk, Option, Some, Bool, subst, ◌<◌, ◌+◌, List, [], sym, ap, ◌∙◌, length, drop, cond, arith}
+use Rattle.std.proofs.Common.{◌≡◌, Option, Some, Bool, subst, ◌<◌, ◌+◌, List, [], sym, ap, ◌∙◌, length, drop, cond, arith}
 use Rattle.std.specs.Prelude.{IfSome}
 use Rattle.std.specs.Option.{option_map}
 use Rattle.ovl_names.specs.Paths.{PathNames}
