@@ -118,7 +118,8 @@ fn walked(alloc: Global, stack: &Stack, path: &Path) -> Result<String, Fail>
     requires { 0 < length (all_layers stack.now) }
 {
     let trail = Trail::of(alloc, &path.names())?;
-    let line = step_line(alloc, &follow(alloc, stack.any_sheet(0), trail)?.copied(alloc)?)?;
+    let step = follow(alloc, stack.any_sheet(0), trail)?.copied(alloc)?;
+    let line = step_line(alloc, &step)?;
     if step_line(alloc, &walk(alloc, stack.any_sheet(0), path)?)? != line {
         return Err(Fail::new("the walks differ"));
     }
