@@ -209,7 +209,7 @@ def is_packed(head: bytes) -> bool:
 def unpacked(part: io.RawIOBase, name: str, *, may_wait: bool = False) -> Iterator[Source]:
     """The bytes of an archive. Tells what is wrong with its packing as a fault of this name.
 
-    Threads work ahead, and are waited for at the end, but where they may have to wait, as for a pipe.
+    What feeds zstd is waited for at the end, but where it may itself have to wait for bytes, as for those of a pipe.
     """
     packed = io.BufferedReader(part, PIECE)
     head = packed.peek(HEAD_BYTES)[:HEAD_BYTES]
