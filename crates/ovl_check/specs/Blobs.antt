@@ -76,7 +76,8 @@ digits_piece digits = record { space = blob_space; dir = digits ∷ [] }
 -- the kids of the root are the two digits that occur
 abbrev pub blob_kids : List BlobView → Piece → List Piece
 blob_kids blobs piece =
-    if piece.space == blob_space && is_root piece.dir then map digits_piece (digits_of_names blobs) else []
+    if piece.space == blob_space && is_root piece.dir then map digits_piece (digits_of_names blobs)
+    else []
 
 -- the output of two digits is the names of their blobs with wrong bytes
 abbrev pub out_at : List BlobView → PathNames → List (List ℕ)

@@ -25,7 +25,8 @@ pub record CheckView : Type 0 where
   pub stack : StackView
   pub contents : List Content
 
--- what is seen of the output of a directory: its findings, its next path where its walk is open, and whether it is moved
+-- what is seen of the output of a directory: its findings, its next path where its walk is open,
+-- and whether it is moved
 pub record CheckSeen : Type 0 where
   pub findings : List Finding
   pub place : Option PathNames
@@ -54,7 +55,8 @@ abbrev pub check_kids : CheckView → Piece → List Piece
 check_kids work piece =
     let layer = layer_at work.stack piece.space in
     map (λ name. directory_piece piece.space (child_path piece.dir name))
-    (filter (λ name. is_directory_at layer (child_path piece.dir name)) (names_below layer piece.dir))
+    (filter (λ name. is_directory_at layer (child_path piece.dir name))
+    (names_below layer piece.dir))
 
 -- layer `i` isn't data-only, and the codes that are sought in it
 abbrev pub is_ordinary : StackView → ℕ → Bool
@@ -63,11 +65,14 @@ is_ordinary stack i = nat_lt i (length stack.layers)
 abbrev pub sought_in : StackView → ℕ → Code → Bool
 sought_in stack i = if is_ordinary stack i then any_code else is_blob_fault
 
--- a code other than redirect-double is sought in layer `i`, and its condition holds at an entry of that
+-- a code other than redirect-double is sought in layer `i`, and its condition holds at an entry of
+-- that
 abbrev pub holds_alone : CheckView → ℕ → Entry → Code → Bool
 holds_alone work i entry code =
     not (is_double code)
-    && (sought_in work.stack i code && holds_of_contents work.contents (layer_at work.stack i) (layers_below work.stack i) entry code)
+    && (sought_in work.stack i code
+    && holds_of_contents work.contents (layer_at work.stack i)
+    (layers_below work.stack i) entry code)
 
 -- the findings at an entry, redirect-double apart
 abbrev pub findings_alone : CheckView → ℕ → Entry → List Finding
@@ -76,7 +81,8 @@ findings_alone work i entry = map (finding i entry.0) (filter (holds_alone work 
 -- the same at a path, where there is an entry
 abbrev pub findings_at_path : CheckView → ℕ → PathNames → List Finding
 findings_at_path work i path =
-    elim (entry_at (layer_at work.stack i) path) [ Some inode ↦ findings_alone work i (path, inode) | None ↦ [] ]
+    elim (entry_at (layer_at work.stack i) path)
+    [ Some inode ↦ findings_alone work i (path, inode) | None ↦ [] ]
 
 -- those of a directory: at itself, and at each name in it that is no directory
 abbrev pub directory_findings : CheckView → ℕ → PathNames → List Finding
@@ -96,11 +102,20 @@ check_out work piece =
     if is_directory_at layer piece.dir
     then record {
       findings = directory_findings work piece.space piece.dir;
-      place = (if not (is_ordinary work.stack piece.space) || (walk layer piece.dir).closed then None else Some (walk layer piece.dir).next);
+      place =
+          (if not (is_ordinary work.stack piece.space) || (walk layer piece.dir).closed then None
+          else Some (walk layer piece.dir).next);
       moved = is_ordinary work.stack piece.space && is_moved (mark_at layer piece.dir);
     }
     else no_seen
 
 -- what is seen is plain data
 pub seen_set : IsSet CheckSeen
-seen_set = hlevel (is_set, Coded-set (coded_option (coded_list (coded_list coded_ℕ))), ℕ_set, Bool-set, Coded-set (code_type.the_row).coded)
+seen_set =
+    hlevel (
+      is_set,
+      Coded-set (coded_option (coded_list (coded_list coded_ℕ))),
+      ℕ_set,
+      Bool-set,
+      Coded-set (code_type.the_row).coded,
+    )

@@ -6,7 +6,8 @@ use Rattle.ovl_check.specs.declared.findings.Code.TheVariants.{RedirectForm, Red
 -- all codes in the order of a report: the faults of layers, the faults of blobs, and the notes
 abbrev pub all_codes : List Code
 all_codes =
-    RedirectForm ∷ RedirectLost ∷ RedirectKind ∷ RedirectDouble ∷ RedirectOpen ∷ DataMissing ∷ DataSize
+    RedirectForm ∷ RedirectLost ∷ RedirectKind ∷ RedirectDouble ∷ RedirectOpen ∷ DataMissing
+    ∷ DataSize
     ∷ BlobMissing ∷ BlobSize ∷ BlobDigest
     ∷ OrphanWhiteout ∷ WhiteoutInOpaque ∷ WhiteoutUnmarked ∷ ImpureMissing ∷ MarkIgnored ∷ []
 

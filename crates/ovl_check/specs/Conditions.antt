@@ -1,5 +1,5 @@
--- The condition of each code at an entry of a layer, over the blobs and the stack of the layers below.
--- Those on redirects and data stand with the sound stacks.
+-- The condition of each code at an entry of a layer, over the blobs and the stack of the layers
+-- below. Those on redirects and data stand with the sound stacks.
 use Rattle.std.specs.Prelude.{ℕ, Bool, true, false, ◌&&◌, ◌||◌, ◌==◌, not, Option, Some, None, List, length, codes, is_none}
 use Rattle.std.specs.List.{list_any, find}
 use Rattle.std.specs.Str.{bytes_eq}
@@ -28,7 +28,8 @@ find_blob blobs name = find (λ blob. bytes_eq blob.name name) blobs
 
 -- the inode names a blob, which isn't there
 abbrev pub blob_is_missing : List BlobView → Inode → Bool
-blob_is_missing blobs inode = elim (blob_of inode) [ Some name ↦ is_none (find_blob blobs name) | None ↦ false ]
+blob_is_missing blobs inode =
+    elim (blob_of inode) [ Some name ↦ is_none (find_blob blobs name) | None ↦ false ]
 
 -- the inode names a blob that is there, and that passes a test
 abbrev pub has_blob : (BlobView → Bool) → Option BlobView → Bool
@@ -36,11 +37,13 @@ has_blob test None = false
 has_blob test (Some blob) = test blob
 
 abbrev pub names_blob : (BlobView → Bool) → List BlobView → Inode → Bool
-names_blob test blobs inode = elim (blob_of inode) [ Some name ↦ has_blob test (find_blob blobs name) | None ↦ false ]
+names_blob test blobs inode =
+    elim (blob_of inode) [ Some name ↦ has_blob test (find_blob blobs name) | None ↦ false ]
 
 -- its length isn't the file's size
 abbrev pub blob_is_of_other_size : List BlobView → Inode → Bool
-blob_is_of_other_size blobs inode = names_blob (λ blob. not (length blob.bytes == size_of inode)) blobs inode
+blob_is_of_other_size blobs inode =
+    names_blob (λ blob. not (length blob.bytes == size_of inode)) blobs inode
 
 -- its bytes have another digest
 abbrev pub blob_is_wrong : List BlobView → Inode → Bool
@@ -58,7 +61,8 @@ is_in_opaque layer path = is_opaque (mark_at layer (parent_path path))
 
 abbrev pub is_in_marked : Entries → PathNames → Bool
 is_in_marked layer path =
-    elim (entry_at layer (parent_path path)) [ Some inode ↦ attribute_is inode opaque_name (codes "x") | None ↦ false ]
+    elim (entry_at layer (parent_path path))
+    [ Some inode ↦ attribute_is inode opaque_name (codes "x") | None ↦ false ]
 
 -- a whiteout outside an opaque directory that hides nothing; this profile's own
 abbrev pub whiteout_is_orphan : Entries → StackView → PathNames → Inode → Bool
@@ -66,24 +70,28 @@ whiteout_is_orphan layer below path inode =
     is_whiteout inode && not (is_in_opaque layer path)
     && ((walk layer (parent_path path)).closed || is_nothing (look below (natural_path layer path)))
 
--- a whiteout in an opaque directory, which hides everything by itself; overlayfs.rst, "whiteouts and opaque directories"
+-- a whiteout in an opaque directory, which hides everything by itself; overlayfs.rst, "whiteouts
+-- and opaque directories"
 abbrev pub whiteout_is_in_opaque : Entries → PathNames → Inode → Bool
 whiteout_is_in_opaque layer path inode = is_whiteout inode && is_in_opaque layer path
 
--- a whiteout by attribute in a directory that is neither opaque nor marked as holding such; overlayfs.rst, "whiteouts and
--- opaque directories" on the value `x`
+-- a whiteout by attribute in a directory that is neither opaque nor marked as holding such;
+-- overlayfs.rst, "whiteouts and opaque directories" on the value `x`
 abbrev pub whiteout_is_unmarked : Entries → PathNames → Inode → Bool
 whiteout_is_unmarked layer path inode =
-    is_whiteout inode && is_regular inode && not (is_in_opaque layer path) && not (is_in_marked layer path)
+    is_whiteout inode && is_regular inode && not (is_in_opaque layer path)
+    && not (is_in_marked layer path)
 
 -- ---- marks
 
 -- the entry at a path has `origin`
 abbrev pub has_origin_at : Entries → PathNames → Bool
-has_origin_at layer path = elim (entry_at layer path) [ Some inode ↦ has_attribute inode origin_name | None ↦ false ]
+has_origin_at layer path =
+    elim (entry_at layer path) [ Some inode ↦ has_attribute inode origin_name | None ↦ false ]
 
--- a directory that directly holds an entry with `origin` and isn't marked as impure; `origin` is that of overlayfs.rst,
--- "Changes to underlying filesystems", and `impure` what kernels write beside it, of which the document has nothing
+-- a directory that directly holds an entry with `origin` and isn't marked as impure; `origin` is
+-- that of overlayfs.rst, "Changes to underlying filesystems", and `impure` what kernels write
+-- beside it, of which the document has nothing
 abbrev pub impure_is_missing : Entries → PathNames → Inode → Bool
 impure_is_missing layer path inode =
     is_directory inode && not (attribute_is inode impure_name (codes "y"))
@@ -100,7 +108,8 @@ abbrev pub opaque_is_ignored : PathNames → Inode → Bool
 opaque_is_ignored path inode =
     has_attribute inode opaque_name
     && (not (is_directory inode)
-    || not (attribute_is inode opaque_name (codes "y") || attribute_is inode opaque_name (codes "x"))
+    || not (attribute_is inode opaque_name (codes "y")
+    || attribute_is inode opaque_name (codes "x"))
     || (attribute_is inode opaque_name (codes "y") && is_root path))
 
 -- `redirect` on the root, on an opaque directory, or on a non-directory that is no metacopy file

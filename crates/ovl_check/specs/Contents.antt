@@ -19,7 +19,11 @@ use Rattle.ovl_check.specs.Findings.{finding, any_code}
 
 -- what is told of a blob: its name, its length, and whether its bytes have that SHA-256 digest
 abbrev pub content_of : BlobView → Content
-content_of blob = record { name = blob.name; size = length blob.bytes; is_right = not (is_wrong blob) }
+content_of blob = record {
+  name = blob.name;
+  size = length blob.bytes;
+  is_right = not (is_wrong blob);
+}
 
 abbrev pub contents_of : List BlobView → List Content
 contents_of blobs = map content_of blobs
@@ -39,7 +43,8 @@ find_content contents name = find (λ content. bytes_eq content.name name) conte
 
 -- the inode names a blob of which no content is told
 abbrev pub content_is_missing : List Content → Inode → Bool
-content_is_missing contents inode = elim (blob_of inode) [ Some name ↦ is_none (find_content contents name) | None ↦ false ]
+content_is_missing contents inode =
+    elim (blob_of inode) [ Some name ↦ is_none (find_content contents name) | None ↦ false ]
 
 -- the inode names a blob whose content passes a test
 abbrev pub has_content : (Content → Bool) → Option Content → Bool
@@ -47,11 +52,14 @@ has_content test None = false
 has_content test (Some content) = test content
 
 abbrev pub names_content : (Content → Bool) → List Content → Inode → Bool
-names_content test contents inode = elim (blob_of inode) [ Some name ↦ has_content test (find_content contents name) | None ↦ false ]
+names_content test contents inode =
+    elim (blob_of inode)
+    [ Some name ↦ has_content test (find_content contents name) | None ↦ false ]
 
 -- its length isn't the file's size
 abbrev pub content_is_of_other_size : List Content → Inode → Bool
-content_is_of_other_size contents inode = names_content (λ content. not (content.size == size_of inode)) contents inode
+content_is_of_other_size contents inode =
+    names_content (λ content. not (content.size == size_of inode)) contents inode
 
 -- its bytes have another digest
 abbrev pub content_is_wrong : List Content → Inode → Bool
@@ -67,29 +75,38 @@ holds_of_contents contents layer below entry BlobDigest = content_is_wrong conte
 holds_of_contents contents layer below entry code = holds [] layer below entry code
 
 -- the findings of these codes at an entry of layer `i`, by code
-abbrev pub findings_of_contents_at : (Code → Bool) → List Content → ℕ → Entries → StackView → Entry → List Finding
+abbrev pub findings_of_contents_at : (Code → Bool) → List Content → ℕ → Entries → StackView → Entry
+    → List Finding
 findings_of_contents_at sought contents i layer below entry =
-    map (finding i entry.0) (filter (λ code. sought code && holds_of_contents contents layer below entry code) all_codes)
+    map (finding i entry.0)
+    (filter (λ code. sought code && holds_of_contents contents layer below entry code) all_codes)
 
 -- the findings of these codes in layer `i`, by path
-abbrev pub findings_of_contents_in : (Code → Bool) → List Content → ℕ → Entries → StackView → List Finding
-findings_of_contents_in sought contents i layer below = flat_map (findings_of_contents_at sought contents i layer below) layer
+abbrev pub findings_of_contents_in : (Code → Bool) → List Content → ℕ → Entries → StackView
+    → List Finding
+findings_of_contents_in sought contents i layer below =
+    flat_map (findings_of_contents_at sought contents i layer below) layer
 
--- the findings of data-only layers, of which the first is layer `i`: those of blobs; overlayfs.rst, "Data-only lower layers"
-abbrev pub data_findings_of_contents_from : List Content → StackView → ℕ → List Entries → List Finding
+-- the findings of data-only layers, of which the first is layer `i`: those of blobs; overlayfs.rst,
+-- "Data-only lower layers"
+abbrev pub data_findings_of_contents_from : List Content → StackView → ℕ → List Entries
+    → List Finding
 data_findings_of_contents_from contents stack i [] = []
 data_findings_of_contents_from contents stack i (layer ∷ layers) =
     findings_of_contents_in is_blob_fault contents i layer (record stack { layers = [] })
     ++ data_findings_of_contents_from contents stack (i + 1) layers
 
--- the findings of these layers of a stack, of which the first is layer `i`, and of its data-only ones under them
+-- the findings of these layers of a stack, of which the first is layer `i`, and of its data-only
+-- ones under them
 abbrev pub findings_of_contents_from : List Content → StackView → ℕ → List Entries → List Finding
-findings_of_contents_from contents stack i [] = data_findings_of_contents_from contents stack i stack.data_only
+findings_of_contents_from contents stack i [] =
+    data_findings_of_contents_from contents stack i stack.data_only
 findings_of_contents_from contents stack i (layer ∷ layers) =
     findings_of_contents_in any_code contents i layer (record stack { layers = layers })
     ++ findings_of_contents_from contents stack (i + 1) layers
 
--- the findings of a stack and of the contents that are told of its blobs, by layer, then by path, then by code
+-- the findings of a stack and of the contents that are told of its blobs, by layer, then by path,
+-- then by code
 abbrev pub findings_of_contents : List Content → StackView → List Finding
 findings_of_contents contents stack = findings_of_contents_from contents stack 0 stack.layers
 
@@ -102,4 +119,5 @@ TellsOfNamed contents others inode =
 
 -- the same of each blob that these layers name
 abbrev pub TellsOfLayers : List Content → List Content → List Entries → Type 0
-TellsOfLayers contents others layers = All (λ layer. All (λ entry. TellsOfNamed contents others entry.1) layer) layers
+TellsOfLayers contents others layers =
+    All (λ layer. All (λ entry. TellsOfNamed contents others entry.1) layer) layers

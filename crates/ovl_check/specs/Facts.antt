@@ -1,5 +1,5 @@
--- What the conditions ask of one entry of a layer, over the blobs and the stack of the layers below it, and the
--- condition of each code by that.
+-- What the conditions ask of one entry of a layer, over the blobs and the stack of the layers below
+-- it, and the condition of each code by that.
 use Rattle.std.specs.Prelude.{◌≡◌, ℕ, MatchOption, Bool, true, false, ◌&&◌, ◌||◌, ◌==◌, not, Option, Some, None, List, [], ◌∷◌, if◌then◌else◌, length, map, unwrap_or, All, codes}
 use Rattle.std.specs.List.{list_any, flat_map}
 use Rattle.std.specs.Option.{option_map}
@@ -53,14 +53,17 @@ held name (Some inode) = (name, inode) ∷ []
 
 -- what a directory directly holds
 abbrev pub held_in : Entries → PathNames → List (PathName × Inode)
-held_in layer directory = flat_map (λ name. held name (entry_at layer (child_path directory name))) (names_below layer directory)
+held_in layer directory =
+    flat_map (λ name. held name (entry_at layer (child_path directory name)))
+    (names_below layer directory)
 
 abbrev pub child_seen : Child → PathName × Inode
 child_seen child = (child.name.now, child.inode.now)
 
 -- what stands at a path, under its last name
 abbrev pub seen_at : Entries → PathNames → List (PathName × Inode)
-seen_at layer path = elim (last_name path) [ Some name ↦ held name (entry_at layer path) | None ↦ [] ]
+seen_at layer path =
+    elim (last_name path) [ Some name ↦ held name (entry_at layer path) | None ↦ [] ]
 
 -- its mark is that of its inode
 abbrev pub IsMarked : Child → Type 0
@@ -91,32 +94,40 @@ asks _ = false
 -- the view of the layers below layer `i` at a path, and none where they show no directory there
 abbrev pub IsBelow : StackView → ℕ → PathNames → Option DirView → Type 0
 IsBelow stack i next below =
-    MatchOption below (shows_directory (layers_below stack i) next ≡ false) (λ view. IsViewOf stack (first_below stack i) next view)
+    MatchOption below (shows_directory (layers_below stack i) next ≡ false)
+    (λ view. IsViewOf stack (first_below stack i) next view)
 
 -- a directory has that view where its walk goes on, if that is open and something in it asks
 abbrev pub IsBelowOf : StackView → ℕ → Directory → Type 0
 IsBelowOf stack i directory =
-    directory.closed ≡ false → list_any (λ child. asks child.mark.now) directory.children.items ≡ true
+    directory.closed ≡ false
+    → list_any (λ child. asks child.mark.now) directory.children.items ≡ true
     → IsBelow stack i (next_of directory) directory.below
 
 -- ---- the facts of an entry of a layer, by its mark
 
 -- what is shown, in a word
 abbrev pub thing_shown : Look → ThingShown
-thing_shown found = if is_nothing found then Nothing else if is_shown_directory found then DirectoryShown else OtherShown
+thing_shown found =
+    if is_nothing found then Nothing else if is_shown_directory found then DirectoryShown
+    else OtherShown
 
 -- the old place of a moved directory, by where its walk goes on
 abbrev pub old_place : Entries → StackView → PathNames → Bool → OldPlace
-old_place layer below next closed = if closed then Hidden else Open (thing_shown (look below next)) (is_seen_there layer next)
+old_place layer below next closed =
+    if closed then Hidden else Open (thing_shown (look below next)) (is_seen_there layer next)
 
--- the size of the data that a stack has at a path, below a metacopy file that says where data-only layers have it
+-- the size of the data that a stack has at a path, below a metacopy file that says where data-only
+-- layers have it
 abbrev pub data_size : StackView → Option PathNames → PathNames → Option ℕ
-data_size below place path = option_map size_of (data_below below.data_only place (things_found below.layers path))
+data_size below place path =
+    option_map size_of (data_below below.data_only place (things_found below.layers path))
 
 -- the same where a walk goes on
 abbrev pub data_size_on : StackView → Option PathNames → Step → Option ℕ
 data_size_on below place step =
-    if step.closed then option_map size_of (data_at_place below.data_only place) else data_size below place step.next
+    if step.closed then option_map size_of (data_at_place below.data_only place)
+    else data_size below place step.next
 
 -- a whiteout in this directory
 abbrev pub whiteout_in : StackView → Directory → PathName → KindFacts
@@ -129,12 +140,15 @@ abbrev pub whiteout_at : Entries → StackView → PathNames → KindFacts
 whiteout_at layer below path =
     if is_in_opaque_at layer path then WhiteoutInOpaque
     else Whiteout (is_in_marked layer path)
-    (not ((walk layer (parent_path path)).closed || is_nothing (look below (natural_path layer path))))
+    (not ((walk layer (parent_path path)).closed
+    || is_nothing (look below (natural_path layer path))))
 
 abbrev pub kind_at : Entries → StackView → PathNames → Inode → Mark → KindFacts
 kind_at layer below path inode WhiteoutMark = whiteout_at layer below path
-kind_at layer below path inode (DirMoved redirect) = Moved (old_place layer below (walk layer path).next (walk layer path).closed)
-kind_at layer below path inode (Meta redirect) = Metacopy (option_map size_of (data_at layer below path inode))
+kind_at layer below path inode (DirMoved redirect) =
+    Moved (old_place layer below (walk layer path).next (walk layer path).closed)
+kind_at layer below path inode (Meta redirect) =
+    Metacopy (option_map size_of (data_at layer below path inode))
 kind_at layer below path inode _ = Other
 
 -- the blob that an inode names
@@ -143,7 +157,8 @@ blob_found None = Missing
 blob_found (Some content) = Found content.size (not content.is_right)
 
 abbrev pub blob_named : List Content → Inode → NamedBlob
-blob_named contents inode = elim (blob_of inode) [ Some name ↦ blob_found (find_content contents name) | None ↦ Unnamed ]
+blob_named contents inode =
+    elim (blob_of inode) [ Some name ↦ blob_found (find_content contents name) | None ↦ Unnamed ]
 
 abbrev pub is_whiteout_mark : Mark → Bool
 is_whiteout_mark WhiteoutMark = true
@@ -155,9 +170,13 @@ pub record AreFacts (work : CheckView) (i : ℕ) (path : PathNames) (facts : Fac
   pub mark : mark_at (layer_at work.stack i) path ≡ Some facts.mark.now
   pub whiteout : is_whiteout facts.inode.now ≡ is_whiteout_mark facts.mark.now
   pub root : facts.is_root ≡ is_root path
-  pub kind : facts.kind ≡ kind_at (layer_at work.stack i) (layers_below work.stack i) path facts.inode.now facts.mark.now
+  pub kind : facts.kind
+      ≡ kind_at (layer_at work.stack i)
+      (layers_below work.stack i) path facts.inode.now facts.mark.now
   pub blob : facts.blob ≡ blob_named work.contents facts.inode.now
-  pub origin : facts.holds_origin ≡ list_any (λ name. has_origin_at (layer_at work.stack i) (child_path path name)) (names_below (layer_at work.stack i) path)
+  pub origin : facts.holds_origin
+      ≡ list_any (λ name. has_origin_at (layer_at work.stack i) (child_path path name))
+      (names_below (layer_at work.stack i) path)
 
 -- the path of an entry by its place
 abbrev pub entry_path : EntryPlace → PathNames
@@ -166,7 +185,9 @@ entry_path (In directory name) = child_path directory.now name.now
 
 -- what is found at what a directory holds, redirect-double apart, where that is no directory itself
 abbrev pub found_at_child : CheckView → ℕ → PathNames → PathName × Inode → List Finding
-found_at_child work i directory child = if is_directory child.1 then [] else findings_alone work i (child_path directory child.0, child.1)
+found_at_child work i directory child =
+    if is_directory child.1 then []
+    else findings_alone work i (child_path directory child.0, child.1)
 
 -- ---- the conditions by the facts
 
@@ -219,20 +240,23 @@ abbrev pub is_unmarked : KindFacts → Inode → Bool
 is_unmarked kind inode = is_regular inode && is_outside_marked kind
 
 abbrev pub impure_is_missing : Inode → Bool → Bool
-impure_is_missing inode holds = is_directory inode && not (attribute_is inode impure_name (codes "y")) && holds
+impure_is_missing inode holds =
+    is_directory inode && not (attribute_is inode impure_name (codes "y")) && holds
 
 -- `opaque` and `redirect` that say nothing, on the root or elsewhere
 abbrev pub opaque_says_nothing : Bool → Inode → Bool
 opaque_says_nothing root inode =
     has_attribute inode opaque_name
     && (not (is_directory inode)
-    || not (attribute_is inode opaque_name (codes "y") || attribute_is inode opaque_name (codes "x"))
+    || not (attribute_is inode opaque_name (codes "y")
+    || attribute_is inode opaque_name (codes "x"))
     || (attribute_is inode opaque_name (codes "y") && root))
 
 abbrev pub redirect_says_nothing : Bool → Inode → Mark → Bool
 redirect_says_nothing root inode mark =
     has_attribute inode redirect_name
-    && (root || is_opaque (Some mark) || (not (is_directory inode) && not (is_any_meta (Some mark))))
+    && (root || is_opaque (Some mark)
+    || (not (is_directory inode) && not (is_any_meta (Some mark))))
 
 abbrev pub mark_says_nothing : Bool → Inode → Mark → Bool
 mark_says_nothing root inode mark =
@@ -282,7 +306,8 @@ has_quiet_mark inode mark = length inode.attrs == 0 && is_quiet_mark mark
 
 -- nor do its kind and what it holds ask anything
 abbrev pub is_bare : Facts → Bool
-is_bare facts = has_quiet_mark facts.inode.now facts.mark.now && is_other facts.kind && not facts.holds_origin
+is_bare facts =
+    has_quiet_mark facts.inode.now facts.mark.now && is_other facts.kind && not facts.holds_origin
 
 -- it has no attributes, and its blob is right
 abbrev pub is_silent : Inode → Mark → NamedBlob → Bool

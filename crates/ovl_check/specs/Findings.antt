@@ -15,9 +15,11 @@ abbrev pub finding : ℕ → PathNames → Code → Finding
 finding i path code = record { layer = i; path = path; code = code }
 
 -- the findings of these codes at an entry of layer `i`, by code
-abbrev pub findings_at : (Code → Bool) → List BlobView → ℕ → Entries → StackView → Entry → List Finding
+abbrev pub findings_at : (Code → Bool) → List BlobView → ℕ → Entries → StackView → Entry
+    → List Finding
 findings_at sought blobs i layer below entry =
-    map (finding i entry.0) (filter (λ code. sought code && holds blobs layer below entry code) all_codes)
+    map (finding i entry.0)
+    (filter (λ code. sought code && holds blobs layer below entry code) all_codes)
 
 -- the findings of these codes in layer `i`, by path
 abbrev pub findings_in : (Code → Bool) → List BlobView → ℕ → Entries → StackView → List Finding
@@ -27,17 +29,21 @@ findings_in sought blobs i layer below = flat_map (findings_at sought blobs i la
 abbrev pub any_code : Code → Bool
 any_code code = true
 
--- the findings of data-only layers, of which the first is layer `i`: those of blobs; overlayfs.rst, "Data-only lower layers"
+-- the findings of data-only layers, of which the first is layer `i`: those of blobs; overlayfs.rst,
+-- "Data-only lower layers"
 abbrev pub data_findings_from : List BlobView → StackView → ℕ → List Entries → List Finding
 data_findings_from blobs stack i [] = []
 data_findings_from blobs stack i (layer ∷ layers) =
-    findings_in is_blob_fault blobs i layer (record stack { layers = [] }) ++ data_findings_from blobs stack (i + 1) layers
+    findings_in is_blob_fault blobs i layer (record stack { layers = [] })
+    ++ data_findings_from blobs stack (i + 1) layers
 
--- the findings of these layers of a stack, of which the first is layer `i`, and of its data-only ones under them
+-- the findings of these layers of a stack, of which the first is layer `i`, and of its data-only
+-- ones under them
 abbrev pub findings_from : List BlobView → StackView → ℕ → List Entries → List Finding
 findings_from blobs stack i [] = data_findings_from blobs stack i stack.data_only
 findings_from blobs stack i (layer ∷ layers) =
-    findings_in any_code blobs i layer (record stack { layers = layers }) ++ findings_from blobs stack (i + 1) layers
+    findings_in any_code blobs i layer (record stack { layers = layers })
+    ++ findings_from blobs stack (i + 1) layers
 
 -- the findings of a stack and its blobs, by layer, then by path, then by code
 abbrev pub findings : List BlobView → StackView → List Finding

@@ -17,7 +17,8 @@ use Rattle.ovl_check.specs.Contents.{contents_of, findings_of_contents, TellsOfL
 -- a stack is sound where no finding has such a code, whatever the blobs
 abbrev pub FindingsTellSoundness : Type 0
 FindingsTellSoundness = (blobs : List BlobView) (stack : StackView) →
-    is_sound_stack stack ≡ not (list_any (λ found. is_layer_fault found.code) (findings blobs stack))
+    is_sound_stack stack
+    ≡ not (list_any (λ found. is_layer_fault found.code) (findings blobs stack))
 
 -- what is found needs no more of blobs than their contents tell, whatever the order of their names
 abbrev pub FindingsNeedContents : Type 0
@@ -26,17 +27,22 @@ FindingsNeedContents = (blobs : List BlobView) (stack : StackView) →
 
 -- what is found needs no more contents than those of the blobs that the layers name
 abbrev pub FindingsNeedNamed : Type 0
-FindingsNeedNamed = (contents others : List Content) (stack : StackView) → TellsOfLayers contents others (all_layers stack) →
+FindingsNeedNamed =
+    (contents others : List Content) (stack : StackView)
+    → TellsOfLayers contents others (all_layers stack) →
     findings_of_contents contents stack ≡ findings_of_contents others stack
 
 -- in a layer without marks, alone, nothing is found but what is wrong with blobs
 abbrev pub UnmarkedLayersAreQuiet : Type 0
-UnmarkedLayersAreQuiet = (layer : Entries) → IsLayer layer → HasNoMarks layer → (blobs : List BlobView) →
+UnmarkedLayersAreQuiet =
+    (layer : Entries) → IsLayer layer → HasNoMarks layer → (blobs : List BlobView) →
     list_all (λ found. is_blob_fault found.code) (findings blobs (alone layer)) ≡ true
 
--- where nothing is at fault in a stack and its blobs, nothing at all is found in the layer of what it shows, alone
+-- where nothing is at fault in a stack and its blobs, nothing at all is found in the layer of what
+-- it shows, alone
 abbrev pub ShownLayersAreClean : Type 0
 ShownLayersAreClean = (blobs : List BlobView) (stack : StackView) → All IsLayer stack.layers →
     list_any (λ found. is_fault found.code) (findings blobs stack) ≡ false →
-    (layer : Entries) → IsLayer layer → ((path : PathNames) → entry_at layer path ≡ inode_shown (look stack path)) →
+    (layer : Entries) → IsLayer layer
+    → ((path : PathNames) → entry_at layer path ≡ inode_shown (look stack path)) →
     findings blobs (alone layer) ≡ []

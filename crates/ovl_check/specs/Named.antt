@@ -23,7 +23,8 @@ element_named name xs own = find (λ x. bytes_eq (name x) own) xs
 abbrev pub IsStart : {X : Type 0} → (X → List ℕ) → List X → ℕ → ℕ → Type 0
 IsStart name xs byte place =
     (place ≤ length xs)
-    × IsPartitionPoint (λ x. nat_lt (slice_index (name x) 0) byte ≡ true) (λ x. nat_lt (slice_index (name x) 0) byte ≡ false) xs place
+    × IsPartitionPoint (λ x. nat_lt (slice_index (name x) 0) byte ≡ true)
+    (λ x. nat_lt (slice_index (name x) 0) byte ≡ false) xs place
 
 -- these places are those of all first bytes, and the end
 abbrev pub AreStarts : {X : Type 0} → (X → List ℕ) → List X → List ℕ → Type 0

@@ -20,7 +20,8 @@ View = ParcelView CheckSeen
 abbrev pub AreLayerWalks : CheckView → ℕ → List (List View) → Type 0
 AreLayerWalks work i [] = Unit {0}
 AreLayerWalks work i (views ∷ more) =
-    IsPlain (check_kids work) (check_out work) (directory_piece i []) views × AreLayerWalks work (i + 1) more
+    IsPlain (check_kids work) (check_out work) (directory_piece i []) views
+    × AreLayerWalks work (i + 1) more
 
 -- the place is among those where an earlier directory goes on
 abbrev pub is_among : List PathNames → PathNames → Bool
@@ -30,7 +31,8 @@ is_among places place = list_any (λ other. is_eq (trail_cmp place other)) place
 abbrev pub double_at : List PathNames → View → Option PathNames → List Finding
 double_at places view None = []
 double_at places view (Some place) =
-    if view.seen.moved && is_among places place then finding view.piece.space view.piece.dir RedirectDouble ∷ [] else []
+    if view.seen.moved && is_among places place
+    then finding view.piece.space view.piece.dir RedirectDouble ∷ [] else []
 
 abbrev pub places_with : List PathNames → Option PathNames → List PathNames
 places_with places None = places
@@ -40,7 +42,8 @@ places_with places (Some place) = insert_key trail_cmp places place
 abbrev pub doubles_after : List PathNames → List View → List Finding
 doubles_after places [] = []
 doubles_after places (view ∷ views) =
-    double_at places view view.seen.place ++ doubles_after (places_with places view.seen.place) views
+    double_at places view view.seen.place
+    ++ doubles_after (places_with places view.seen.place) views
 
 -- the places where moved directories go on
 abbrev pub moved_places : List PathNames → List View → List PathNames

@@ -13,8 +13,8 @@ use ovl_lookup::{DirView, Stack, Trail};
 use ovl_names::{Name, Path};
 use std::alloc::{AllocError, Global};
 
-// The view of the layers below layer `i` where the walk of a directory of this path with these entries goes on, made only
-// where that is open and an entry asks.
+/// The view of the layers below layer `i` where the walk of a directory of this path with these
+/// entries goes on, made only where that is open and an entry asks.
 pub(crate) fn below_children<'p, 'a: 'p>(
     alloc: Global,
     stack: &'a Stack,
@@ -25,7 +25,8 @@ pub(crate) fn below_children<'p, 'a: 'p>(
     children: &[Child<'_>],
 ) -> Result<Option<DirView<'p>>, AllocError>
     requires { i < length (all_layers stack.now) }
-    ensures { IfOk result (λ below. closed ≡ false → list_any (λ child. asks_test child.mark.now) children.now ≡ true
+    ensures { IfOk result
+        (λ below. closed ≡ false → list_any (λ child. asks_test child.mark.now) children.now ≡ true
         → IsBelow stack.now i (unwrap_or turned.now path.now) below) }
 {
     if closed {
@@ -54,10 +55,11 @@ fn asks(mark: &Mark) -> bool
     matches!(mark, Mark::Whiteout | Mark::Meta(_))
 }
 
-// Whether the layers below layer `i` show something under a name in the place of a directory.
+/// Whether the layers below layer `i` show something under a name in the place of a directory.
 pub(crate) fn show_in(stack: &Stack, _i: usize, directory: &Directory<'_, '_>, name: &Name) -> bool
     requires { IsBelow stack.now _i (next_of directory.now) directory.now.below }
-    ensures { result ≡ shows (layers_below stack.now _i) (child_path (next_of directory.now) name.now) }
+    ensures { result
+        ≡ shows (layers_below stack.now _i) (child_path (next_of directory.now) name.now) }
 {
     // Each of them is a layer.
     let _layers = stack.ordinary();
@@ -67,7 +69,7 @@ pub(crate) fn show_in(stack: &Stack, _i: usize, directory: &Directory<'_, '_>, n
     }
 }
 
-// The size of the data that they have there, below a metacopy file without an absolute redirect.
+/// The size of the data that they have there, below a metacopy file without an absolute redirect.
 pub(crate) fn data_size_in(
     alloc: Global,
     stack: &Stack,
@@ -76,7 +78,10 @@ pub(crate) fn data_size_in(
     name: &Name,
 ) -> Result<Option<u64>, AllocError>
     requires { IsBelow stack.now _i (next_of directory.now) directory.now.below }
-    ensures { IfOk result (λ size. size ≡ data_size (layers_below stack.now _i) None (child_path (next_of directory.now) name.now)) }
+    ensures { IfOk result
+        (λ size. size
+        ≡ data_size (layers_below stack.now _i) None
+        (child_path (next_of directory.now) name.now)) }
 {
     // Each of them is a layer.
     let _layers = stack.ordinary();

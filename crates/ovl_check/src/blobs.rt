@@ -33,9 +33,10 @@ pub fn blobs_in_order(blobs: &[Blob]) -> bool
     in_order(blobs)
 }
 
-/// The digests of blobs as work, in the space [`BLOB_SPACE`]. The root has a kid for each two hexadecimal digits with
-/// which a blob's name begins. The output of such a kid is the names of its blobs whose bytes have another SHA-256
-/// digest, in the order of the blobs; the root puts out none.
+/// The digests of blobs as work, in the space [`BLOB_SPACE`]. The root has a kid for each two
+/// hexadecimal digits with which a blob's name begins. The output of such a kid is the names of its
+/// blobs whose bytes have another SHA-256 digest, in the order of the blobs; the root puts out
+/// none.
 #[derive(Drop)]
 pub struct BlobWork<'a> {
     blobs: &'a [Blob],
@@ -51,7 +52,8 @@ impl<'a> Model for BlobWork<'a> {
 
     ghost view = { λ a. blob_views a.blobs.now };
 
-    ghost invariant = { λ a. (a.in_order ≡ are_in_order (blob_views a.blobs.now)) × AreNamedByDigests a.blobs.now };
+    ghost invariant = { λ a. (a.in_order ≡ are_in_order (blob_views a.blobs.now))
+        × AreNamedByDigests a.blobs.now };
 }
 
 impl<'a> BlobWork<'a> {
@@ -121,15 +123,18 @@ impl<'a> Work for BlobWork<'a> {
     }
 }
 
-/// The names of the blobs whose bytes have another SHA-256 digest, ascending, where the blobs' names ascend strictly.
-/// The parcels are the plain walk of the work from `/` of its space. Fails only when out of memory.
+/// The names of the blobs whose bytes have another SHA-256 digest, ascending, where the blobs'
+/// names ascend strictly. The parcels are the plain walk of the work from `/` of its space. Fails
+/// only when out of memory.
 pub fn finish_blobs(
     alloc: Global,
     _work: &BlobWork<'_>,
     parcels: Vec<Parcel<Vec<Digest>>>,
 ) -> Result<Vec<Digest>, AllocError>
-    requires { IsPlain (blob_kids _work.now) (blob_out _work.now) blob_root (parcel_views (λ names. names.items) parcels.items) }
-    ensures { are_in_order _work.now ≡ true → IfOk result (λ names. names.items ≡ wrong_names _work.now) }
+    requires { IsPlain (blob_kids _work.now) (blob_out _work.now) blob_root
+        (parcel_views (λ names. names.items) parcels.items) }
+    ensures { are_in_order _work.now ≡ true
+        → IfOk result (λ names. names.items ≡ wrong_names _work.now) }
 {
     let mut names = outputs(alloc, parcels)?;
     names.sort()?;
@@ -139,7 +144,8 @@ pub fn finish_blobs(
 
 // The outputs of all parcels, one after another.
 fn outputs(alloc: Global, parcels: Vec<Parcel<Vec<Digest>>>) -> Result<Vec<Digest>, AllocError>
-    ensures { IfOk result (λ names. names.items ≡ flat_map (λ parcel. parcel.out.items) parcels.items) }
+    ensures { IfOk result
+        (λ names. names.items ≡ flat_map (λ parcel. parcel.out.items) parcels.items) }
 {
     let mut names = Vec::new(alloc);
     for parcel in parcels {
@@ -176,7 +182,8 @@ fn digits_pieces(alloc: Global, digits: BTreeSet<Name>) -> Result<Vec<Piece>, Al
 
 // The names of the blobs with wrong bytes whose names begin with these digits.
 fn wrong_names_under(alloc: Global, blobs: &[Blob], digits: &str) -> Result<Vec<Digest>, AllocError>
-    ensures { IfOk result (λ names. names.items ≡ the_names_under digits.now (blob_views blobs.now)) }
+    ensures { IfOk result
+        (λ names. names.items ≡ the_names_under digits.now (blob_views blobs.now)) }
 {
     let mut names = Vec::new(alloc);
     for blob in blobs {
@@ -200,7 +207,8 @@ fn keep_digests(blobs: &[Blob])
 fn blobs_under<'a>(blobs: &'a [Blob], digits: &str) -> &'a [Blob]
     requires in_order { are_in_order (blob_views blobs.now) ≡ true }
     requires digests { AreNamedByDigests blobs.now }
-    ensures { the_names_under digits.now (blob_views result.now) ≡ the_names_under digits.now (blob_views blobs.now) }
+    ensures { the_names_under digits.now (blob_views result.now)
+        ≡ the_names_under digits.now (blob_views blobs.now) }
 {
     let mut byte = [0; 1];
     if hex::decode_to_slice(digits, &mut byte).is_err() {

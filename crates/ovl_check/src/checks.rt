@@ -31,12 +31,13 @@ use std::alloc::{AllocError, Global};
 
 impl<'a> CheckWork<'a> {
     /// The work of checking a stack with these blobs, of which the names ascend strictly, see
-    /// [`crate::blobs_in_order`]. `wrong` has the names of those with wrong bytes, as [`crate::finish_blobs`] gives
-    /// them.
+    /// [`crate::blobs_in_order`]. `wrong` has the names of those with wrong bytes, as
+    /// [`crate::finish_blobs`] gives them.
     pub fn new(stack: &'a Stack, blobs: &'a [Blob], wrong: &'a [Digest]) -> CheckWork<'a>
         requires ascend { are_in_order (blob_views blobs.now) ≡ true }
         requires all_wrong { wrong.now ≡ wrong_names (blob_views blobs.now) }
-        ensures { check_view result ≡ record { stack = stack.now; contents = contents_of (blob_views blobs.now) } }
+        ensures { check_view result
+            ≡ record { stack = stack.now; contents = contents_of (blob_views blobs.now) } }
     {
         CheckWork {
             stack,
@@ -47,7 +48,8 @@ impl<'a> CheckWork<'a> {
         }
     }
 
-    /// The work of checking a stack with blobs of which these contents are told, whose names ascend strictly.
+    /// The work of checking a stack with blobs of which these contents are told, whose names ascend
+    /// strictly.
     pub fn of_contents(stack: &'a Stack, contents: &'a [Content]) -> CheckWork<'a>
         requires { contents_ascend contents.now ≡ true }
         ensures { check_view result ≡ record { stack = stack.now; contents = contents.now } }
@@ -113,7 +115,9 @@ fn directory_out<'a>(
     requires inside { layer < length (all_layers work.now.stack.now) }
     requires gathered { IsGathered (layer_at work.now.stack.now layer) directory }
     requires below { IsBelowOf work.now.stack.now layer directory }
-    ensures { IfOk result (λ out. check_seen out ≡ check_out (check_view work.now) (directory_piece layer directory.entry.path.now)) }
+    ensures { IfOk result
+        (λ out. check_seen out
+        ≡ check_out (check_view work.now) (directory_piece layer directory.entry.path.now)) }
 {
     let mut findings = Vec::new(alloc);
     push_directory(alloc, work, layer, &directory, &mut findings)?;
@@ -134,7 +138,8 @@ fn directory_out<'a>(
     })
 }
 
-// Whether a directory of this mark is moved, and where its walk doesn't go on: in a data-only layer nothing is followed.
+// Whether a directory of this mark is moved, and where its walk doesn't go on: in a data-only layer
+// nothing is followed.
 fn is_moved_in(ordinary: bool, mark: &Mark) -> bool
     ensures { result ≡ (ordinary && moved_test (Some mark.now)) }
 {
@@ -161,7 +166,8 @@ fn place_of<'a>(
     turned: Option<Trail<'a>>,
     closed: bool,
 ) -> Result<Option<Place<'a>>, AllocError>
-    ensures { IfOk result (λ place. place ≡ (if closed then None else Some (unwrap_or turned.entry path.now))) }
+    ensures { IfOk result
+        (λ place. place ≡ (if closed then None else Some (unwrap_or turned.entry path.now))) }
 {
     if closed {
         return Ok(None);
@@ -179,7 +185,8 @@ fn nothing<'a>(alloc: Global) -> CheckOut<'a>
     }
 }
 
-// Where an entry is: at a path, or under a name in the directory of a path. Its own path is made where it is told.
+// Where an entry is: at a path, or under a name in the directory of a path. Its own path is made
+// where it is told.
 #[derive(Clone, Copy)]
 enum EntryPlace<'a> {
     At(&'a Path),
@@ -207,7 +214,10 @@ fn push_directory(
 ) -> Result<(), AllocError>
     requires inside { layer < length (all_layers work.now.stack.now) }
     requires gathered { IsGathered (layer_at work.now.stack.now layer) directory.now }
-    ensures { OnOk result (findings.new.items ≡ findings.old.items ++ findings_at_path (check_view work.now) layer directory.now.path.now) }
+    ensures { OnOk result
+        (findings.new.items
+        ≡ findings.old.items
+        ++ findings_at_path (check_view work.now) layer directory.now.path.now) }
 {
     let holds_origin = hold_origin(&directory.children);
     if !holds_origin && is_silent(directory.inode, directory.mark, &NamedBlob::Unnamed) {
@@ -230,7 +240,9 @@ fn push_files(
     requires gathered { IsGathered (layer_at work.now.stack.now layer) directory.now }
     requires below { IsBelowOf work.now.stack.now layer directory.now }
     ensures { OnOk result (findings.new.items ≡ findings.old.items
-        ++ flat_map (λ child. found_at_child (check_view work.now) layer directory.now.path.now (child_seen child)) directory.now.children.items) }
+        ++ flat_map
+        (λ child. found_at_child (check_view work.now) layer directory.now.path.now
+        (child_seen child)) directory.now.children.items) }
 {
     for child in &directory.children {
         push_file(alloc, work, layer, directory, child, findings)?;
@@ -249,11 +261,14 @@ fn push_file(
 ) -> Result<(), AllocError>
     requires inside { layer < length (all_layers work.now.stack.now) }
     requires gathered { IsGathered (layer_at work.now.stack.now layer) directory.now }
-    requires entry { entry_at (layer_at work.now.stack.now layer) (child_path directory.now.path.now child.now.name.now) ≡ Some child.now.inode.now }
+    requires entry { entry_at (layer_at work.now.stack.now layer)
+        (child_path directory.now.path.now child.now.name.now) ≡ Some child.now.inode.now }
     requires marked { IsMarked child.now }
-    requires below { directory.now.closed ≡ false → asks child.now.mark.now ≡ true → IsBelow work.now.stack.now layer (next_of directory.now) directory.now.below }
+    requires below { directory.now.closed ≡ false → asks child.now.mark.now ≡ true
+        → IsBelow work.now.stack.now layer (next_of directory.now) directory.now.below }
     ensures { OnOk result (findings.new.items ≡ findings.old.items
-        ++ found_at_child (check_view work.now) layer directory.now.path.now (child_seen child.now)) }
+        ++ found_at_child (check_view work.now) layer directory.now.path.now
+        (child_seen child.now)) }
 {
     if is_directory(child.inode) {
         return Ok(());
@@ -276,7 +291,11 @@ fn push_codes(
     facts: &Facts<'_>,
     findings: &mut Vec<Finding>,
 ) -> Result<(), AllocError>
-    ensures { OnOk result (findings.new.items ≡ findings.old.items ++ map (finding layer (entry_path place.entry)) (filter (λ code. sought_in stack.now layer code && tells facts.now code) all_codes)) }
+    ensures { OnOk result
+        (findings.new.items
+        ≡ findings.old.items
+        ++ map (finding layer (entry_path place.entry))
+        (filter (λ code. sought_in stack.now layer code && tells facts.now code) all_codes)) }
 {
     if facts.is_bare() {
         return push_told(alloc, stack, layer, place, facts, &BLOB_CODES, findings);
@@ -294,7 +313,11 @@ fn push_told(
     codes: &[Code],
     findings: &mut Vec<Finding>,
 ) -> Result<(), AllocError>
-    ensures { OnOk result (findings.new.items ≡ findings.old.items ++ map (finding layer (entry_path place.entry)) (filter (λ code. sought_in stack.now layer code && tells facts.now code) codes.now)) }
+    ensures { OnOk result
+        (findings.new.items
+        ≡ findings.old.items
+        ++ map (finding layer (entry_path place.entry))
+        (filter (λ code. sought_in stack.now layer code && tells facts.now code) codes.now)) }
 {
     for code in codes {
         let told = is_told(stack, layer, facts, *code);
@@ -334,7 +357,10 @@ fn push_if(
     told: bool,
     findings: &mut Vec<Finding>,
 ) -> Result<(), AllocError>
-    ensures { OnOk result (findings.new.items ≡ findings.old.items ++ (if told then finding layer (entry_path place.entry) code ∷ [] else [])) }
+    ensures { OnOk result
+        (findings.new.items
+        ≡ findings.old.items
+        ++ (if told then finding layer (entry_path place.entry) code ∷ [] else [])) }
 {
     if told {
         let path = place.path(alloc)?;

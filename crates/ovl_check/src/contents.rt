@@ -11,9 +11,10 @@ use crate::sources::HeldBlobs;
 use ovl_inode::{Digest, Inode, blob_of};
 use std::alloc::{AllocError, Global};
 
-// What is told of the blob that an inode names, sought once.
+/// What is told of the blob that an inode names, sought once.
 pub(crate) fn blob_named(held: &HeldBlobs<'_>, inode: &Inode) -> NamedBlob
-    ensures { result ≡ the_blob_named (contents_of (blob_views held.now.blobs.elements.now)) inode.now }
+    ensures { result
+        ≡ the_blob_named (contents_of (blob_views held.now.blobs.elements.now)) inode.now }
 {
     let Some(name) = blob_of(inode) else {
         return NamedBlob::Unnamed;
@@ -35,7 +36,8 @@ fn is_among(names: &[Digest], name: &Digest) -> bool
     names.binary_search(name).is_ok()
 }
 
-/// What is told of a blob whose bytes needn't be held: its length, and whether its bytes are those that its name says.
+/// What is told of a blob whose bytes needn't be held: its length, and whether its bytes are those
+/// that its name says.
 #[derive(Clone, Copy, Debug, PartialEq, Eq)]
 pub struct Content {
     /// The SHA-256 digest that the bytes should have.
@@ -46,7 +48,7 @@ pub struct Content {
     pub is_right: bool,
 }
 
-// The same by contents that are told.
+/// The same by contents that are told.
 pub(crate) fn content_named(contents: &ByName<'_, Content>, inode: &Inode) -> NamedBlob
     ensures { result ≡ the_blob_named contents.now.elements.now inode.now }
 {
@@ -62,8 +64,8 @@ pub(crate) fn content_named(contents: &ByName<'_, Content>, inode: &Inode) -> Na
     }
 }
 
-/// What is told of blobs that are held, whose names ascend strictly. `wrong` has the names of those with wrong bytes, as
-/// [`crate::finish_blobs`] gives them.
+/// What is told of blobs that are held, whose names ascend strictly. `wrong` has the names of those
+/// with wrong bytes, as [`crate::finish_blobs`] gives them.
 pub fn contents_held(
     alloc: Global,
     blobs: &[Blob],

@@ -20,7 +20,7 @@ use ovl_lookup::{DirView, OwnDirectory, Stack, Trail};
 use ovl_names::{Name, Path};
 use std::alloc::{AllocError, Global};
 
-// An entry directly in a directory of a layer.
+/// An entry directly in a directory of a layer.
 #[derive(Drop)]
 pub(crate) struct Child<'a> {
     pub(crate) name: &'a Name,
@@ -28,7 +28,7 @@ pub(crate) struct Child<'a> {
     pub(crate) mark: &'a Mark,
 }
 
-// A directory of a layer, gathered once for all that is in it.
+/// A directory of a layer, gathered once for all that is in it.
 #[derive(Drop)]
 pub(crate) struct Directory<'p, 'a> {
     pub(crate) path: &'p Path,
@@ -36,7 +36,8 @@ pub(crate) struct Directory<'p, 'a> {
     pub(crate) mark: &'p Mark,
     // Whether its `opaque` says that it may hold marked whiteouts.
     pub(crate) is_marked: bool,
-    // The path by which the layers below know it, where marks turn it from its own, and whether they are hidden there.
+    // The path by which the layers below know it, where marks turn it from its own, and whether
+    // they are hidden there.
     pub(crate) turned: Option<Trail<'a>>,
     pub(crate) closed: bool,
     pub(crate) children: Vec<Child<'a>>,
@@ -44,8 +45,8 @@ pub(crate) struct Directory<'p, 'a> {
     pub(crate) below: Option<DirView<'p>>,
 }
 
-// The directory that layer `i` has at a path, and `None` where it has none; the mark of plain directories is lent for
-// the root, which counts as one.
+/// The directory that layer `i` has at a path, and `None` where it has none; the mark of plain
+/// directories is lent for the root, which counts as one.
 pub(crate) fn directory_at<'p, 'a: 'p>(
     alloc: Global,
     stack: &'a Stack,
@@ -57,7 +58,8 @@ pub(crate) fn directory_at<'p, 'a: 'p>(
     requires plain { plain.now ≡ DirPlain }
     ensures { IfOk result (λ found. MatchOption found
         (is_directory_at (layer_at stack.now i) path.now ≡ false)
-        (λ directory. (directory.path.now ≡ path.now) × IsGathered (layer_at stack.now i) directory × IsBelowOf stack.now i directory)) }
+        (λ directory. (directory.path.now ≡ path.now) × IsGathered (layer_at stack.now i) directory
+        × IsBelowOf stack.now i directory)) }
 {
     // Each of them is a layer.
     let _layers = stack.layers();
@@ -89,7 +91,8 @@ pub(crate) fn directory_at<'p, 'a: 'p>(
 // What a layer has directly below the row of a number, in one pass over the rows.
 fn children_in(alloc: Global, sheet: &Sheet, row: u32) -> Result<Vec<Child<'_>>, AllocError>
     requires { row < length sheet.now }
-    ensures seen { IfOk result (λ children. map child_seen children.items ≡ held_in sheet.now (path_at sheet.now row)) }
+    ensures seen { IfOk result
+        (λ children. map child_seen children.items ≡ held_in sheet.now (path_at sheet.now row)) }
     ensures marks { IfOk result (λ children. All IsMarked children.items) }
 {
     let kids = sheet.kids(row);
@@ -107,8 +110,11 @@ fn push_child<'a>(
     children: &mut Vec<Child<'a>>,
 ) -> Result<(), AllocError>
     requires { number < length sheet.now }
-    ensures seen { OnOk result (map child_seen children.new.items ≡ map child_seen children.old.items ++ seen_at sheet.now (path_at sheet.now number)) }
-    ensures marks { OnOk result (All IsMarked children.old.items → All IsMarked children.new.items) }
+    ensures seen { OnOk result
+        (map child_seen children.new.items
+        ≡ map child_seen children.old.items ++ seen_at sheet.now (path_at sheet.now number)) }
+    ensures marks { OnOk result
+        (All IsMarked children.old.items → All IsMarked children.new.items) }
 {
     let Some(name) = sheet.name(number) else {
         return Ok(());
@@ -119,7 +125,7 @@ fn push_child<'a>(
     Ok(())
 }
 
-// Whether one of these has `origin`.
+/// Whether one of these has `origin`.
 pub(crate) fn hold_origin(children: &[Child<'_>]) -> bool
     ensures { result ≡ list_any (λ child. attribute_test child.inode.now origin_name) children.now }
 {
@@ -128,7 +134,7 @@ pub(crate) fn hold_origin(children: &[Child<'_>]) -> bool
         .any(|child| has_attribute(child.inode, overlay::ORIGIN))
 }
 
-// The pieces of those of these that are directories themselves.
+/// The pieces of those of these that are directories themselves.
 pub(crate) fn kids_of(
     alloc: Global,
     space: u16,

@@ -27,7 +27,7 @@ pub(crate) const CODES: [Code; 15] = [
 /// Those on blobs.
 pub(crate) const BLOB_CODES: [Code; 3] = [Code::BlobMissing, Code::BlobSize, Code::BlobDigest];
 
-// What the layers below show at a place.
+/// What the layers below show at a place.
 #[derive(Clone, Copy, Debug)]
 pub(crate) enum ThingShown {
     Nothing,
@@ -35,7 +35,7 @@ pub(crate) enum ThingShown {
     Other,
 }
 
-// The old place of a moved directory.
+/// The old place of a moved directory.
 #[derive(Clone, Copy, Debug)]
 pub(crate) enum OldPlace {
     // The layers below are hidden there.
@@ -44,13 +44,13 @@ pub(crate) enum OldPlace {
     Open { thing: ThingShown, is_seen: bool },
 }
 
-// What the conditions ask of an entry of its kind.
+/// What the conditions ask of an entry of its kind.
 #[derive(Clone, Copy, Debug)]
 pub(crate) enum KindFacts {
     // A whiteout in an opaque directory.
     WhiteoutInOpaque,
-    // Another whiteout: whether its directory is marked as holding whiteouts by attribute, and whether it hides
-    // something.
+    // Another whiteout: whether its directory is marked as holding whiteouts by attribute, and
+    // whether it hides something.
     Whiteout { is_marked: bool, hides: bool },
     // A moved directory.
     Moved(OldPlace),
@@ -60,7 +60,7 @@ pub(crate) enum KindFacts {
     Other,
 }
 
-// The blob that an inode names.
+/// The blob that an inode names.
 #[derive(Clone, Copy, Debug)]
 pub(crate) enum NamedBlob {
     // It names none.
@@ -71,7 +71,7 @@ pub(crate) enum NamedBlob {
     Found { length: u64, is_wrong: bool },
 }
 
-// What the conditions ask of one entry.
+/// What the conditions ask of one entry.
 #[derive(Drop)]
 pub(crate) struct Facts<'a> {
     pub(crate) is_root: bool,
@@ -83,8 +83,8 @@ pub(crate) struct Facts<'a> {
     pub(crate) holds_origin: bool,
 }
 
-// Whether no code can be told of an entry of this inode, mark and blob that holds none with `origin`: it has no attributes,
-// and the blob, if it names one, is right.
+/// Whether no code can be told of an entry of this inode, mark and blob that holds none with
+/// `origin`: it has no attributes, and the blob, if it names one, is right.
 pub(crate) fn is_silent(inode: &Inode, mark: &Mark, blob: &NamedBlob) -> bool
     ensures { result ≡ silent_test inode.now mark.now blob.now }
 {
@@ -99,14 +99,15 @@ fn has_quiet_mark(inode: &Inode, mark: &Mark) -> bool
 }
 
 impl<'a> Facts<'a> {
-    // Whether no code can be told but those on blobs: of an entry without attributes of which its kind asks nothing.
+    /// Whether no code can be told but those on blobs: of an entry without attributes of which its
+    /// kind asks nothing.
     pub(crate) fn is_bare(&self) -> bool
         ensures { result ≡ bare_test self.now }
     {
         has_quiet_mark(self.inode, self.mark) && is_other(&self.kind) && !self.holds_origin
     }
 
-    // Whether the condition of a code other than redirect-double holds.
+    /// Whether the condition of a code other than redirect-double holds.
     pub(crate) fn tells(&self, code: Code) -> bool
         ensures { result ≡ the_tells self.now code }
     {
@@ -221,7 +222,8 @@ fn is_in_opaque(kind: &KindFacts) -> bool
     matches!(kind, KindFacts::WhiteoutInOpaque)
 }
 
-// Whether it is a whiteout by attribute in a directory that is neither opaque nor marked as holding such.
+// Whether it is a whiteout by attribute in a directory that is neither opaque nor marked as holding
+// such.
 fn is_unmarked(kind: &KindFacts, inode: &Inode) -> bool
     ensures { result ≡ unmarked_test kind.now inode.now }
 {

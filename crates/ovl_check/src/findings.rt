@@ -3,8 +3,8 @@ ghost use Rattle.ovl_check.specs.Codes.{is_fault as fault_test};
 
 use ovl_names::Path;
 
-/// What a finding says of an entry, in the order of reports: ten faults, then five notes. docs/PROFILE.md has the
-/// condition of each.
+/// What a finding says of an entry, in the order of reports: ten faults, then five notes.
+/// docs/PROFILE.md has the condition of each.
 #[derive(Clone, Copy, Debug, PartialEq, Eq, PartialOrd, Ord)]
 pub enum Code {
     /// A redirect that is malformed.

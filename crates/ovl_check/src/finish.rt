@@ -16,16 +16,20 @@ use ovl_names::Path;
 use std::alloc::{AllocError, Global};
 use std::collections::BTreeSet;
 
-/// All that is found in a stack and its blobs, by layer, then by path, then by code, each once. The lists of parcels
-/// are the plain walks of the work from the root of each layer, in order. Fails only when out of memory.
+/// All that is found in a stack and its blobs, by layer, then by path, then by code, each once. The
+/// lists of parcels are the plain walks of the work from the root of each layer, in order. Fails
+/// only when out of memory.
 pub fn finish_check(
     alloc: Global,
     _work: &CheckWork<'_>,
     layers: Vec<Vec<Parcel<CheckOut<'_>>>>,
 ) -> Result<Vec<Finding>, AllocError>
     requires count { length layers.items ≡ length (all_layers _work.now.stack.now) }
-    requires walks { AreLayerWalks (check_view _work.now) 0 (map (λ parcels. parcel_views check_seen parcels.items) layers.items) }
-    ensures { IfOk result (λ found. found.items ≡ findings_of_contents (check_view _work.now).contents _work.now.stack.now) }
+    requires walks { AreLayerWalks (check_view _work.now) 0
+        (map (λ parcels. parcel_views check_seen parcels.items) layers.items) }
+    ensures { IfOk result
+        (λ found. found.items
+        ≡ findings_of_contents (check_view _work.now).contents _work.now.stack.now) }
 {
     // The stack keeps its layers.
     let _layers = _work.stack.layers();
@@ -40,7 +44,11 @@ fn found_in(
     alloc: Global,
     layers: Vec<Vec<Parcel<CheckOut<'_>>>>,
 ) -> Result<Vec<Finding>, AllocError>
-    ensures { IfOk result (λ found. IsPermutation (flat_map (λ parcels. found_along (parcel_views check_seen parcels.items)) layers.entry.items) found.items) }
+    ensures { IfOk result
+        (λ found. IsPermutation
+        (flat_map
+        (λ parcels. found_along
+        (parcel_views check_seen parcels.items)) layers.entry.items) found.items) }
 {
     let mut found = Vec::new(alloc);
     for parcels in layers {
@@ -50,14 +58,17 @@ fn found_in(
     Ok(found)
 }
 
-// Adds the outputs of all directories. Where these are in the order of a walk, what is found in a directory stands among
-// what is found below it, in path order.
+// Adds the outputs of all directories. Where these are in the order of a walk, what is found in a
+// directory stands among what is found below it, in path order.
 fn push_outputs(
     alloc: Global,
     parcels: Vec<Parcel<CheckOut<'_>>>,
     findings: &mut Vec<Finding>,
 ) -> Result<(), AllocError>
-    ensures { OnOk result (IsPermutation (findings.old.items ++ flat_map (λ parcel. parcel.out.findings.items) parcels.entry.items) findings.new.items) }
+    ensures { OnOk result
+        (IsPermutation
+        (findings.old.items
+        ++ flat_map (λ parcel. parcel.out.findings.items) parcels.entry.items) findings.new.items) }
 {
     let mut open = Vec::new(alloc);
     for parcel in parcels {
@@ -79,7 +90,9 @@ fn push_found(
     opened: &mut Vec<Vec<Finding>>,
     findings: &mut Vec<Finding>,
 ) -> Result<(), AllocError>
-    ensures { OnOk result (IsPermutation ((findings.old.items ++ all_left opened.old.items) ++ found.items) (findings.new.items ++ all_left opened.new.items)) }
+    ensures { OnOk result
+        (IsPermutation ((findings.old.items ++ all_left opened.old.items) ++ found.items)
+        (findings.new.items ++ all_left opened.new.items)) }
 {
     if is_last {
         findings.append(&mut found)?;
@@ -90,14 +103,17 @@ fn push_found(
     Ok(())
 }
 
-// Adds those findings in open directories that come before a directory, from the last one opened on, and closes those
-// directories that have none left. The findings of each stand from the last to the first.
+// Adds those findings in open directories that come before a directory, from the last one opened
+// on, and closes those directories that have none left. The findings of each stand from the last to
+// the first.
 fn push_before(
     opened: &mut Vec<Vec<Finding>>,
     directory: &Path,
     findings: &mut Vec<Finding>,
 ) -> Result<(), AllocError>
-    ensures { OnOk result (IsPermutation (findings.old.items ++ all_left opened.old.items) (findings.new.items ++ all_left opened.new.items)) }
+    ensures { OnOk result
+        (IsPermutation (findings.old.items ++ all_left opened.old.items)
+        (findings.new.items ++ all_left opened.new.items)) }
 {
     while let Some(mut left) = opened.pop() {
         move_before(&mut left, directory, findings)?;
@@ -115,7 +131,9 @@ fn move_before(
     directory: &Path,
     findings: &mut Vec<Finding>,
 ) -> Result<(), AllocError>
-    ensures { OnOk result (IsPermutation (findings.old.items ++ left.old.items) (findings.new.items ++ left.new.items)) }
+    ensures { OnOk result
+        (IsPermutation (findings.old.items ++ left.old.items)
+        (findings.new.items ++ left.new.items)) }
 {
     while let Some(finding) = left.pop() {
         if finding.path > *directory {
@@ -133,7 +151,9 @@ fn push_doubles<'p, 'a>(
     parcels: &'p [Parcel<CheckOut<'a>>],
     findings: &mut Vec<Finding>,
 ) -> Result<(), AllocError>
-    ensures { OnOk result (findings.new.items ≡ findings.old.items ++ doubles_after [] (parcel_views check_seen parcels.now)) }
+    ensures { OnOk result
+        (findings.new.items
+        ≡ findings.old.items ++ doubles_after [] (parcel_views check_seen parcels.now)) }
 {
     if !has_moved(parcels) {
         return Ok(());
@@ -158,7 +178,8 @@ fn places_of_moved<'p, 'a>(
     alloc: Global,
     parcels: &'p [Parcel<CheckOut<'a>>],
 ) -> Result<BTreeSet<LentPlace<'p, 'a>>, AllocError>
-    ensures { IfOk result (λ places. places.keys ≡ moved_places [] (parcel_views check_seen parcels.now)) }
+    ensures { IfOk result
+        (λ places. places.keys ≡ moved_places [] (parcel_views check_seen parcels.now)) }
 {
     let mut places = BTreeSet::new(alloc);
     for parcel in parcels {
@@ -172,7 +193,10 @@ fn add_moved<'p, 'a>(
     parcel: &'p Parcel<CheckOut<'a>>,
     places: &mut BTreeSet<LentPlace<'p, 'a>>,
 ) -> Result<(), AllocError>
-    ensures { OnOk result (places.new.keys ≡ (if parcel.now.out.moved then places_with places.old.keys (check_seen parcel.now.out).place else places.old.keys)) }
+    ensures { OnOk result
+        (places.new.keys
+        ≡ (if parcel.now.out.moved
+        then places_with places.old.keys (check_seen parcel.now.out).place else places.old.keys)) }
 {
     if !parcel.out.moved {
         return Ok(());
@@ -184,8 +208,8 @@ fn add_moved<'p, 'a>(
     Ok(())
 }
 
-// Notes where a directory goes on, if a moved one does too, and adds a finding where it is moved and an earlier one goes on
-// there.
+// Notes where a directory goes on, if a moved one does too, and adds a finding where it is moved
+// and an earlier one goes on there.
 fn note_place<'p, 'a>(
     alloc: Global,
     parcel: &'p Parcel<CheckOut<'a>>,
@@ -194,8 +218,11 @@ fn note_place<'p, 'a>(
     findings: &mut Vec<Finding>,
 ) -> Result<(), AllocError>
     ensures found { OnOk result (findings.new.items ≡ findings.old.items
-        ++ double_at places.old.keys (parcel_view check_seen parcel.now) (if_among moved.now.keys (check_seen parcel.now.out).place)) }
-    ensures noted { OnOk result (places.new.keys ≡ places_with places.old.keys (if_among moved.now.keys (check_seen parcel.now.out).place)) }
+        ++ double_at places.old.keys (parcel_view check_seen parcel.now)
+        (if_among moved.now.keys (check_seen parcel.now.out).place)) }
+    ensures noted { OnOk result
+        (places.new.keys
+        ≡ places_with places.old.keys (if_among moved.now.keys (check_seen parcel.now.out).place)) }
 {
     let Some(place) = place_among(parcel, moved) else {
         return Ok(());

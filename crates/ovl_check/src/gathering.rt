@@ -27,7 +27,7 @@ use ovl_lookup::{OwnStep, Sight, Stack, Trail};
 use ovl_names::{Name, Path};
 use std::alloc::{AllocError, Global};
 
-// The facts of a directory of layer `i`, with whether it directly holds an entry with `origin`.
+/// The facts of a directory of layer `i`, with whether it directly holds an entry with `origin`.
 pub(crate) fn facts_of_directory<'a>(
     alloc: Global,
     work: &CheckWork<'_>,
@@ -37,8 +37,12 @@ pub(crate) fn facts_of_directory<'a>(
 ) -> Result<Facts<'a>, AllocError>
     requires inside { i < length (all_layers work.now.stack.now) }
     requires gathered { IsGathered (layer_at work.now.stack.now i) directory.now }
-    requires origin { holds_origin ≡ list_any (λ child. attribute_test child.inode.now origin_name) directory.now.children.items }
-    ensures { IfOk result (λ facts. (facts.inode.now ≡ directory.now.inode.now) × AreFacts (check_view work.now) i directory.now.path.now facts) }
+    requires origin { holds_origin
+        ≡ list_any
+        (λ child. attribute_test child.inode.now origin_name) directory.now.children.items }
+    ensures { IfOk result
+        (λ facts. (facts.inode.now ≡ directory.now.inode.now)
+        × AreFacts (check_view work.now) i directory.now.path.now facts) }
 {
     let kind = match directory.mark {
         Mark::DirMoved(_) => KindFacts::Moved(old_place(alloc, work.stack, i, directory)?),
@@ -54,7 +58,8 @@ pub(crate) fn facts_of_directory<'a>(
     })
 }
 
-// The facts of an entry that lies in a directory of layer `i` and is none itself, with the blob that it names.
+/// The facts of an entry that lies in a directory of layer `i` and is none itself, with the blob
+/// that it names.
 pub(crate) fn facts_of_child<'a>(
     alloc: Global,
     work: &CheckWork<'_>,
@@ -65,12 +70,17 @@ pub(crate) fn facts_of_child<'a>(
 ) -> Result<Facts<'a>, AllocError>
     requires inside { i < length (all_layers work.now.stack.now) }
     requires gathered { IsGathered (layer_at work.now.stack.now i) directory.now }
-    requires entry { entry_at (layer_at work.now.stack.now i) (child_path directory.now.path.now child.now.name.now) ≡ Some child.now.inode.now }
+    requires entry { entry_at (layer_at work.now.stack.now i)
+        (child_path directory.now.path.now child.now.name.now) ≡ Some child.now.inode.now }
     requires none { the_directory child.now.inode.now ≡ false }
     requires marked { IsMarked child.now }
-    requires below { directory.now.closed ≡ false → asks child.now.mark.now ≡ true → IsBelow work.now.stack.now i (next_of directory.now) directory.now.below }
+    requires below { directory.now.closed ≡ false → asks child.now.mark.now ≡ true
+        → IsBelow work.now.stack.now i (next_of directory.now) directory.now.below }
     requires blob { blob ≡ the_blob_named (check_view work.now).contents child.now.inode.now }
-    ensures { IfOk result (λ facts. (facts.inode.now ≡ child.now.inode.now) × AreFacts (check_view work.now) i (child_path directory.now.path.now child.now.name.now) facts) }
+    ensures { IfOk result
+        (λ facts. (facts.inode.now ≡ child.now.inode.now)
+        × AreFacts (check_view work.now) i
+        (child_path directory.now.path.now child.now.name.now) facts) }
 {
     let kind = match child.mark {
         Mark::Whiteout => whiteout_in(work.stack, i, directory, child.name),
@@ -103,7 +113,10 @@ fn old_place(
     directory: &Directory<'_, '_>,
 ) -> Result<OldPlace, AllocError>
     requires { i < length (all_layers stack.now) }
-    ensures { IfOk result (λ place. place ≡ the_old_place (layer_at stack.now i) (layers_below stack.now i) (next_of directory.now) directory.now.closed) }
+    ensures { IfOk result
+        (λ place. place
+        ≡ the_old_place (layer_at stack.now i) (layers_below stack.now i)
+        (next_of directory.now) directory.now.closed) }
 {
     if directory.closed {
         return Ok(OldPlace::Hidden);
@@ -135,7 +148,9 @@ fn open_place<'a>(
     place: Trail<'a>,
 ) -> Result<OldPlace, AllocError>
     requires { i < length (all_layers stack.now) }
-    ensures { IfOk result (λ old. old ≡ the_old_place (layer_at stack.now i) (layers_below stack.now i) place.entry false) }
+    ensures { IfOk result
+        (λ old. old
+        ≡ the_old_place (layer_at stack.now i) (layers_below stack.now i) place.entry false) }
 {
     let thing = thing_shown(sight_below(alloc, stack, i, place.copy(alloc)?)?);
     let is_seen = is_seen(alloc, stack, i, &place)?;
@@ -195,7 +210,8 @@ fn is_elsewhere(turned: &Option<Trail<'_>>, place: &Trail<'_>) -> bool
 // A whiteout in a directory of layer `i`.
 fn whiteout_in(stack: &Stack, i: usize, directory: &Directory<'_, '_>, name: &Name) -> KindFacts
     requires inside { i < length (all_layers stack.now) }
-    requires below { directory.now.closed ≡ false → IsBelow stack.now i (next_of directory.now) directory.now.below }
+    requires below { directory.now.closed ≡ false
+        → IsBelow stack.now i (next_of directory.now) directory.now.below }
     ensures { result ≡ the_whiteout (layers_below stack.now i) directory.now name.now }
 {
     if matches!(directory.mark, Mark::DirOpaque) {
@@ -214,7 +230,8 @@ fn whiteout_in(stack: &Stack, i: usize, directory: &Directory<'_, '_>, name: &Na
     }
 }
 
-// The size of the data of a metacopy file with this redirect in a directory of layer `i`, where it has any.
+// The size of the data of a metacopy file with this redirect in a directory of layer `i`, where it
+// has any.
 fn data_size(
     alloc: Global,
     stack: &Stack,
@@ -225,9 +242,12 @@ fn data_size(
     _inode: &Inode,
 ) -> Result<Option<u64>, AllocError>
     requires inside { i < length (all_layers stack.now) }
-    requires below { directory.now.closed ≡ false → IsBelow stack.now i (next_of directory.now) directory.now.below }
+    requires below { directory.now.closed ≡ false
+        → IsBelow stack.now i (next_of directory.now) directory.now.below }
     ensures { IfOk result (λ size. size
-        ≡ data_size_on (layers_below stack.now i) (place_of_data (Meta redirect.now)) (walk_to_file _inode.now (Meta redirect.now) (next_of directory.now) directory.now.closed name.now)) }
+        ≡ data_size_on (layers_below stack.now i) (place_of_data (Meta redirect.now))
+        (walk_to_file _inode.now (Meta redirect.now)
+        (next_of directory.now) directory.now.closed name.now)) }
 {
     let own = match redirect {
         Some(Redirect::To(origin)) => return data_size_below(alloc, stack, i, origin),

@@ -1,12 +1,14 @@
 //! Laws of findings; the contract of each is its statement.
 ghost use Rattle.ovl_check.specs.Laws.{FindingsTellSoundness, FindingsNeedContents, FindingsNeedNamed, ShownLayersAreClean, UnmarkedLayersAreQuiet};
 
-/// A stack is sound exactly where none of its findings speaks of a redirect or of a metacopy file's data.
+/// A stack is sound exactly where none of its findings speaks of a redirect or of a metacopy file's
+/// data.
 pub fn findings_tell_soundness()
     ensures { FindingsTellSoundness }
 {}
 
-/// The findings of a stack and its blobs are those by the name, the length and the rightness of each blob.
+/// The findings of a stack and its blobs are those by the name, the length and the rightness of
+/// each blob.
 pub fn findings_need_contents()
     ensures { FindingsNeedContents }
 {}
@@ -21,7 +23,8 @@ pub fn unmarked_layers_are_quiet()
     ensures { UnmarkedLayersAreQuiet }
 {}
 
-/// Where nothing is at fault in a stack and its blobs, nothing at all is found in the layer of what it shows, alone.
+/// Where nothing is at fault in a stack and its blobs, nothing at all is found in the layer of what
+/// it shows, alone.
 pub fn shown_layers_are_clean()
     ensures { ShownLayersAreClean }
 {}

@@ -6,12 +6,14 @@ ghost use Rattle.ovl_check.specs.Facts.{is_quiet_mark, opaque_says_nothing, redi
 
 use ovl_inode::{Inode, Kind, Mark, is_directory, overlay};
 
+/// Whether an inode has an attribute of this name.
 pub(crate) fn has_attribute(inode: &Inode, name: &str) -> bool
     ensures { result ≡ attribute_test inode.now name.now }
 {
     inode.attrs.get(name).is_some()
 }
 
+/// Whether an inode has an attribute of this name with this value.
 pub(crate) fn attribute_is(inode: &Inode, name: &str, value: &[u8]) -> bool
     ensures { result ≡ attribute_value_test inode.now name.now value.now }
 {
@@ -21,35 +23,35 @@ pub(crate) fn attribute_is(inode: &Inode, name: &str, value: &[u8]) -> bool
     }
 }
 
-// Whether the mark is that of a moved directory.
+/// Whether the mark is that of a moved directory.
 pub(crate) fn is_moved(mark: &Mark) -> bool
     ensures { result ≡ moved_test (Some mark.now) }
 {
     matches!(mark, Mark::DirMoved(_))
 }
 
-// Whether the mark is that of a directory that hides nothing.
+/// Whether the mark is that of a directory that hides nothing.
 pub(crate) fn is_plain(mark: &Mark) -> bool
     ensures { result ≡ plain_test (Some mark.now) }
 {
     matches!(mark, Mark::DirPlain)
 }
 
-// Whether the mark is one that entries without attributes have.
+/// Whether the mark is one that entries without attributes have.
 pub(crate) fn is_quiet(mark: &Mark) -> bool
     ensures { result ≡ is_quiet_mark mark.now }
 {
     matches!(mark, Mark::Leaf | Mark::DirPlain)
 }
 
-// Whether the mark is that of a malformed redirect.
+/// Whether the mark is that of a malformed redirect.
 pub(crate) fn is_malformed(mark: &Mark) -> bool
     ensures { result ≡ malformed_test (Some mark.now) }
 {
     matches!(mark, Mark::DirBad | Mark::MetaBad)
 }
 
-// Whether at least one attribute of an entry of this mark, which may be the root, says nothing.
+/// Whether at least one attribute of an entry of this mark, which may be the root, says nothing.
 pub(crate) fn mark_is_ignored(is_root: bool, inode: &Inode, mark: &Mark) -> bool
     ensures { result ≡ mark_says_nothing is_root inode.now mark.now }
 {

@@ -6,7 +6,7 @@ use crate::blobs::Blob;
 use crate::contents::Content;
 use ovl_inode::Digest;
 
-// What has a digest for its name.
+/// What has a digest for its name.
 pub(crate) trait Named {
     ghost name_of: { Self → List ℕ };
 
@@ -33,7 +33,7 @@ impl Named for Content {
 // Where those of each first byte begin among elements whose names ascend, and where all end.
 type Starts = [usize; 257];
 
-// Elements whose names ascend strictly, each sought among those of its name's first byte.
+/// Elements whose names ascend strictly, each sought among those of its name's first byte.
 #[derive(Drop)]
 pub(crate) struct ByName<'a, T: Named> {
     elements: &'a [T],
@@ -43,6 +43,7 @@ pub(crate) struct ByName<'a, T: Named> {
 }
 
 impl<'a, T: Named> ByName<'a, T> {
+    /// These elements, to be found by their names.
     pub(crate) fn of(elements: &'a [T]) -> ByName<'a, T>
         requires { names_ascend T.name_of elements.now ≡ true }
         ensures { result.elements.now ≡ elements.now }
@@ -53,9 +54,10 @@ impl<'a, T: Named> ByName<'a, T> {
         }
     }
 
-    // The element of a name.
+    /// The element of a name.
     pub(crate) fn find(&self, name: &Digest) -> Option<&'a T>
-        ensures { option_map (λ element. element.now) result ≡ element_named T.name_of self.now.elements.now name.now }
+        ensures { option_map (λ element. element.now) result
+            ≡ element_named T.name_of self.now.elements.now name.now }
     {
         let first = first_byte(name);
         let part = &self.elements[self.starts[first]..self.starts[first + 1]];
@@ -77,7 +79,7 @@ fn starts_of<T: Named>(elements: &[T]) -> Starts
     starts
 }
 
-// Where those of this first byte begin.
+/// Where those of this first byte begin.
 pub(crate) fn start_in<T: Named>(elements: &[T], byte: usize) -> usize
     requires { names_ascend T.name_of elements.now ≡ true }
     ensures { IsStart T.name_of elements.now byte result }
@@ -92,7 +94,7 @@ fn first_byte(name: &Digest) -> usize
     usize::from(name.as_bytes()[0])
 }
 
-// Whether the names ascend strictly.
+/// Whether the names ascend strictly.
 pub(crate) fn in_order<T: Named>(elements: &[T]) -> bool
     ensures { result ≡ names_ascend T.name_of elements.now }
 {

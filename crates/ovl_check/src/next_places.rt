@@ -12,7 +12,8 @@ use std::alloc::{AllocError, Global};
 use std::cmp::Ordering;
 use std::marker::Model;
 
-/// The path by which the layers below know a directory: its own, or where marks turn that, another one.
+/// The path by which the layers below know a directory: its own, or where marks turn that, another
+/// one.
 #[derive(Debug, Drop)]
 pub struct Place<'a> {
     // Names that the layer holds, where in a text of their own they would take more bytes.
@@ -31,7 +32,7 @@ impl<'a> Model for Place<'a> {
 }
 
 impl<'a> Place<'a> {
-    // That of a directory of this path, unless marks turn it.
+    /// That of a directory of this path, unless marks turn it.
     pub(crate) fn of(
         alloc: Global,
         path: &Path,
@@ -67,8 +68,8 @@ impl<'a> Place<'a> {
     }
 }
 
-/// A place that is lent. They are ordered name by name from the last one on, as those below one redirect begin with all
-/// its names.
+/// A place that is lent. They are ordered name by name from the last one on, as those below one
+/// redirect begin with all its names.
 #[derive(Debug, Drop)]
 pub(crate) struct LentPlace<'p, 'a> {
     pub(crate) place: &'p Place<'a>,
@@ -109,7 +110,8 @@ impl<'p, 'a> Eq for LentPlace<'p, 'a> {
 impl<'p, 'a> PartialOrd for LentPlace<'p, 'a> {
     ghost partial_cmp = { λ a b. Some (trail_cmp a b) };
 
-    ghost laws = { po (on_total reverse (lists_total nat_list_cmp_total)) (λ a b. lists_ties name_cmp texts_ties (reverse a) (reverse b)) };
+    ghost laws = { po (on_total reverse (lists_total nat_list_cmp_total))
+        (λ a b. lists_ties name_cmp texts_ties (reverse a) (reverse b)) };
 
     fn partial_cmp(&self, other: &LentPlace<'p, 'a>) -> Option<Ordering> {
         Some(self.compared(other))

@@ -17,7 +17,7 @@ use ovl_lookup::{OwnStep, Sight, Stack, Trail};
 use ovl_names::Path;
 use std::alloc::{AllocError, Global};
 
-// The walk of a trail in layer `i`.
+/// The walk of a trail in layer `i`.
 pub(crate) fn step_of<'a>(
     alloc: Global,
     stack: &'a Stack,
@@ -25,13 +25,14 @@ pub(crate) fn step_of<'a>(
     trail: &Trail<'a>,
 ) -> Result<OwnStep<'a>, AllocError>
     requires { i < length (all_layers stack.now) }
-    ensures value { IfOk result (λ step. own_step_of trail.now step ≡ walk (layer_at stack.now i) trail.now) }
+    ensures value { IfOk result
+        (λ step. own_step_of trail.now step ≡ walk (layer_at stack.now i) trail.now) }
     ensures marked { IfOk result IsOwnMarked }
 {
     stack.own_step(alloc, i, trail)
 }
 
-// The first of the layers below layer `i`; below a data-only one there is none.
+/// The first of the layers below layer `i`; below a data-only one there is none.
 pub(crate) fn first_below(stack: &Stack, i: usize) -> usize
     ensures value { result ≡ the_first_below stack.now i }
     ensures inside { result ≤ length stack.now.layers }
@@ -40,7 +41,7 @@ pub(crate) fn first_below(stack: &Stack, i: usize) -> usize
     if i < layers { i + 1 } else { layers }
 }
 
-// Of what kind it is that the layers below layer `i` show at a path, by walks from their roots.
+/// Of what kind it is that the layers below layer `i` show at a path, by walks from their roots.
 pub(crate) fn sight_below<'a>(
     alloc: Global,
     stack: &'a Stack,
@@ -48,12 +49,13 @@ pub(crate) fn sight_below<'a>(
     path: Trail<'a>,
 ) -> Result<Sight, AllocError>
     requires { i < length (all_layers stack.now) }
-    ensures { IfOk result (λ sight. sight ≡ sight_of (the_look (layers_below stack.now i) path.entry)) }
+    ensures { IfOk result
+        (λ sight. sight ≡ sight_of (the_look (layers_below stack.now i) path.entry)) }
 {
     stack.sight(alloc, first_below(stack, i), path)
 }
 
-// The size of the data of a metacopy file with this path as its redirect.
+/// The size of the data of a metacopy file with this path as its redirect.
 pub(crate) fn data_size_below(
     alloc: Global,
     stack: &Stack,
@@ -61,14 +63,15 @@ pub(crate) fn data_size_below(
     path: &Path,
 ) -> Result<Option<u64>, AllocError>
     requires { i < length (all_layers stack.now) }
-    ensures { IfOk result (λ size. size ≡ data_size (layers_below stack.now i) (Some path.now) path.now) }
+    ensures { IfOk result
+        (λ size. size ≡ data_size (layers_below stack.now i) (Some path.now) path.now) }
 {
     let trail = Trail::of(alloc, &path.names())?;
     let found = stack.data(alloc, first_below(stack, i), trail, Some(path))?;
     Ok(size_in(found))
 }
 
-// The size of this file, if there is one.
+/// The size of this file, if there is one.
 pub(crate) fn size_in(found: Option<&Inode>) -> Option<u64>
     ensures { result ≡ option_map size_of (option_map (λ inode. inode.now) found.entry) }
 {
@@ -78,7 +81,8 @@ pub(crate) fn size_in(found: Option<&Inode>) -> Option<u64>
     }
 }
 
-// The mark that a layer keeps in the row of a path; the root counts as a plain directory, whose mark is lent.
+/// The mark that a layer keeps in the row of a path; the root counts as a plain directory, whose
+/// mark is lent.
 pub(crate) fn mark_in<'a>(sheet: &'a Sheet, row: u32, path: &Path, plain: &'a Mark) -> &'a Mark
     requires row { row < length sheet.now }
     requires path { path_at sheet.now row ≡ path.now }

@@ -5,7 +5,7 @@ use crate::blobs::Blob;
 use crate::named::ByName;
 use ovl_inode::Digest;
 
-// Blobs that are held, and the names of those with wrong bytes.
+/// Blobs that are held, and the names of those with wrong bytes.
 #[derive(Drop)]
 pub(crate) struct HeldBlobs<'a> {
     pub(crate) blobs: ByName<'a, Blob>,

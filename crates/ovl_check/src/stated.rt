@@ -6,8 +6,8 @@ use ovl_layer::Sheet;
 use ovl_lookup::Stack;
 use std::alloc::{AllocError, Global};
 
-/// The names of the blobs that the layers of a stack state, the data-only ones too: ascending, each once. Fails only when
-/// out of memory.
+/// The names of the blobs that the layers of a stack state, the data-only ones too: ascending, each
+/// once. Fails only when out of memory.
 pub fn stated_names(alloc: Global, stack: &Stack) -> Result<Vec<Digest>, AllocError>
     ensures { IfOk result (λ names. AreStated stack.now names.items) }
 {

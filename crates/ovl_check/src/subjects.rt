@@ -14,23 +14,25 @@ use ovl_lookup::Stack;
 /// What comes of checking a directory of a layer.
 #[derive(Debug, Drop)]
 pub struct CheckOut<'a> {
-    /// What is found at the directory and at each entry in it that is no directory, redirect-double apart.
+    /// What is found at the directory and at each entry in it that is no directory, redirect-double
+    /// apart.
     pub findings: Vec<Finding>,
-    /// The path by which the layers below know the directory, where they aren't hidden; none in a data-only layer.
+    /// The path by which the layers below know the directory, where they aren't hidden; none in a
+    /// data-only layer.
     pub place: Option<Place<'a>>,
     /// Whether the directory is a moved one; none is in a data-only layer.
     pub moved: bool,
 }
 
-/// A stack and its blobs to be checked, as work: the pieces of space `i` are the directories of layer `i`, from its
-/// root down. See [`CheckOut`] for what comes of each.
+/// A stack and its blobs to be checked, as work: the pieces of space `i` are the directories of
+/// layer `i`, from its root down. See [`CheckOut`] for what comes of each.
 #[derive(Drop)]
 pub struct CheckWork<'a> {
     pub(crate) stack: &'a Stack,
     pub(crate) told: ToldBlobs<'a>,
 }
 
-// What is told of the blobs.
+/// What is told of the blobs.
 #[derive(Drop)]
 pub(crate) enum ToldBlobs<'a> {
     Held(HeldBlobs<'a>),
@@ -38,7 +40,7 @@ pub(crate) enum ToldBlobs<'a> {
 }
 
 impl ToldBlobs<'_> {
-    // What is told of the blob that an inode names, sought once.
+    /// What is told of the blob that an inode names, sought once.
     pub(crate) fn named(&self, inode: &Inode) -> NamedBlob
         ensures { result ≡ the_blob_named (told_contents self.now) inode.now }
     {

@@ -27,9 +27,10 @@ struct Told {
     digest: [u8; 32],
 }
 
-/// What is told of the blob of a name whose bytes are all that a reader gives up to its end, read in parts that fill this
-/// room at most; rooms of [`PART`] bytes serve. No read is tried again, and the first fault that is met is told. Where more
-/// than 2^64 - 1 bytes come, that is a fault. Takes no memory. FIPS 180-4.
+/// What is told of the blob of a name whose bytes are all that a reader gives up to its end, read
+/// in parts that fill this room at most; rooms of [`PART`] bytes serve. No read is tried again, and
+/// the first fault that is met is told. Where more than 2^64 - 1 bytes come, that is a fault. Takes
+/// no memory. FIPS 180-4.
 pub fn content_in<R: Read>(
     name: Digest,
     reader: &mut R,
@@ -38,11 +39,15 @@ pub fn content_in<R: Read>(
     requires { 0 < length room.old }
     ensures room { length room.new ≡ length room.old }
     ensures taken { IfOk result (λ content. (bytes : List ℕ)
-        × (Consumes (R.remaining reader.old) (R.remaining reader.new) bytes × IsContentOf name bytes content)) }
-    ensures whole { IfOk result (λ content. IfSome (R.remaining reader.old) (λ left. IsContentOf name left content)) }
+        × (Consumes (R.remaining reader.old) (R.remaining reader.new) bytes
+        × IsContentOf name bytes content)) }
+    ensures whole { IfOk result
+        (λ content. IfSome (R.remaining reader.old) (λ left. IsContentOf name left content)) }
     ensures end { OnOk result (IsAtEnd (R.remaining reader.new)) }
-    ensures lost { (bytes : List ℕ) × Consumes (R.remaining reader.old) (R.remaining reader.new) bytes }
-    ensures too_long { result ≡ Err TooLong → IfSome (R.remaining reader.old) (λ left. 2 ^ 64 - 1 < length left) }
+    ensures lost { (bytes : List ℕ)
+        × Consumes (R.remaining reader.old) (R.remaining reader.new) bytes }
+    ensures too_long { result ≡ Err TooLong
+        → IfSome (R.remaining reader.old) (λ left. 2 ^ 64 - 1 < length left) }
 {
     let told = digest_in(reader, room)?;
     Ok(Content {
@@ -57,11 +62,15 @@ fn digest_in<R: Read>(reader: &mut R, room: &mut [u8]) -> Result<Told, ReadFault
     requires { 0 < length room.old }
     ensures room { length room.new ≡ length room.old }
     ensures taken { IfOk result (λ told. (bytes : List ℕ)
-        × (Consumes (R.remaining reader.old) (R.remaining reader.new) bytes × IsToldOf bytes told)) }
-    ensures whole { IfOk result (λ told. IfSome (R.remaining reader.old) (λ left. IsToldOf left told)) }
+        × (Consumes (R.remaining reader.old) (R.remaining reader.new) bytes
+        × IsToldOf bytes told)) }
+    ensures whole { IfOk result
+        (λ told. IfSome (R.remaining reader.old) (λ left. IsToldOf left told)) }
     ensures end { OnOk result (IsAtEnd (R.remaining reader.new)) }
-    ensures lost { (bytes : List ℕ) × Consumes (R.remaining reader.old) (R.remaining reader.new) bytes }
-    ensures too_long { result ≡ Err TooLong → IfSome (R.remaining reader.old) (λ left. 2 ^ 64 - 1 < length left) }
+    ensures lost { (bytes : List ℕ)
+        × Consumes (R.remaining reader.old) (R.remaining reader.new) bytes }
+    ensures too_long { result ≡ Err TooLong
+        → IfSome (R.remaining reader.old) (λ left. 2 ^ 64 - 1 < length left) }
 {
     let mut reading = Reading::new();
     // Each read but the last gives a byte at least.
@@ -95,10 +104,12 @@ impl Reading {
         ensures room { length room.new ≡ length room.old }
         ensures grown { IfOk result (λ count. self.new.length ≡ self.old.length + count) }
         ensures within { OnOk result (self.new.length < 2 ^ 64) }
-        ensures taken { OnOk result ((more : List ℕ) × (Consumes (R.remaining reader.old) (R.remaining reader.new) more
+        ensures taken { OnOk result
+            ((more : List ℕ) × (Consumes (R.remaining reader.old) (R.remaining reader.new) more
             × ((bytes : List ℕ) → HasRead bytes self.old → HasRead (bytes ++ more) self.new))) }
         ensures end { IfOk result (λ count. count ≡ 0 → IsAtEnd (R.remaining reader.new)) }
-        ensures lost { (bytes : List ℕ) × Consumes (R.remaining reader.old) (R.remaining reader.new) bytes }
+        ensures lost { (bytes : List ℕ)
+            × Consumes (R.remaining reader.old) (R.remaining reader.new) bytes }
         ensures too_long { result ≡ Err TooLong
             → IfSome (R.remaining reader.old) (λ left. 2 ^ 64 - 1 < self.old.length + length left) }
     {

@@ -24,7 +24,8 @@ workers_rule = record (new_rule (codes "workers")) {
   defaults = default_word ∷ [];
 }
 
--- `--data-layers K`, a whole number that leaves one of the most layers, and none where it is left out
+-- `--data-layers K`, a whole number that leaves one of the most layers, and none where it is left
+-- out
 abbrev pub data_layers_rule : Rule
 data_layers_rule = record (new_rule (codes "data-layers")) {
   long = Some (codes "data-layers");
@@ -48,7 +49,8 @@ any_size_rule = record (new_rule (codes "any-size")) {
   action = Some SetTrue;
 }
 
--- `--out DIR`, which must be there and have a name: the empty one would be the root of the file system
+-- `--out DIR`, which must be there and have a name: the empty one would be the root of the file
+-- system
 abbrev pub out_rule : Rule
 out_rule = record (new_rule (codes "out")) {
   long = Some (codes "out");
@@ -75,10 +77,15 @@ layers_rule = record (new_rule (codes "layers")) {
 }
 
 abbrev pub show_shape : Shape
-show_shape = record (new_shape (codes "show")) { rules = workers_rule ∷ data_layers_rule ∷ layers_rule ∷ [] }
+show_shape = record
+    (new_shape (codes "show")) { rules = workers_rule ∷ data_layers_rule ∷ layers_rule ∷ [] }
 
 abbrev pub fsck_shape : Shape
-fsck_shape = record (new_shape (codes "fsck")) { rules = blobs_rule ∷ any_size_rule ∷ workers_rule ∷ data_layers_rule ∷ layers_rule ∷ [] }
+fsck_shape = record
+    (new_shape (codes "fsck")) {
+      rules = blobs_rule ∷ any_size_rule ∷ workers_rule
+          ∷ data_layers_rule ∷ layers_rule ∷ [];
+    }
 
 -- a command that checks, with the options for its blobs
 abbrev pub blobs_shape : List ℕ → Shape
@@ -89,11 +96,19 @@ abbrev pub folders_shape : List ℕ → Shape
 folders_shape name = record (new_shape name) { rules = blobs_rule ∷ any_size_rule ∷ out_rule ∷ [] }
 
 abbrev pub rewriting_shape : List ℕ → Shape
-rewriting_shape name = record (new_shape name) { rules = blobs_rule ∷ any_size_rule ∷ out_rule ∷ workers_rule ∷ data_layers_rule ∷ layers_rule ∷ [] }
+rewriting_shape name = record
+    (new_shape name) {
+      rules = blobs_rule ∷ any_size_rule ∷ out_rule ∷ workers_rule
+          ∷ data_layers_rule ∷ layers_rule ∷ [];
+    }
 
 -- merge, which has one more
 abbrev pub merge_shape : Shape
-merge_shape = record (new_shape (codes "merge")) { rules = blobs_rule ∷ any_size_rule ∷ out_rule ∷ down_to_rule ∷ workers_rule ∷ data_layers_rule ∷ layers_rule ∷ [] }
+merge_shape = record
+    (new_shape (codes "merge")) {
+      rules = blobs_rule ∷ any_size_rule ∷ out_rule ∷ down_to_rule
+          ∷ workers_rule ∷ data_layers_rule ∷ layers_rule ∷ [];
+    }
 
 -- the program's own level, without its commands
 abbrev pub bare_app : App
@@ -107,7 +122,8 @@ bare_app = record {
   subs = [];
 }
 
--- the words after the program's name, of which the first names a command, or asks for help or the version
+-- the words after the program's name, of which the first names a command, or asks for help or the
+-- version
 abbrev pub tool_app : App
 tool_app = record {
   top = record (new_shape (codes "ovl_layers")) {
@@ -117,5 +133,7 @@ tool_app = record {
     disable_help_subcommand = true;
     subcommand_required = true;
   };
-  subs = show_shape ∷ fsck_shape ∷ rewriting_shape (codes "vacuum") ∷ rewriting_shape (codes "deref") ∷ merge_shape ∷ rewriting_shape (codes "flatten") ∷ [];
+  subs =
+      show_shape ∷ fsck_shape ∷ rewriting_shape (codes "vacuum") ∷ rewriting_shape (codes "deref")
+      ∷ merge_shape ∷ rewriting_shape (codes "flatten") ∷ [];
 }

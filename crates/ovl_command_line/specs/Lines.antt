@@ -37,8 +37,8 @@ NamesCommand name = (what : Command) × (name ≡ name_of what)
 abbrev pub IsLeft : Command → ℕ → Type 0
 IsLeft what left = (what ≡ Merge) × ((0 < left) × (left < layer_limit))
 
--- what every line keeps to: a stack has a layer that isn't data-only, the contents of files are read for what is checked,
--- and new layers need a folder with a name
+-- what every line keeps to: a stack has a layer that isn't data-only, the contents of files are
+-- read for what is checked, and new layers need a folder with a name
 pub record IsSound (line : Line) : Type 0 where
   pub some_worker : 1 ≤ line.workers
   pub few_workers : line.workers ≤ worker_limit
@@ -56,7 +56,8 @@ number_in text = digits_value 10 (without_leading_plus text)
 
 -- an option has one value, which spells a number within these bounds
 abbrev pub HasNumber : Text → ℕ → ℕ → List Row → Type 0
-HasNumber id low high rows = (text : Text) × (one_of id rows ≡ Some text) × IsUnsignedIn low high text
+HasNumber id low high rows =
+    (text : Text) × (one_of id rows ≡ Some text) × IsUnsignedIn low high text
 
 -- a flag is there
 abbrev pub has_flag : Text → List Row → Bool
@@ -75,8 +76,10 @@ pub record IsGiven (what : Command) (rows : List Row) : Type 0 where
   pub out_named : IfSome (first_of (codes "out") rows) (λ folder. 0 < length folder)
   pub is_flag : IsFlag (codes "any-size") rows
   pub any_size : has_flag (codes "any-size") rows ≡ true → checks what ≡ true
-  pub down_to : IfSome (one_of (codes "down-to") rows) (λ text. (what ≡ Merge) × IsUnsignedIn 1 (layer_limit - 1) text)
-  pub layers : (files : List Text) × (all_of (codes "layers") rows ≡ Some files) × (0 < length files)
+  pub down_to : IfSome (one_of (codes "down-to") rows)
+      (λ text. (what ≡ Merge) × IsUnsignedIn 1 (layer_limit - 1) text)
+  pub layers : (files : List Text) × (all_of (codes "layers") rows ≡ Some files)
+      × (0 < length files)
 
 -- the line is a command with the values that its options have
 pub record HasValues (line : Line) (rows : List Row) : Type 0 where
@@ -90,13 +93,16 @@ pub record HasValues (line : Line) (rows : List Row) : Type 0 where
 
 -- the words name the line's command, with the line's values for its options
 abbrev pub IsLineOf : List Text → Line → Type 0
-IsLineOf words line = (rows : List Row) × (subcommand_of tool_app words ≡ Some (name_of line.what, rows)) × HasValues line rows
+IsLineOf words line =
+    (rows : List Row) × (subcommand_of tool_app words ≡ Some (name_of line.what, rows))
+    × HasValues line rows
 
 -- what is asked for by this kind of error is a text: help, or the version
 abbrev pub AsksForText : ErrorKind → Type 0
 AsksForText kind = (kind ≡ DisplayHelp) ⊎ (kind ≡ DisplayVersion)
 
--- the words give the text that they ask for, and else a usage fault; out of memory may come at any time
+-- the words give the text that they ask for, and else a usage fault; out of memory may come at any
+-- time
 abbrev pub IsFaultBy : Kinds → LineFault → Type 0
 IsFaultBy kinds (Help text) = (kind : ErrorKind) × (AsksForText kind × IsAmong kind kinds)
 IsFaultBy kinds (Usage text) = (kind : ErrorKind) × ((¬ AsksForText kind) × IsAmong kind kinds)

@@ -169,7 +169,8 @@ fn bare<'a>(alloc: Global) -> Result<Command<'a>, AllocError>
 }
 
 fn show<'a>(alloc: Global) -> Result<Command<'a>, AllocError>
-    ensures { IfOk result (λ command. (shape_of command ≡ show_shape) × ((fields_of command).has_globals ≡ false)) }
+    ensures { IfOk result
+        (λ command. (shape_of command ≡ show_shape) × ((fields_of command).has_globals ≡ false)) }
 {
     Command::new(alloc, "show")
         .about(SHOW)
@@ -180,7 +181,8 @@ fn show<'a>(alloc: Global) -> Result<Command<'a>, AllocError>
 }
 
 fn fsck<'a>(alloc: Global) -> Result<Command<'a>, AllocError>
-    ensures { IfOk result (λ command. (shape_of command ≡ fsck_shape) × ((fields_of command).has_globals ≡ false)) }
+    ensures { IfOk result
+        (λ command. (shape_of command ≡ fsck_shape) × ((fields_of command).has_globals ≡ false)) }
 {
     with_blobs(alloc, "fsck", FSCK, FSCK_EXAMPLE)?
         .arg(workers(alloc))?
@@ -195,7 +197,9 @@ fn rewriting<'a>(
     about: &'a str,
     example: &'a str,
 ) -> Result<Command<'a>, AllocError>
-    ensures { IfOk result (λ command. (shape_of command ≡ rewriting_shape name.now) × ((fields_of command).has_globals ≡ false)) }
+    ensures { IfOk result
+        (λ command. (shape_of command ≡ rewriting_shape name.now)
+        × ((fields_of command).has_globals ≡ false)) }
 {
     with_folders(alloc, name, about, example)?
         .arg(workers(alloc))?
@@ -204,7 +208,8 @@ fn rewriting<'a>(
 }
 
 fn merge<'a>(alloc: Global) -> Result<Command<'a>, AllocError>
-    ensures { IfOk result (λ command. (shape_of command ≡ merge_shape) × ((fields_of command).has_globals ≡ false)) }
+    ensures { IfOk result
+        (λ command. (shape_of command ≡ merge_shape) × ((fields_of command).has_globals ≡ false)) }
 {
     with_folders(alloc, "merge", MERGE, MERGE_EXAMPLE)?
         .arg(down_to(alloc))?
@@ -220,7 +225,9 @@ fn with_blobs<'a>(
     about: &'a str,
     example: &'a str,
 ) -> Result<Command<'a>, AllocError>
-    ensures { IfOk result (λ command. (shape_of command ≡ blobs_shape name.now) × ((fields_of command).has_globals ≡ false)) }
+    ensures { IfOk result
+        (λ command. (shape_of command ≡ blobs_shape name.now)
+        × ((fields_of command).has_globals ≡ false)) }
 {
     Command::new(alloc, name)
         .about(about)
@@ -236,14 +243,17 @@ fn with_folders<'a>(
     about: &'a str,
     example: &'a str,
 ) -> Result<Command<'a>, AllocError>
-    ensures { IfOk result (λ command. (shape_of command ≡ folders_shape name.now) × ((fields_of command).has_globals ≡ false)) }
+    ensures { IfOk result
+        (λ command. (shape_of command ≡ folders_shape name.now)
+        × ((fields_of command).has_globals ≡ false)) }
 {
     with_blobs(alloc, name, about, example)?.arg(out(alloc))
 }
 
 fn workers<'a>(alloc: Global) -> Arg<'a>
     ensures rule { (rule_of result ≡ workers_rule) × (result.global ≡ false) }
-    ensures default { (number_in default_word ≡ default_workers) × (DEFAULT_WORKERS ≡ default_workers) }
+    ensures default { (number_in default_word ≡ default_workers)
+        × (DEFAULT_WORKERS ≡ default_workers) }
 {
     Arg::new(alloc, "workers")
         .long("workers")

@@ -1,4 +1,5 @@
-//! The words of the command line: the commands with their options, their help, and what words ask for.
+//! The words of the command line: the commands with their options, their help, and what words ask
+//! for.
 #![tactic(auto)]
 
 mod commands;

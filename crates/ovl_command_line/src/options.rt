@@ -13,14 +13,15 @@ pub struct Line {
     pub what: Command,
     /// The number of workers, 1 to [`WORKER_LIMIT`](ovl_board::WORKER_LIMIT).
     pub workers: usize,
-    /// How many of the layers, the lowest, are data-only; fewer than [`LAYER_LIMIT`](ovl_lookup::LAYER_LIMIT).
+    /// How many of the layers, the lowest, are data-only; fewer than
+    /// [`LAYER_LIMIT`](ovl_lookup::LAYER_LIMIT).
     pub data_layers: u16,
     /// The folder of the files' contents, for each command but `show`.
     pub blobs: Option<String>,
     /// Whether the contents are read in parts, whatever their size; never for `show`.
     pub any_size: bool,
-    /// How many layers merges are to leave, of those that aren't data-only, for `merge` alone: at least one, and fewer
-    /// than [`LAYER_LIMIT`](ovl_lookup::LAYER_LIMIT).
+    /// How many layers merges are to leave, of those that aren't data-only, for `merge` alone: at
+    /// least one, and fewer than [`LAYER_LIMIT`](ovl_lookup::LAYER_LIMIT).
     pub down_to: Option<usize>,
     /// The folder for new layers, for the commands that make some.
     pub out: Option<String>,

@@ -10,10 +10,10 @@ use clap::error::ErrorKind;
 use ovl_commands::Command;
 use std::alloc::{AllocError, Global};
 
-/// The line that the words after the program's name ask for. Which words those are, and the texts of
-/// help and of usage faults, the module `commands` says. Words that no command takes are a usage
-/// fault, as a number of workers outside 1 to 64, of data-only layers over 127, or no layer at all. Where they ask for help or the
-/// version, that is the fault. `Memory` may come at any words.
+/// The line that the words after the program's name ask for. Which words those are, and the texts
+/// of help and of usage faults, the module `commands` says. Words that no command takes are a usage
+/// fault, as a number of workers outside 1 to 64, of data-only layers over 127, or no layer at all.
+/// Where they ask for help or the version, that is the fault. `Memory` may come at any words.
 pub fn line(alloc: Global, words: &[&str]) -> Result<Line, LineFault>
     ensures sound { IfOk result IsSound }
     ensures read { IsRead (map (λ word. word.now) words.now) result }
@@ -45,7 +45,8 @@ fn command_of(name: &str) -> Command
 fn read(alloc: Global, what: Command, given: &ArgMatches<'_>) -> Result<Line, AllocError>
     requires { IsGiven what (rows_of (found_of given.now)) }
     ensures sound { IfOk result IsSound }
-    ensures values { IfOk result (λ line. (line.what ≡ what) × HasValues line (rows_of (found_of given.now))) }
+    ensures values { IfOk result
+        (λ line. (line.what ≡ what) × HasValues line (rows_of (found_of given.now))) }
 {
     let data_layers: usize = given.get_one("data-layers").unwrap();
     Ok(Line {
@@ -61,7 +62,8 @@ fn read(alloc: Global, what: Command, given: &ArgMatches<'_>) -> Result<Line, Al
 }
 
 fn copy(alloc: Global, text: Option<&str>) -> Result<Option<String>, AllocError>
-    ensures { IfOk result (λ copy. option_map string_bytes copy ≡ option_map (λ text. text.now) text.entry) }
+    ensures { IfOk result
+        (λ copy. option_map string_bytes copy ≡ option_map (λ text. text.now) text.entry) }
 {
     match text {
         Some(text) => Ok(Some(String::from_str(alloc, text)?)),
@@ -70,7 +72,8 @@ fn copy(alloc: Global, text: Option<&str>) -> Result<Option<String>, AllocError>
 }
 
 fn copies(alloc: Global, texts: &[&str]) -> Result<Vec<String>, AllocError>
-    ensures { IfOk result (λ copies. map string_bytes copies.items ≡ map (λ text. text.now) texts.now) }
+    ensures { IfOk result
+        (λ copies. map string_bytes copies.items ≡ map (λ text. text.now) texts.now) }
 {
     let mut copies = Vec::with_capacity(alloc, texts.len())?;
     for text in texts {

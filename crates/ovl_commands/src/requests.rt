@@ -5,14 +5,17 @@ pub enum Command {
     Show,
     /// The report lists what is wrong with the layers and the blobs. There is no new layer.
     Fsck,
-    /// The new layer is the topmost without what changes nothing in the merged tree, and the report lists what went.
+    /// The new layer is the topmost without what changes nothing in the merged tree, and the report
+    /// lists what went.
     Vacuum,
-    /// The new layer is the topmost without redirects and metacopy files, and the report lists what it has.
+    /// The new layer is the topmost without redirects and metacopy files, and the report lists what
+    /// it has.
     Deref,
-    /// The new layers are a topmost one that has its root alone, and under it the two topmost ones as one; the report
-    /// lists what that has.
+    /// The new layers are a topmost one that has its root alone, and under it the two topmost ones
+    /// as one; the report lists what that has.
     Merge,
-    /// The new layer is what the stack shows, as one layer for the whole stack, and the report lists what it has.
+    /// The new layer is what the stack shows, as one layer for the whole stack, and the report
+    /// lists what it has.
     Flatten,
 }
 

@@ -1,5 +1,5 @@
--- The directories of the dereferenced layer as work: a piece is a directory, its kids are the directories in it, and its
--- output is each name in it with its inode.
+-- The directories of the dereferenced layer as work: a piece is a directory, its kids are the
+-- directories in it, and its output is each name in it with its inode.
 use Rattle.std.specs.Prelude.{◌*◌, ℕ, Bool, Option, List, [], if◌then◌else◌, length}
 use Rattle.std.specs.List.{filter_map}
 use Rattle.std.specs.Option.{option_map}
@@ -25,20 +25,24 @@ is_at_moved top path = any_prefix (λ prefix. is_moved (mark_at top prefix)) pat
 abbrev pub new_at : StackView → PathNames → Option Inode
 new_at stack path = dereferenced_at (top_layer stack) (lower_layers stack) path
 
--- the names in a directory of it, in order: at and in a moved one those that are shown, else the topmost layer's own
+-- the names in a directory of it, in order: at and in a moved one those that are shown, else the
+-- topmost layer's own
 abbrev pub names_in : StackView → PathNames → List PathName
 names_in stack directory =
-    if is_at_moved (top_layer stack) directory then kids_along stack directory else names_below (top_layer stack) directory
+    if is_at_moved (top_layer stack) directory then kids_along stack directory
+    else names_below (top_layer stack) directory
 
 -- a name of a directory with its inode, if it has one
 abbrev pub named_inode : StackView → PathNames → PathName → Option NamedInode
-named_inode stack directory name = option_map (λ inode. (name, inode)) (new_at stack (child_path directory name))
+named_inode stack directory name =
+    option_map (λ inode. (name, inode)) (new_at stack (child_path directory name))
 
 -- the entries of a directory, in order
 abbrev pub inodes_in : StackView → PathNames → List NamedInode
 inodes_in stack directory = filter_map (named_inode stack directory) (names_in stack directory)
 
--- the kids of a directory are the directories in it, and its output is each name in it, in order, with its inode
+-- the kids of a directory are the directories in it, and its output is each name in it, in order,
+-- with its inode
 abbrev pub deref_kids : StackView → Piece → List Piece
 deref_kids stack piece = directories_among piece (inodes_in stack piece.dir)
 

@@ -15,7 +15,8 @@ use Rattle.ovl_deref.specs.Directories.{is_at_moved, new_at}
 -- this is what the topmost layer has at the path of a directory
 abbrev pub IsOwnPlace : Entries → PathNames → OwnPlace → Type 0
 IsOwnPlace top path Moved = is_at_moved top path ≡ true
-IsOwnPlace top path (Row row) = (is_at_moved top path ≡ false) × (row < length top) × (path_at top row ≡ path)
+IsOwnPlace top path (Row row) =
+    (is_at_moved top path ≡ false) × (row < length top) × (path_at top row ≡ path)
 IsOwnPlace top path Absent = (is_at_moved top path ≡ false) × (entries_under path top ≡ [])
 
 -- the path is that of an entry directly in the directory

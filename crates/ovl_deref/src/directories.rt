@@ -18,8 +18,8 @@ use ovl_lookup::{DirView, Found, Stack, shown_inodes};
 use ovl_names::{Name, Path};
 use std::alloc::{AllocError, Global};
 
-// The names in a directory of the new layer, each with its inode: at and in a moved one those that are shown, else the
-// topmost layer's own.
+/// The names in a directory of the new layer, each with its inode: at and in a moved one those that
+/// are shown, else the topmost layer's own.
 pub(crate) fn inodes_in(
     alloc: Global,
     stack: &Stack,
@@ -72,8 +72,8 @@ fn is_moved(mark: &Mark) -> bool
     matches!(mark, Mark::DirMoved(_))
 }
 
-// The topmost layer's own names in the directory of a row, where neither it nor one above it is moved, each with its
-// inode in the new layer, in one pass over the rows.
+// The topmost layer's own names in the directory of a row, where neither it nor one above it is
+// moved, each with its inode in the new layer, in one pass over the rows.
 fn own_inodes(
     alloc: Global,
     stack: &Stack,
@@ -93,7 +93,8 @@ fn own_inodes(
     Ok(inodes)
 }
 
-// Adds what becomes of the entry of a row, which lies directly in such a directory, by the view of that.
+// Adds what becomes of the entry of a row, which lies directly in such a directory, by the view of
+// that.
 fn push_own<'a>(
     alloc: Global,
     stack: &'a Stack,
@@ -107,7 +108,8 @@ fn push_own<'a>(
     requires kid { IsKid dir.now (path_at (top_layer stack.now) number) }
     requires view { IfSome view.old (IsViewOf stack.now 0 dir.now) }
     ensures inodes { OnOk result (inodes.new.items
-        ≡ inodes.old.items ++ cons_option (named_at stack.now (path_at (top_layer stack.now) number)) []) }
+        ≡ inodes.old.items
+        ++ cons_option (named_at stack.now (path_at (top_layer stack.now) number)) []) }
     ensures view { IfSome view.new (IsViewOf stack.now 0 dir.now) }
 {
     // Each layer of a stack is one.
@@ -133,9 +135,11 @@ fn dereferenced<'a>(
     entry: &Found<'_>,
 ) -> Result<Inode, AllocError>
     requires view { IfSome view.old (IsViewOf stack.now 0 dir.now) }
-    requires entry { entry_at (top_layer stack.now) (child_path dir.now name.now) ≡ Some entry.now.inode.now }
+    requires entry { entry_at (top_layer stack.now) (child_path dir.now name.now)
+        ≡ Some entry.now.inode.now }
     requires marked { entry.now.mark.now ≡ the_mark entry.now.inode.now }
-    ensures inode { IfOk result (λ new. new ≡ dereferenced_inode (top_layer stack.now) (lower_layers stack.now)
+    ensures inode { IfOk result
+        (λ new. new ≡ dereferenced_inode (top_layer stack.now) (lower_layers stack.now)
         (child_path dir.now name.now) entry.now.inode.now) }
     ensures view { IfSome view.new (IsViewOf stack.now 0 dir.now) }
 {

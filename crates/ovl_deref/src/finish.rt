@@ -16,15 +16,17 @@ use ovl_names::Name;
 use ovl_rewrite::{RewriteFault, layer_within};
 use std::alloc::Global;
 
-/// The topmost layer without redirects and metacopy files. The parcels are the plain walk of the work from `/` of
-/// space 0. Over a sound stack it is refused, unless memory runs out, exactly where it passes a limit of manifests.
+/// The topmost layer without redirects and metacopy files. The parcels are the plain walk of the
+/// work from `/` of space 0. Over a sound stack it is refused, unless memory runs out, exactly
+/// where it passes a limit of manifests.
 pub fn finish_deref(
     alloc: Global,
     work: &DerefWork<'_>,
     parcels: Vec<Parcel<Vec<(Name, Inode)>>>,
 ) -> Result<Layer, RewriteFault>
     requires { IsDerefWalk work.now (parcel_views inodes_seen parcels.items) }
-    ensures layer { IfOk result (λ layer. IsDereferenced layer (top_layer work.now) (lower_layers work.now)) }
+    ensures layer { IfOk result
+        (λ layer. IsDereferenced layer (top_layer work.now) (lower_layers work.now)) }
     ensures kept { IfOk result (λ _. PassesLimit work.now → ⊥) }
     ensures limit { IsSoundStack work.now → result ≡ Err LimitOut → PassesLimit work.now }
 {

@@ -7,7 +7,8 @@ use ovl_inode::{Attrs, Inode, overlay, visible};
 use ovl_lookup::Look;
 use std::alloc::{AllocError, Global};
 
-// A moved directory unfolded: its visible inode, opaque. overlayfs.rst: "whiteouts and opaque directories".
+/// A moved directory unfolded: its visible inode, opaque. overlayfs.rst: "whiteouts and opaque
+/// directories".
 pub(crate) fn unfolded(alloc: Global, inode: &Inode) -> Result<Inode, AllocError>
     ensures { IfOk result (λ new. new ≡ the_unfolded inode.now) }
 {
@@ -18,7 +19,8 @@ pub(crate) fn unfolded(alloc: Global, inode: &Inode) -> Result<Inode, AllocError
     }
 }
 
-// A metacopy file made full, with the contents that are shown. overlayfs.rst: "Metadata only copy up".
+/// A metacopy file made full, with the contents that are shown. overlayfs.rst: "Metadata only copy
+/// up".
 pub(crate) fn filled(alloc: Global, inode: &Inode, look: &Look) -> Result<Inode, AllocError>
     ensures { IfOk result (λ full. full ≡ the_filled inode.now look.now) }
 {

@@ -1,4 +1,5 @@
--- The report of `fsck`: a line for each finding, in their order, and how many are faults and how many notes.
+-- The report of `fsck`: a line for each finding, in their order, and how many are faults and how
+-- many notes.
 use Rattle.std.specs.Prelude.{ℕ, Bool, ◌==◌, not, List, ◌++◌, if◌then◌else◌, decimal, codes}
 use Rattle.std.specs.List.{flat_map, count_by}
 use Rattle.ovl_names.specs.Escapes.{shown_path}

@@ -22,7 +22,8 @@ use Rattle.ovl_engine.specs.Outcomes.{IsAccepted, IsRefusal, IsRun, MayRefuse, n
 use Rattle.ovl_engine.specs.Kept.{IsRequestOf, KeepsTree}
 use Rattle.ovl_engine.specs.Told.{AreBlobsOf, MayRefuseTold}
 
--- a merge of this stack leaves that one: the new lower layer, which passes no limit, over all that was under the two
+-- a merge of this stack leaves that one: the new lower layer, which passes no limit, over all that
+-- was under the two
 pub record IsLeftByMerge (stack next : StackView) : Type 0 where
   pub lower : Entries
   pub is_layer : IsLayer lower
@@ -30,7 +31,8 @@ pub record IsLeftByMerge (stack next : StackView) : Type 0 where
   pub within : PassesLimit (merge_of stack) → ⊥
   pub same : next ≡ over lower (from_layer 2 stack)
 
--- a merge leads from a stack, in which no fault is found with these blobs, to the one that it leaves
+-- a merge leads from a stack, in which no fault is found with these blobs, to the one that it
+-- leaves
 abbrev pub MergeLeads : List BlobView → StackView → StackView → Type 0
 MergeLeads blobs stack next = (is_clean (findings blobs stack) ≡ true) × IsLeftByMerge stack next
 
@@ -40,9 +42,11 @@ MergesLead zero blobs stack last = last ≡ stack
 MergesLead (suc more) blobs stack last =
     (next : StackView) × (MergesLead more blobs stack next × MergeLeads blobs next last)
 
--- what comes of merges of a stack until so many layers are left, where a gate may refuse this of each stack: merges lead to one
--- that has more, and this comes of a merge of that; an answer comes only where it has one more
-pub record IsRunDown (left : ℕ) (blobs : List BlobView) (stack : StackView) (refused : StackView → Type 0) (result : Result Answer EngineFault) : Type 0 where
+-- what comes of merges of a stack until so many layers are left, where a gate may refuse this of
+-- each stack: merges lead to one that has more, and this comes of a merge of that; an answer comes
+-- only where it has one more
+pub record IsRunDown (left : ℕ) (blobs : List BlobView) (stack : StackView)
+    (refused : StackView → Type 0) (result : Result Answer EngineFault) : Type 0 where
   pub before : ℕ
   pub last : StackView
   pub lead : MergesLead before blobs stack last
@@ -54,11 +58,13 @@ pub record IsRunDown (left : ℕ) (blobs : List BlobView) (stack : StackView) (r
 abbrev pub count_in : Request → ℕ
 count_in request = length (stack_of request).layers
 
--- nothing refuses to merge until so many layers are left: not the merge, and it is fewer than there are, and not none
+-- nothing refuses to merge until so many layers are left: not the merge, and it is fewer than there
+-- are, and not none
 abbrev pub IsAcceptedDown : ℕ → Request → Type 0
 IsAcceptedDown left request = IsAccepted request × ((0 < left) × (left < count_in request))
 
--- why it is refused before any work: what the merge is refused for, else that there is no lower layer to be merged so
+-- why it is refused before any work: what the merge is refused for, else that there is no lower
+-- layer to be merged so
 abbrev pub IsRefusalDown : ℕ → Request → EngineFault → Type 0
 IsRefusalDown left request fault =
     IsRefusal request fault
@@ -67,30 +73,38 @@ IsRefusalDown left request fault =
 -- what comes of it, where this says what comes of the work
 abbrev pub IsOutcomeOfRun : ℕ → Request → Type 0 → Result Answer EngineFault → Type 0
 IsOutcomeOfRun left request run (Ok answer) = IsAcceptedDown left request × run
-IsOutcomeOfRun left request run (Err fault) = IsRefusalDown left request fault ⊎ (IsAcceptedDown left request × run)
+IsOutcomeOfRun left request run (Err fault) =
+    IsRefusalDown left request fault ⊎ (IsAcceptedDown left request × run)
 
--- what comes of a request's merges until so many layers are left, by a gate that may refuse these pieces
+-- what comes of a request's merges until so many layers are left, by a gate that may refuse these
+-- pieces
 abbrev pub IsOutcomeDown : ℕ → Request → (Piece → Type 0) → Result Answer EngineFault → Type 0
 IsOutcomeDown left request may_refuse result =
     IsOutcomeOfRun left request
-    (IsRunDown left request.blobs (stack_of request) (λ one. MayRefuse Merge one request.blobs may_refuse) result) result
+    (IsRunDown left request.blobs (stack_of request)
+    (λ one. MayRefuse Merge one request.blobs may_refuse) result) result
 
 -- the same over contents that are told, of a request without blobs
-abbrev pub IsRunDownTold : ℕ → StackView → (List ℕ → Option (List ℕ) → Type 0) → (Piece → Type 0) → Result Answer EngineFault → Type 0
+abbrev pub IsRunDownTold : ℕ → StackView → (List ℕ → Option (List ℕ) → Type 0) → (Piece → Type 0)
+    → Result Answer EngineFault → Type 0
 IsRunDownTold left stack may_be may_refuse result =
     (blobs : List BlobView) × (AreBlobsOf may_be stack blobs
     × IsRunDown left blobs stack (λ one. MayRefuseTold Merge one may_refuse) result)
 
-abbrev pub IsOutcomeDownTold : ℕ → Request → (List ℕ → Option (List ℕ) → Type 0) → (Piece → Type 0) → Result Answer EngineFault → Type 0
+abbrev pub IsOutcomeDownTold : ℕ → Request → (List ℕ → Option (List ℕ) → Type 0) → (Piece → Type 0)
+    → Result Answer EngineFault → Type 0
 IsOutcomeDownTold left request may_be may_refuse result =
-    IsOutcomeOfRun left request (IsRunDownTold left (stack_of request) may_be may_refuse result) result
+    IsOutcomeOfRun left request
+    (IsRunDownTold left (stack_of request) may_be may_refuse result) result
 
--- an answer's manifests state two layers that in place of the two topmost of this stack keep the tree
+-- an answer's manifests state two layers that in place of the two topmost of this stack keep the
+-- tree
 pub record KeepsTreeByTwo (stack : StackView) (answer : Answer) : Type 0 where
   pub top : Entries
   pub lower : Entries
   pub read : map read_layer (new_manifests answer) ≡ Ok top ∷ Ok lower ∷ []
-  pub same : (path : PathNames) → look (over top (over lower (from_layer 2 stack))) path ≡ look stack path
+  pub same : (path : PathNames)
+      → look (over top (over lower (from_layer 2 stack))) path ≡ look stack path
 
 -- the request with an answer's new manifests in place of all that were merged
 abbrev pub after_down : ℕ → Request → Answer → Request
@@ -101,4 +115,5 @@ after_down left request answer = record request {
 -- these keep the tree, whatever manifests state the stack
 abbrev pub KeepsTreeDown : ℕ → StackView → Answer → Type 0
 KeepsTreeDown left stack answer =
-    (request : Request) → IsRequestOf stack request → KeepsTree request (after_down left request answer)
+    (request : Request) → IsRequestOf stack request
+    → KeepsTree request (after_down left request answer)

@@ -60,12 +60,15 @@ pub record IsRewritten (report : List ℕ) (layers : List Entries) (answer : Ans
   pub written : new_manifests answer ≡ map manifest_text layers
   pub clean : answer.clean ≡ true
 
--- the answer of vacuum tells what goes of the topmost layer of this stack and how much is left, which is the new layer
+-- the answer of vacuum tells what goes of the topmost layer of this stack and how much is left,
+-- which is the new layer
 abbrev pub IsVacuumed : StackView → Answer → Type 0
 IsVacuumed stack answer =
-    IsRewritten (vacuum_report (removed_by_vacuum stack) (length (left_by_vacuum stack))) (left_by_vacuum stack ∷ []) answer
+    IsRewritten (vacuum_report (removed_by_vacuum stack) (length (left_by_vacuum stack)))
+    (left_by_vacuum stack ∷ []) answer
 
--- the answer of deref has and tells what the topmost layer of this stack is without redirects and metacopy files
+-- the answer of deref has and tells what the topmost layer of this stack is without redirects and
+-- metacopy files
 pub record IsUnfolded (stack : StackView) (answer : Answer) : Type 0 where
   pub new : Entries
   pub is_layer : IsLayer new
@@ -73,7 +76,8 @@ pub record IsUnfolded (stack : StackView) (answer : Answer) : Type 0 where
   pub within : PassesLimit stack → ⊥
   pub rewritten : IsRewritten (layer_report new) (new ∷ []) answer
 
--- the answer of merge has and tells what the two topmost layers of this stack are as one, under the root of the first
+-- the answer of merge has and tells what the two topmost layers of this stack are as one, under the
+-- root of the first
 pub record IsMergedInto (stack : StackView) (answer : Answer) : Type 0 where
   pub lower : Entries
   pub is_layer : IsLayer lower
@@ -91,7 +95,8 @@ pub record IsFlattenedInto (stack : StackView) (answer : Answer) : Type 0 where
 
 -- the answer of a command over this stack, of which this is found
 abbrev pub IsAnswerOf : Command → StackView → List Finding → Answer → Type 0
-IsAnswerOf Show stack found answer = IsShowReport stack answer.report.items × (answer.layers.items ≡ []) × (answer.clean ≡ true)
+IsAnswerOf Show stack found answer =
+    IsShowReport stack answer.report.items × (answer.layers.items ≡ []) × (answer.clean ≡ true)
 IsAnswerOf Fsck stack found answer =
     (answer.report.items ≡ fsck_report found)
     × (answer.layers.items ≡ [])
@@ -119,14 +124,16 @@ MayRefuseBlobs blobs may_refuse = MayBeRefused (blob_kids blobs) may_refuse blob
 
 abbrev pub MayRefuseLayer : StackView → (Piece → Type 0) → ℕ → Type 0
 MayRefuseLayer stack may_refuse i =
-    (i < length (all_layers stack)) × MayBeRefused (check_kids (check_of stack)) may_refuse (directory_piece i [])
+    (i < length (all_layers stack))
+    × MayBeRefused (check_kids (check_of stack)) may_refuse (directory_piece i [])
 
 abbrev pub MayRefuseLayers : StackView → (Piece → Type 0) → Type 0
 MayRefuseLayers stack may_refuse = (i : ℕ) × MayRefuseLayer stack may_refuse i
 
 -- the same of what is checked, and of the directories that a command's own work visits
 abbrev pub MayRefuseCheck : StackView → List BlobView → (Piece → Type 0) → Type 0
-MayRefuseCheck stack blobs may_refuse = MayRefuseBlobs blobs may_refuse ⊎ MayRefuseLayers stack may_refuse
+MayRefuseCheck stack blobs may_refuse =
+    MayRefuseBlobs blobs may_refuse ⊎ MayRefuseLayers stack may_refuse
 
 abbrev pub MayRefuseOwn : Command → StackView → (Piece → Type 0) → Type 0
 MayRefuseOwn Show stack may_refuse = MayBeRefused (show_kids stack) may_refuse show_root
@@ -139,7 +146,8 @@ MayRefuseOwn Flatten stack may_refuse = MayBeRefused (flatten_kids stack) may_re
 -- the gate may refuse a piece that is reached where the command is run over this stack and blobs
 abbrev pub MayRefuse : Command → StackView → List BlobView → (Piece → Type 0) → Type 0
 MayRefuse command stack blobs may_refuse =
-    ((checks command ≡ true) × MayRefuseCheck stack blobs may_refuse) ⊎ MayRefuseOwn command stack may_refuse
+    ((checks command ≡ true) × MayRefuseCheck stack blobs may_refuse)
+    ⊎ MayRefuseOwn command stack may_refuse
 
 -- a run fails by its gate alone, where that may refuse a piece; that memory ran out is told apart
 abbrev pub IsFailedRun : Type 0 → RunFault → Type 0
@@ -148,9 +156,11 @@ IsFailedRun refused Gate = refused
 IsFailedRun refused (Board fault) = ⊥
 IsFailedRun refused RunMemory = ⊥
 
--- a command that makes layers is refused for a fault that is found, and this is the report that tells it
+-- a command that makes layers is refused for a fault that is found, and this is the report that
+-- tells it
 abbrev pub IsFoundFaulty : Command → List Finding → List ℕ → Type 0
-IsFoundFaulty command found report = (makes_layers command ≡ true) × (is_clean found ≡ false) × (report ≡ fsck_report found)
+IsFoundFaulty command found report =
+    (makes_layers command ≡ true) × (is_clean found ≡ false) × (report ≡ fsck_report found)
 
 -- no fault is found, and a new layer passes a limit of manifests
 abbrev pub PassesNewLimit : Command → StackView → Type 0
@@ -164,7 +174,8 @@ PassesNewLimit Flatten stack = PassesLimitFlattened stack
 abbrev pub IsLimitedOut : Command → StackView → List Finding → Type 0
 IsLimitedOut command stack found = (is_clean found ≡ true) × PassesNewLimit command stack
 
--- why a walk isn't done, where the gate may refuse a piece of it; out of memory may come at any time
+-- why a walk isn't done, where the gate may refuse a piece of it; out of memory may come at any
+-- time
 abbrev pub IsFailedWalk : Type 0 → EngineFault → Type 0
 IsFailedWalk refused (Run fault) = IsFailedRun refused fault
 IsFailedWalk refused Memory = ⊤
@@ -178,7 +189,8 @@ IsFailedWalk refused BlobSize = ⊥
 IsFailedWalk refused NoLower = ⊥
 IsFailedWalk refused DataLayers = ⊥
 
--- why work over this stack isn't done, of which this is found, where the gate may refuse a piece of it
+-- why work over this stack isn't done, of which this is found, where the gate may refuse a piece of
+-- it
 abbrev pub IsFailure : Command → StackView → List Finding → Type 0 → EngineFault → Type 0
 IsFailure command stack found refused (Faulty report) = IsFoundFaulty command found report.items
 IsFailure command stack found refused LimitOut = IsLimitedOut command stack found
@@ -192,7 +204,8 @@ IsFailure command stack found refused BlobSize = ⊥
 IsFailure command stack found refused NoLower = ⊥
 IsFailure command stack found refused DataLayers = ⊥
 
--- why new layers aren't made of a stack of which this is found, before any is; out of memory may come at any time
+-- why new layers aren't made of a stack of which this is found, before any is; out of memory may
+-- come at any time
 abbrev pub IsUnclean : List Finding → EngineFault → Type 0
 IsUnclean found (Faulty report) = (is_clean found ≡ false) × (report.items ≡ fsck_report found)
 IsUnclean found Memory = ⊤
@@ -237,7 +250,8 @@ IsRefusal request DataLayers = IsRefused request DataLayers
 abbrev pub found_in : Request → List Finding
 found_in request = findings request.blobs (stack_of request)
 
--- what comes of a request, by a gate that may refuse these pieces; out of memory may come at any time
+-- what comes of a request, by a gate that may refuse these pieces; out of memory may come at any
+-- time
 abbrev pub IsOutcome : Request → (Piece → Type 0) → Result Answer EngineFault → Type 0
 IsOutcome request may_refuse (Ok answer) =
     IsAccepted request × IsAnswer request.what (stack_of request) request.blobs answer
@@ -246,7 +260,8 @@ IsOutcome request may_refuse (Err (Faulty report)) =
 IsOutcome request may_refuse (Err LimitOut) =
     IsAccepted request × IsLimitedOut request.what (stack_of request) (found_in request)
 IsOutcome request may_refuse (Err (Run fault)) =
-    IsAccepted request × IsFailedRun (MayRefuse request.what (stack_of request) request.blobs may_refuse) fault
+    IsAccepted request
+    × IsFailedRun (MayRefuse request.what (stack_of request) request.blobs may_refuse) fault
 IsOutcome request may_refuse (Err Memory) = ⊤
 IsOutcome request may_refuse (Err Workers) = IsRefused request Workers
 IsOutcome request may_refuse (Err Layers) = IsRefused request Layers

@@ -8,12 +8,14 @@ use Rattle.ovl_commands.specs.Commands.{checks}
 use Rattle.ovl_engine.specs.Requests.{Request}
 use Rattle.ovl_engine.specs.Kept.{IsRequestOf}
 
--- these names of blobs are asked for where a command goes over a stack: those that its layers state, where it checks them
+-- these names of blobs are asked for where a command goes over a stack: those that its layers
+-- state, where it checks them
 pub record AreAsked (command : Command) (stack : StackView) (names : List (List ℕ)) : Type 0 where
   pub stated : checks command ≡ true → AreStated stack names
   pub none : checks command ≡ false → names ≡ []
 
--- the question of a request: its command, the stack that its manifests state, and the names that are asked for
+-- the question of a request: its command, the stack that its manifests state, and the names that
+-- are asked for
 pub record IsQuestionOf (request : Request) (question : Question) : Type 0 where
   pub what : question.what ≡ request.what
   pub stack : IsRequestOf question.stack request

@@ -25,11 +25,13 @@ abbrev pub is_outside : ℕ → ℕ → Bool
 is_outside limit number = number == 0 || nat_lt limit number
 
 -- one more layer on top
-abbrev pub under_layer : Entries → Result (List Entries) EngineFault → Result (List Entries) EngineFault
+abbrev pub under_layer : Entries → Result (List Entries) EngineFault
+    → Result (List Entries) EngineFault
 under_layer layer (Ok layers) = Ok (layer ∷ layers)
 under_layer layer (Err fault) = Err fault
 
--- the layers that manifests state, or the fault of the first that states none, with its index counted on from one
+-- the layers that manifests state, or the fault of the first that states none, with its index
+-- counted on from one
 abbrev pub layers_from : ℕ → List (List ℕ) → Result (List Entries) EngineFault
 layers_from index [] = Ok []
 layers_from index (manifest ∷ manifests) = elim (read_layer manifest) [
@@ -43,7 +45,8 @@ stated_layers manifests = elim (layers_from 0 manifests) [ Ok layers ↦ layers 
 
 -- the fault of manifests of which one states no layer
 abbrev pub first_unread : List (List ℕ) → Option EngineFault
-first_unread manifests = elim (layers_from 0 manifests) [ Ok layers ↦ None | Err fault ↦ Some fault ]
+first_unread manifests =
+    elim (layers_from 0 manifests) [ Ok layers ↦ None | Err fault ↦ Some fault ]
 
 -- the most bytes of all blobs, and how many blobs have
 abbrev pub blob_limit : ℕ
@@ -61,7 +64,9 @@ blob_refusal blobs =
 
 -- what manifests and blobs are refused for
 abbrev pub input_refusal : Request → Option EngineFault
-input_refusal request = elim (first_unread request.manifests) [ Some fault ↦ Some fault | None ↦ blob_refusal request.blobs ]
+input_refusal request =
+    elim (first_unread request.manifests)
+    [ Some fault ↦ Some fault | None ↦ blob_refusal request.blobs ]
 
 -- how many layers aren't data-only
 abbrev pub ordinary_layers : Request → ℕ
@@ -69,7 +74,8 @@ ordinary_layers request = length request.manifests - request.bottom
 
 -- the fault of fewer than two such layers, where a command wants one under the topmost
 abbrev pub lower_refusal : Request → Option EngineFault
-lower_refusal request = if wants_lower request.what && nat_lt (ordinary_layers request) 2 then Some NoLower else None
+lower_refusal request =
+    if wants_lower request.what && nat_lt (ordinary_layers request) 2 then Some NoLower else None
 
 -- what a request is refused for: the first of seven that holds
 abbrev pub first_refusal : Request → Option EngineFault

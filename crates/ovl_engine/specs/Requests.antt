@@ -5,8 +5,8 @@ use Rattle.ovl_check.specs.declared.blobs.Blob.{Blob}
 use Rattle.ovl_check.specs.Blobs.{BlobView, blob_views}
 use Rattle.ovl_commands.specs.declared.requests.Command.{Command}
 
--- a request: a command over manifests, the topmost first, of which the last `bottom` state data-only layers, with these
--- blobs, by this number of workers
+-- a request: a command over manifests, the topmost first, of which the last `bottom` state
+-- data-only layers, with these blobs, by this number of workers
 pub record Request : Type 0 where
   pub what : Command
   pub manifests : List (List ℕ)

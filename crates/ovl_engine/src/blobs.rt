@@ -10,10 +10,11 @@ use sha2::Sha256;
 use std::alloc::{AllocError, Global};
 use std::collections::BTreeMap;
 
-/// The contents as blobs, each named by its SHA-256 digest (FIPS 180-4): ascending by name, each name once, with the
-/// first contents that have this digest. Fails only when out of memory.
+/// The contents as blobs, each named by its SHA-256 digest (FIPS 180-4): ascending by name, each
+/// name once, with the first contents that have this digest. Fails only when out of memory.
 pub fn named_blobs(alloc: Global, contents: &[Vec<u8>]) -> Result<Vec<Blob>, AllocError>
-    ensures { IfOk result (λ blobs. AreNamed (map (λ bytes. bytes.items) contents.now) (blob_views blobs.items)) }
+    ensures { IfOk result
+        (λ blobs. AreNamed (map (λ bytes. bytes.items) contents.now) (blob_views blobs.items)) }
 {
     let named = first_of_each(alloc, contents)?;
     let blobs = blobs_of(alloc, named)?;
@@ -26,7 +27,8 @@ fn first_of_each(
     contents: &[Vec<u8>],
 ) -> Result<BTreeMap<Digest, Vec<u8>>, AllocError>
     ensures { IfOk result (λ named.
-        HasFirsts (map (λ bytes. bytes.items) contents.now) (map (λ entry. (entry.0, entry.1.items)) named.entries)) }
+        HasFirsts (map (λ bytes. bytes.items) contents.now)
+        (map (λ entry. (entry.0, entry.1.items)) named.entries)) }
 {
     let mut named = BTreeMap::new(alloc);
     for bytes in contents {
@@ -41,7 +43,8 @@ fn first_of_each(
 // The entries as blobs, in their order.
 fn blobs_of(alloc: Global, named: BTreeMap<Digest, Vec<u8>>) -> Result<Vec<Blob>, AllocError>
     ensures same { IfOk result (λ blobs.
-        map name_and_bytes (blob_views blobs.items) ≡ map (λ entry. (entry.0, entry.1.items)) named.entries) }
+        map name_and_bytes (blob_views blobs.items)
+        ≡ map (λ entry. (entry.0, entry.1.items)) named.entries) }
     ensures ordered { IfOk result (λ _. IsOrdered digest_cmp named) }
 {
     let mut blobs = Vec::new(alloc);

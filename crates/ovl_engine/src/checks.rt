@@ -25,8 +25,8 @@ use ovl_pool::Gate;
 use std::sync::Wait;
 use std::thread::Threads;
 
-/// All that is found in a stack and its blobs, in the order of the report. Each blob is digested once, then the layers
-/// are checked one after the other, each by all workers.
+/// All that is found in a stack and its blobs, in the order of the report. Each blob is digested
+/// once, then the layers are checked one after the other, each by all workers.
 pub(crate) fn findings_of<G: Gate + Sync, R: Threads + Wait + Sync>(
     team: &Team<'_, G, R>,
     stack: &Stack,
@@ -36,7 +36,8 @@ pub(crate) fn findings_of<G: Gate + Sync, R: Threads + Wait + Sync>(
     requires ascend { are_in_order (blob_views blobs.now) ≡ true }
     ensures found { MatchResult result
         (λ found. found.items ≡ findings (blob_views blobs.now) stack.now)
-        (λ fault. IsFailedWalk (MayRefuseCheck stack.now (blob_views blobs.now) (G.may_refuse team.now.gate.now)) fault) }
+        (λ fault. IsFailedWalk
+        (MayRefuseCheck stack.now (blob_views blobs.now) (G.may_refuse team.now.gate.now)) fault) }
     ensures sound { IfOk result (λ found. is_clean found.items ≡ true → IsSoundStack stack.now) }
 {
     findings_need_contents();
@@ -55,7 +56,8 @@ pub(crate) fn findings_by<G: Gate + Sync, R: Threads + Wait + Sync>(
     requires number { (0 < team.now.workers) × (team.now.workers ≤ worker_limit) }
     requires ascend { contents_ascend contents.now ≡ true }
     ensures found { MatchResult result
-        (λ found. (blobs : List BlobView) → contents_of blobs ≡ contents.now → found.items ≡ findings blobs stack.now)
+        (λ found. (blobs : List BlobView) → contents_of blobs ≡ contents.now
+        → found.items ≡ findings blobs stack.now)
         (λ fault. IsFailedWalk (MayRefuseLayers stack.now (G.may_refuse team.now.gate.now)) fault) }
     ensures sound { IfOk result (λ found. (blobs : List BlobView) → contents_of blobs ≡ contents.now
         → is_clean found.items ≡ true → IsSoundStack stack.now) }
@@ -75,7 +77,8 @@ pub(crate) fn wrong_blobs<G: Gate + Sync, R: Threads + Wait + Sync>(
     requires ascend { are_in_order (blob_views blobs.now) ≡ true }
     ensures { MatchResult result
         (λ wrong. wrong.items ≡ wrong_names (blob_views blobs.now))
-        (λ fault. IsFailedWalk (MayRefuseBlobs (blob_views blobs.now) (G.may_refuse team.now.gate.now)) fault) }
+        (λ fault. IsFailedWalk
+        (MayRefuseBlobs (blob_views blobs.now) (G.may_refuse team.now.gate.now)) fault) }
 {
     let work = BlobWork::new(blobs);
     let parcels = team.walk(&work, BLOB_SPACE)?;
@@ -108,7 +111,8 @@ fn layer_walks<'a, G: Gate + Sync, R: Threads + Wait + Sync>(
     requires same { (check_view work.now).stack ≡ stack.now }
     ensures { MatchResult result
         (λ walks. (length walks.items ≡ length (all_layers stack.now))
-        × AreLayerWalks (check_view work.now) 0 (map (λ parcels. parcel_views check_seen parcels.items) walks.items))
+        × AreLayerWalks (check_view work.now) 0
+        (map (λ parcels. parcel_views check_seen parcels.items) walks.items))
         (λ fault. IsFailedWalk (MayRefuseLayers stack.now (G.may_refuse team.now.gate.now)) fault) }
 {
     let mut walks = Vec::new(team.alloc);

@@ -34,23 +34,26 @@ use std::alloc::Global;
 use std::sync::Wait;
 use std::thread::Threads;
 
-/// What a command gives of the layers that the manifests state, the topmost first and the last `bottom` of them data-only,
-/// and of the blobs, by 1 to [`WORKER_LIMIT`] workers. The answer is the same for every number of workers and every order
-/// of their visits. Lent manifests, `&[Vec<u8>]`, stay as they are; of a list of its own, `Vec<Vec<u8>>`, it lets each go
-/// once its layer is read, so that the command's work has their memory.
+/// What a command gives of the layers that the manifests state, the topmost first and the last
+/// `bottom` of them data-only, and of the blobs, by 1 to [`WORKER_LIMIT`] workers. The answer is
+/// the same for every number of workers and every order of their visits. Lent manifests,
+/// `&[Vec<u8>]`, stay as they are; of a list of its own, `Vec<Vec<u8>>`, it lets each go once its
+/// layer is read, so that the command's work has their memory.
 ///
-/// Refused before any worker starts where the workers are outside 1 to [`WORKER_LIMIT`], else where the manifests are
-/// outside 1 to [`LAYER_LIMIT`], else where all layers would be data-only, else where a manifest states no layer, the first
-/// of them, with its fault, else where the names of the blobs don't ascend strictly, else where the blobs have more than
-/// [`BLOB_LIMIT`] bytes in all, else where a merge has fewer than two layers that aren't data-only. A command that makes new
-/// layers first checks as [`Command::Fsck`] does, and is refused with that report where it tells a fault, else with
-/// `LimitOut` where a new layer passes a limit of manifests. Else the manifests with the new ones in place of the topmost,
-/// as many of them data-only as before, show the same merged tree, and after vacuum and deref have no fault of a layer;
-/// after flatten so does the new one in place of all, none data-only.
-/// `Run` comes only where the gate refuses a piece that the command reaches; `Memory` can come at any time but before the
-/// first three refusals. It waits for its workers, and returns only where each question to the gate does. The merged tree,
-/// what is checked and the new layers are those of `docs/PROFILE.md`, the reports those of `docs/FORMATS.md`.
-/// overlayfs.rst: "Data-only lower layers".
+/// Refused before any worker starts where the workers are outside 1 to [`WORKER_LIMIT`], else where
+/// the manifests are outside 1 to [`LAYER_LIMIT`], else where all layers would be data-only, else
+/// where a manifest states no layer, the first of them, with its fault, else where the names of the
+/// blobs don't ascend strictly, else where the blobs have more than [`BLOB_LIMIT`] bytes in all,
+/// else where a merge has fewer than two layers that aren't data-only. A command that makes new
+/// layers first checks as [`Command::Fsck`] does, and is refused with that report where it tells a
+/// fault, else with `LimitOut` where a new layer passes a limit of manifests. Else the manifests
+/// with the new ones in place of the topmost, as many of them data-only as before, show the same
+/// merged tree, and after vacuum and deref have no fault of a layer; after flatten so does the new
+/// one in place of all, none data-only. `Run` comes only where the gate refuses a piece that the
+/// command reaches; `Memory` can come at any time but before the first three refusals. It waits for
+/// its workers, and returns only where each question to the gate does. The merged tree, what is
+/// checked and the new layers are those of `docs/PROFILE.md`, the reports those of
+/// `docs/FORMATS.md`. overlayfs.rst: "Data-only lower layers".
 pub fn command<G: Gate + Sync, R: Threads + Wait + Sync, M: Manifests + Drop>(
     rt: &R,
     alloc: Global,
@@ -61,18 +64,24 @@ pub fn command<G: Gate + Sync, R: Threads + Wait + Sync, M: Manifests + Drop>(
     workers: usize,
     gate: &G,
 ) -> Result<Answer, EngineFault>
-    ensures outcome { IsOutcome (request_of what (M.held manifests) bottom blobs.now workers) (G.may_refuse gate.now) result }
+    ensures outcome { IsOutcome (request_of what (M.held manifests) bottom blobs.now workers)
+        (G.may_refuse gate.now) result }
     ensures keeps { IfOk result (λ answer. makes_layers what ≡ true
-        → let request = request_of what (M.held manifests) bottom blobs.now workers in KeepsTree request (after request answer)) }
+        → let request = request_of what
+        (M.held manifests) bottom blobs.now workers in KeepsTree request (after request answer)) }
     ensures sound { IfOk result (λ answer. stays_sound what ≡ true
-        → HasSoundStack (after (request_of what (M.held manifests) bottom blobs.now workers) answer)) }
+        → HasSoundStack
+        (after (request_of what (M.held manifests) bottom blobs.now workers) answer)) }
     ensures quiet { IfOk result (λ answer. stands_alone what ≡ true
-        → let request = request_of what (M.held manifests) bottom blobs.now workers in IsQuiet request (after request answer)) }
+        → let request = request_of what
+        (M.held manifests) bottom blobs.now workers in IsQuiet request (after request answer)) }
     ensures workers { (result ≡ Err Workers) ↔ (outside_test worker_limit workers ≡ true) }
     ensures layers { (result ≡ Err Layers)
-        ↔ ((outside_test worker_limit workers ≡ false) × (outside_test layer_limit (length (M.held manifests)) ≡ true)) }
+        ↔ ((outside_test worker_limit workers ≡ false)
+        × (outside_test layer_limit (length (M.held manifests)) ≡ true)) }
     ensures data_layers { (result ≡ Err DataLayers)
-        ↔ ((outside_test worker_limit workers ≡ false) × (outside_test layer_limit (length (M.held manifests)) ≡ false)
+        ↔ ((outside_test worker_limit workers ≡ false)
+        × (outside_test layer_limit (length (M.held manifests)) ≡ false)
         × (nat_le (length (M.held manifests)) bottom ≡ true)) }
 {
     let stack = stack_for(rt, alloc, what, manifests, bottom, blobs, workers)?;
@@ -85,8 +94,8 @@ pub fn command<G: Gate + Sync, R: Threads + Wait + Sync, M: Manifests + Drop>(
     answer_of(&team, what, stack, blobs)
 }
 
-/// The stack of the layers that the manifests state, where nothing refuses the command before its work. Its own manifests go
-/// while they are read.
+/// The stack of the layers that the manifests state, where nothing refuses the command before its
+/// work. Its own manifests go while they are read.
 pub(crate) fn stack_for<R: Threads + Sync, M: Manifests + Drop>(
     rt: &R,
     alloc: Global,
@@ -96,17 +105,22 @@ pub(crate) fn stack_for<R: Threads + Sync, M: Manifests + Drop>(
     blobs: &[Blob],
     workers: usize,
 ) -> Result<Stack, EngineFault>
-    ensures accepted { OnOk result (IsAccepted (request_of what (M.held manifests) bottom blobs.now workers)) }
-    ensures read { IfOk result (λ stack. IsRequestOf stack (request_of what (M.held manifests) bottom blobs.now workers)) }
+    ensures accepted { OnOk result
+        (IsAccepted (request_of what (M.held manifests) bottom blobs.now workers)) }
+    ensures read { IfOk result
+        (λ stack. IsRequestOf stack (request_of what (M.held manifests) bottom blobs.now workers)) }
     ensures number { OnOk result ((0 < workers) × (workers ≤ worker_limit)) }
     ensures ascend { OnOk result (are_in_order (blob_views blobs.now) ≡ true) }
     ensures several { IfOk result (λ stack. lower_test what ≡ true → 1 < length stack.layers) }
-    ensures refused { IfErr result (IsRefusal (request_of what (M.held manifests) bottom blobs.now workers)) }
+    ensures refused { IfErr result
+        (IsRefusal (request_of what (M.held manifests) bottom blobs.now workers)) }
     ensures workers { (result ≡ Err Workers) ↔ (outside_test worker_limit workers ≡ true) }
     ensures layers { (result ≡ Err Layers)
-        ↔ ((outside_test worker_limit workers ≡ false) × (outside_test layer_limit (length (M.held manifests)) ≡ true)) }
+        ↔ ((outside_test worker_limit workers ≡ false)
+        × (outside_test layer_limit (length (M.held manifests)) ≡ true)) }
     ensures data_layers { (result ≡ Err DataLayers)
-        ↔ ((outside_test worker_limit workers ≡ false) × (outside_test layer_limit (length (M.held manifests)) ≡ false)
+        ↔ ((outside_test worker_limit workers ≡ false)
+        × (outside_test layer_limit (length (M.held manifests)) ≡ false)
         × (nat_le (length (M.held manifests)) bottom ≡ true)) }
 {
     if is_outside(WORKER_LIMIT, workers) {
@@ -138,9 +152,12 @@ fn answer_of<G: Gate + Sync, R: Threads + Wait + Sync>(
     requires number { (0 < team.now.workers) × (team.now.workers ≤ worker_limit) }
     requires ascend { are_in_order (blob_views blobs.now) ≡ true }
     requires several { lower_test what ≡ true → 1 < length stack.layers }
-    ensures outcome { IsRun what stack (findings (blob_views blobs.now) stack) (MayRefuse what stack (blob_views blobs.now) (G.may_refuse team.now.gate.now)) result }
-    ensures keeps { IfOk result (λ answer. makes_layers what ≡ true → KeepsTreeOf what stack answer) }
-    ensures sound { IfOk result (λ answer. stays_sound what ≡ true → KeepsSoundness what stack answer) }
+    ensures outcome { IsRun what stack (findings (blob_views blobs.now) stack)
+        (MayRefuse what stack (blob_views blobs.now) (G.may_refuse team.now.gate.now)) result }
+    ensures keeps { IfOk result
+        (λ answer. makes_layers what ≡ true → KeepsTreeOf what stack answer) }
+    ensures sound { IfOk result
+        (λ answer. stays_sound what ≡ true → KeepsSoundness what stack answer) }
     ensures quiet { IfOk result (λ answer. stands_alone what ≡ true → IsQuietOf what stack answer) }
 {
     let found = found_in(team, what, &stack, blobs)?;
@@ -156,10 +173,15 @@ fn found_in<G: Gate + Sync, R: Threads + Wait + Sync>(
 ) -> Result<Vec<Finding>, EngineFault>
     requires number { (0 < team.now.workers) × (team.now.workers ≤ worker_limit) }
     requires ascend { are_in_order (blob_views blobs.now) ≡ true }
-    ensures found { IfOk result (λ found. checks_test what ≡ true → found.items ≡ findings (blob_views blobs.now) stack.now) }
-    ensures sound { IfOk result (λ found. checks_test what ≡ true → clean_test found.items ≡ true → IsSoundStack stack.now) }
+    ensures found { IfOk result
+        (λ found. checks_test what ≡ true
+        → found.items ≡ findings (blob_views blobs.now) stack.now) }
+    ensures sound { IfOk result
+        (λ found. checks_test what ≡ true → clean_test found.items ≡ true
+        → IsSoundStack stack.now) }
     ensures fault { IfErr result (λ fault. (checks_test what ≡ true)
-        × IsFailedWalk (MayRefuseCheck stack.now (blob_views blobs.now) (G.may_refuse team.now.gate.now)) fault) }
+        × IsFailedWalk
+        (MayRefuseCheck stack.now (blob_views blobs.now) (G.may_refuse team.now.gate.now)) fault) }
 {
     if !checks(what) {
         return Ok(Vec::new(team.alloc));
@@ -167,7 +189,8 @@ fn found_in<G: Gate + Sync, R: Threads + Wait + Sync>(
     findings_of(team, stack, blobs)
 }
 
-/// What the command gives of a stack that it isn't refused for, by all that is found in it where the command checks.
+/// What the command gives of a stack that it isn't refused for, by all that is found in it where
+/// the command checks.
 pub(crate) fn answer<G: Gate + Sync, R: Threads + Wait + Sync>(
     team: &Team<'_, G, R>,
     what: Command,
@@ -179,8 +202,10 @@ pub(crate) fn answer<G: Gate + Sync, R: Threads + Wait + Sync>(
     requires sound { checks_test what ≡ true → clean_test found.items ≡ true → IsSoundStack stack }
     ensures outcome { (all : List Finding) → (checks_test what ≡ true → found.items ≡ all)
         → IsRun what stack all (MayRefuseOwn what stack (G.may_refuse team.now.gate.now)) result }
-    ensures keeps { IfOk result (λ answer. makes_layers what ≡ true → KeepsTreeOf what stack answer) }
-    ensures sound { IfOk result (λ answer. stays_sound what ≡ true → KeepsSoundness what stack answer) }
+    ensures keeps { IfOk result
+        (λ answer. makes_layers what ≡ true → KeepsTreeOf what stack answer) }
+    ensures sound { IfOk result
+        (λ answer. stays_sound what ≡ true → KeepsSoundness what stack answer) }
     ensures quiet { IfOk result (λ answer. stands_alone what ≡ true → IsQuietOf what stack answer) }
 {
     match what {
@@ -258,7 +283,8 @@ fn show<G: Gate + Sync, R: Threads + Wait + Sync>(
     stack: Stack,
 ) -> Result<Answer, EngineFault>
     requires { (0 < team.now.workers) × (team.now.workers ≤ worker_limit) }
-    ensures { (found : List Finding) → IsRun Show stack found (MayRefuseOwn Show stack (G.may_refuse team.now.gate.now)) result }
+    ensures { (found : List Finding)
+        → IsRun Show stack found (MayRefuseOwn Show stack (G.may_refuse team.now.gate.now)) result }
 {
     let work = ShowWork::new(&stack);
     let parcels = team.walk(&work, 0)?;

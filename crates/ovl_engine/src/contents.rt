@@ -15,13 +15,15 @@ pub trait Contents {
     /// Why contents can't be told.
     type Fault: Drop;
 
-    /// What may be under a name: these bytes, or nothing. Where that isn't known, as of files, it may be anything.
+    /// What may be under a name: these bytes, or nothing. Where that isn't known, as of files, it
+    /// may be anything.
     ghost may_be: { Self → List ℕ → Option (List ℕ) → Type 0 };
 
     /// The faults that may come.
     ghost may_fail: { Self → Self.Fault → Type 0 };
 
-    /// What is told of the contents under each of these names, which ascend strictly: nothing where there are none.
+    /// What is told of the contents under each of these names, which ascend strictly: nothing where
+    /// there are none.
     fn tell(&self, alloc: Global, names: &[Digest]) -> Result<Vec<Content>, Self::Fault>
         requires { ascends digest_cmp names.now ≡ true }
         ensures told { IfOk result (λ told. AreTold (may_be self.now) names.now told.items) }

@@ -28,8 +28,8 @@ use std::alloc::AllocError;
 use std::sync::Wait;
 use std::thread::Threads;
 
-/// The topmost layer of a stack without redirects and metacopy files, where no fault is found in the stack, and the
-/// report of what it has. The new layer keeps the merged tree.
+/// The topmost layer of a stack without redirects and metacopy files, where no fault is found in
+/// the stack, and the report of what it has. The new layer keeps the merged tree.
 pub(crate) fn deref<G: Gate + Sync, R: Threads + Wait + Sync>(
     team: &Team<'_, G, R>,
     stack: Stack,
@@ -37,7 +37,8 @@ pub(crate) fn deref<G: Gate + Sync, R: Threads + Wait + Sync>(
 ) -> Result<Answer, EngineFault>
     requires number { (0 < team.now.workers) × (team.now.workers ≤ worker_limit) }
     requires sound { is_clean found.items ≡ true → IsSoundStack stack }
-    ensures outcome { IsRun Deref stack found.items (MayRefuseOwn Deref stack (G.may_refuse team.now.gate.now)) result }
+    ensures outcome { IsRun Deref stack found.items
+        (MayRefuseOwn Deref stack (G.may_refuse team.now.gate.now)) result }
     ensures tree { IfOk result (KeepsTreeOf Deref stack) }
     ensures sound { IfOk result (KeepsSoundness Deref stack) }
 {
@@ -62,10 +63,12 @@ fn dereferenced<G: Gate + Sync, R: Threads + Wait + Sync>(
 ) -> Result<Layer, EngineFault>
     requires number { (0 < team.now.workers) × (team.now.workers ≤ worker_limit) }
     requires sound { IsSoundStack stack.now }
-    ensures layer { IfOk result (λ layer. IsDereferenced layer (top_layer stack.now) (lower_layers stack.now)) }
+    ensures layer { IfOk result
+        (λ layer. IsDereferenced layer (top_layer stack.now) (lower_layers stack.now)) }
     ensures within { IfOk result (λ _. PassesLimit stack.now → ⊥) }
     ensures fault { IfErr result (λ fault. (found : List Finding) → is_clean found ≡ true
-        → IsFailure Deref stack.now found (MayRefuseOwn Deref stack.now (G.may_refuse team.now.gate.now)) fault) }
+        → IsFailure Deref stack.now found
+        (MayRefuseOwn Deref stack.now (G.may_refuse team.now.gate.now)) fault) }
 {
     let work = DerefWork::new(stack);
     let parcels = team.walk(&work, 0)?;

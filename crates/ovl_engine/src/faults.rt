@@ -12,9 +12,10 @@ use ovl_rewrite::RewriteFault;
 use std::alloc::{AllocError, AllocFailed};
 use thiserror::Error;
 
-/// Why a command gives no answer. The first of `Workers`, `Layers`, `DataLayers`, `Layer`, `BlobOrder`, `BlobSize` and
-/// `NoLower` that holds is given before any work is done; `Faulty` comes where a command is refused for what
-/// [`Command::Fsck`](crate::Command::Fsck) tells, and `LimitOut` after that check. Layers are counted from 0, the topmost first.
+/// Why a command gives no answer. The first of `Workers`, `Layers`, `DataLayers`, `Layer`,
+/// `BlobOrder`, `BlobSize` and `NoLower` that holds is given before any work is done; `Faulty`
+/// comes where a command is refused for what [`Command::Fsck`](crate::Command::Fsck) tells, and
+/// `LimitOut` after that check. Layers are counted from 0, the topmost first.
 #[derive(Debug, PartialEq, Eq, Drop, Error)]
 pub enum EngineFault {
     /// There is no worker, or there are more than [`WORKER_LIMIT`].
@@ -38,7 +39,8 @@ pub enum EngineFault {
     /// The layers or the blobs have faults, which this report of `fsck` tells.
     #[error("the layers or the blobs have faults")]
     Faulty(Vec<u8>),
-    /// A new layer has more entries than a manifest may have, or a path with more names or a longer text.
+    /// A new layer has more entries than a manifest may have, or a path with more names or a longer
+    /// text.
     #[error("result over the limits")]
     LimitOut,
     /// A run over the layers or the blobs gives no walk, for another reason than memory.

@@ -28,8 +28,8 @@ use std::alloc::AllocError;
 use std::sync::Wait;
 use std::thread::Threads;
 
-/// What a stack shows, as one layer, where no fault is found in the stack, and the report of what it has. Alone the new
-/// layer shows the same, and the check finds nothing in it.
+/// What a stack shows, as one layer, where no fault is found in the stack, and the report of what
+/// it has. Alone the new layer shows the same, and the check finds nothing in it.
 pub(crate) fn flatten<G: Gate + Sync, R: Threads + Wait + Sync>(
     team: &Team<'_, G, R>,
     stack: Stack,
@@ -37,7 +37,8 @@ pub(crate) fn flatten<G: Gate + Sync, R: Threads + Wait + Sync>(
 ) -> Result<Answer, EngineFault>
     requires number { (0 < team.now.workers) × (team.now.workers ≤ worker_limit) }
     requires sound { is_clean found.items ≡ true → IsSoundStack stack }
-    ensures outcome { IsRun Flatten stack found.items (MayRefuseOwn Flatten stack (G.may_refuse team.now.gate.now)) result }
+    ensures outcome { IsRun Flatten stack found.items
+        (MayRefuseOwn Flatten stack (G.may_refuse team.now.gate.now)) result }
     ensures tree { IfOk result (KeepsTreeOf Flatten stack) }
     ensures sound { IfOk result (KeepsSoundness Flatten stack) }
     ensures quiet { IfOk result (IsQuietOf Flatten stack) }
@@ -58,8 +59,8 @@ pub(crate) fn flatten<G: Gate + Sync, R: Threads + Wait + Sync>(
     Ok(rewritten(team.rt, team.alloc, team.workers, report, &[&layer])?)
 }
 
-// What a sound stack shows, as one layer. The stack goes once its work is walked, so that all rows don't stand beside
-// the new layer.
+// What a sound stack shows, as one layer. The stack goes once its work is walked, so that all rows
+// don't stand beside the new layer.
 fn flattened<G: Gate + Sync, R: Threads + Wait + Sync>(
     team: &Team<'_, G, R>,
     stack: Stack,
@@ -69,7 +70,8 @@ fn flattened<G: Gate + Sync, R: Threads + Wait + Sync>(
     ensures layer { IfOk result (λ layer. IsFlattened layer stack) }
     ensures within { IfOk result (λ _. PassesLimit stack → ⊥) }
     ensures fault { IfErr result (λ fault. (found : List Finding) → is_clean found ≡ true
-        → IsFailure Flatten stack found (MayRefuseOwn Flatten stack (G.may_refuse team.now.gate.now)) fault) }
+        → IsFailure Flatten stack found
+        (MayRefuseOwn Flatten stack (G.may_refuse team.now.gate.now)) fault) }
 {
     let work = FlattenWork::new(&stack);
     let parcels = team.walk(&work, 0)?;

@@ -10,8 +10,8 @@ use std::alloc::{AllocError, Global};
 use std::marker::Model;
 use std::thread::{Threads, map_chunks};
 
-/// The report of `fsck`: a line for each finding, in their order, and how many are faults and how many notes.
-/// Fails only when out of memory.
+/// The report of `fsck`: a line for each finding, in their order, and how many are faults and how
+/// many notes. Fails only when out of memory.
 pub(crate) fn fsck_report_of(alloc: Global, found: &[Finding]) -> Result<Vec<u8>, AllocError>
     ensures { IfOk result (λ report. report.items ≡ fsck_report found.now) }
 {
@@ -20,8 +20,8 @@ pub(crate) fn fsck_report_of(alloc: Global, found: &[Finding]) -> Result<Vec<u8>
     Ok(report.into_bytes())
 }
 
-/// What [`fsck_report_of`] gives, written by at most as many threads as there are workers: each writes a share of the
-/// lines.
+/// What [`fsck_report_of`] gives, written by at most as many threads as there are workers: each
+/// writes a share of the lines.
 pub(crate) fn fsck_report_by<R: Threads + Sync>(
     rt: &R,
     alloc: Global,
@@ -36,7 +36,8 @@ pub(crate) fn fsck_report_by<R: Threads + Sync>(
         return fsck_report_of(alloc, found);
     }
     let write = |_first: usize, found: &[Finding]| -> Result<String, AllocError>
-        ensures { IfOk result (λ lines. string_bytes lines ≡ flat_map finding_line found.entry.now) }
+        ensures { IfOk result
+            (λ lines. string_bytes lines ≡ flat_map finding_line found.entry.now) }
     { lines_of(alloc, found) };
     let parts = map_chunks(rt, alloc, found, share, &write)?;
     let mut report = joined(alloc, parts)?;
@@ -59,7 +60,8 @@ fn lines_of(alloc: Global, found: &[Finding]) -> Result<String, AllocError>
 // Appends the last line, by all findings.
 fn push_counts(report: &mut String, found: &[Finding]) -> Result<(), AllocError>
     ensures { OnOk result (string_bytes report.new ≡ string_bytes report.old
-        ++ codes "faults " ++ decimal (fault_count found.now) ++ codes " notes " ++ decimal (note_count found.now) ++ codes "\n") }
+        ++ codes "faults " ++ decimal (fault_count found.now) ++ codes " notes "
+        ++ decimal (note_count found.now) ++ codes "\n") }
 {
     report.push_str("faults ")?;
     push_number(report, count_of_faults(found))?;
@@ -75,8 +77,8 @@ pub(crate) fn is_clean(found: &[Finding]) -> bool
     count_of_faults(found) == 0
 }
 
-// A directory, with what stands in a report before the names in it. It is kept from line to line, since what is found in
-// one directory mostly comes together.
+// A directory, with what stands in a report before the names in it. It is kept from line to line,
+// since what is found in one directory mostly comes together.
 #[derive(Drop)]
 struct Above<'a> {
     directory: Names<'a>,
@@ -127,7 +129,8 @@ impl<'a> Above<'a> {
         report: &mut String,
         path: &'a Path,
     ) -> Result<(), AllocError>
-        ensures { OnOk result (string_bytes report.new ≡ string_bytes report.old ++ shown_path path.now) }
+        ensures { OnOk result
+            (string_bytes report.new ≡ string_bytes report.old ++ shown_path path.now) }
     {
         let Some((name, directory)) = path.names().split_last() else {
             return report.push_str("/");
@@ -145,7 +148,8 @@ fn push_finding<'a>(
     above: &mut Above<'a>,
     finding: &'a Finding,
 ) -> Result<(), AllocError>
-    ensures { OnOk result (string_bytes report.new ≡ string_bytes report.old ++ finding_line finding.now) }
+    ensures { OnOk result
+        (string_bytes report.new ≡ string_bytes report.old ++ finding_line finding.now) }
 {
     push_word(report, weight_word(finding.code))?;
     push_word(report, code_word(finding.code))?;

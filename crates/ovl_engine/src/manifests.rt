@@ -18,7 +18,9 @@ pub trait Manifests {
 
     /// A list of them.
     fn listed(self, alloc: Global) -> Result<Vec<Self::Manifest>, AllocError>
-        ensures texts { IfOk result (λ list. map Self.Manifest.items list.items ≡ map (λ manifest. manifest.items) (held self)) }
+        ensures texts { IfOk result
+            (λ list. map Self.Manifest.items list.items
+            ≡ map (λ manifest. manifest.items) (held self)) }
         ensures count { IfOk result (λ list. length list.items ≡ length (held self)) };
 }
 

@@ -35,8 +35,9 @@ use std::alloc::AllocError;
 use std::sync::Wait;
 use std::thread::Threads;
 
-/// The two topmost layers of a stack as one, under a new topmost layer that has its root alone, where no fault is
-/// found in the stack, and the report of what that one has. The new layers keep the merged tree.
+/// The two topmost layers of a stack as one, under a new topmost layer that has its root alone,
+/// where no fault is found in the stack, and the report of what that one has. The new layers keep
+/// the merged tree.
 pub(crate) fn merge<G: Gate + Sync, R: Threads + Wait + Sync>(
     team: &Team<'_, G, R>,
     stack: Stack,
@@ -45,7 +46,8 @@ pub(crate) fn merge<G: Gate + Sync, R: Threads + Wait + Sync>(
     requires number { (0 < team.now.workers) × (team.now.workers ≤ worker_limit) }
     requires sound { is_clean found.items ≡ true → IsSoundStack stack }
     requires several { 1 < length stack.layers }
-    ensures outcome { IsRun Merge stack found.items (MayRefuseOwn Merge stack (G.may_refuse team.now.gate.now)) result }
+    ensures outcome { IsRun Merge stack found.items
+        (MayRefuseOwn Merge stack (G.may_refuse team.now.gate.now)) result }
     ensures tree { IfOk result (KeepsTreeOf Merge stack) }
     ensures two { IfOk result (KeepsTreeByTwo stack) }
 {
@@ -61,8 +63,8 @@ pub(crate) fn merge<G: Gate + Sync, R: Threads + Wait + Sync>(
     Ok(rewritten(team.rt, team.alloc, team.workers, report, &[&top, &lower])?)
 }
 
-// What merge makes of the two topmost layers of a sound stack, which goes once its work is walked, so that all rows don't
-// stand beside the new layers.
+// What merge makes of the two topmost layers of a sound stack, which goes once its work is walked,
+// so that all rows don't stand beside the new layers.
 fn merged<G: Gate + Sync, R: Threads + Wait + Sync>(
     team: &Team<'_, G, R>,
     stack: Stack,
@@ -74,23 +76,27 @@ fn merged<G: Gate + Sync, R: Threads + Wait + Sync>(
     ensures lower { IfOk result (λ done. IsMergedDown (merge_of stack) done.lower) }
     ensures within { IfOk result (λ _. PassesLimit (merge_of stack) → ⊥) }
     ensures fault { IfErr result (λ fault. (found : List Finding) → is_clean found ≡ true
-        → IsFailure Merge stack found (MayRefuseOwn Merge stack (G.may_refuse team.now.gate.now)) fault) }
+        → IsFailure Merge stack found
+        (MayRefuseOwn Merge stack (G.may_refuse team.now.gate.now)) fault) }
 {
     let (parcels, end) = walked(team, &stack)?;
     let_go(team.rt, team.alloc, stack, team.workers);
     Ok(end.finish(team.alloc, parcels)?)
 }
 
-/// The walk of a merge of a sound stack's two topmost layers, and its end, for which the stack needn't stay.
+/// The walk of a merge of a sound stack's two topmost layers, and its end, for which the stack
+/// needn't stay.
 pub(crate) fn walked<G: Gate + Sync, R: Threads + Wait + Sync>(
     team: &Team<'_, G, R>,
     stack: &Stack,
 ) -> Result<(Vec<Parcel<Vec<(Name, Inode)>>>, MergeEnd), EngineFault>
     requires number { (0 < team.now.workers) × (team.now.workers ≤ worker_limit) }
     requires several { 1 < length stack.now.layers }
-    ensures walk { IfOk result (λ walked. IsMergeWalk stack.now (parcel_views inodes_seen walked.0.items)) }
+    ensures walk { IfOk result
+        (λ walked. IsMergeWalk stack.now (parcel_views inodes_seen walked.0.items)) }
     ensures end { IfOk result (λ walked. IsMergeEnd stack.now walked.1) }
-    ensures fault { IfErr result (IsFailedWalk (MayRefuseOwn Merge stack.now (G.may_refuse team.now.gate.now))) }
+    ensures fault { IfErr result
+        (IsFailedWalk (MayRefuseOwn Merge stack.now (G.may_refuse team.now.gate.now))) }
 {
     let work = MergeWork::new(stack)?;
     let parcels = team.walk(&work, 0)?;

@@ -38,10 +38,11 @@ use std::alloc::Global;
 use std::sync::Wait;
 use std::thread::Threads;
 
-/// What merges one after the other give of the layers that the manifests state, until `left` of them that aren't data-only
-/// are left, a root alone over these not counted: the answer of the last merge. Each is [`Command::Merge`] over the stack
-/// that the one before left, without its root alone; one that is refused, as where its check finds a fault, ends all.
-/// Refused as a merge is before any work; else with `NoLower` where `left` is none, or not fewer than there are. The
+/// What merges one after the other give of the layers that the manifests state, until `left` of
+/// them that aren't data-only are left, a root alone over these not counted: the answer of the last
+/// merge. Each is [`Command::Merge`] over the stack that the one before left, without its root
+/// alone; one that is refused, as where its check finds a fault, ends all. Refused as a merge is
+/// before any work; else with `NoLower` where `left` is none, or not fewer than there are. The
 /// manifests with the new ones in place of all that were merged show the same merged tree.
 pub fn merge_down<G: Gate + Sync, R: Threads + Wait + Sync>(
     rt: &R,
@@ -53,9 +54,11 @@ pub fn merge_down<G: Gate + Sync, R: Threads + Wait + Sync>(
     workers: usize,
     gate: &G,
 ) -> Result<Answer, EngineFault>
-    ensures outcome { IsOutcomeDown left (request_of Merge manifests.items bottom blobs.now workers) (G.may_refuse gate.now) result }
+    ensures outcome { IsOutcomeDown left (request_of Merge manifests.items bottom blobs.now workers)
+        (G.may_refuse gate.now) result }
     ensures keeps { IfOk result (λ answer.
-        let request = request_of Merge manifests.items bottom blobs.now workers in KeepsTree request (after_down left request answer)) }
+        let request = request_of Merge manifests.items bottom blobs.now workers in KeepsTree request
+        (after_down left request answer)) }
 {
     let stack = stack_for(rt, alloc, Command::Merge, manifests, bottom, blobs, workers)?;
     expect_lower(&stack, left)?;
@@ -69,8 +72,8 @@ pub fn merge_down<G: Gate + Sync, R: Threads + Wait + Sync>(
     merged_down(&team, stack, &contents, left)
 }
 
-/// The first part of [`merge_down`] over contents that needn't be held: [`question_of`] a merge, which is refused as
-/// [`merge_down`] is without blobs before its work.
+/// The first part of [`merge_down`] over contents that needn't be held: [`question_of`] a merge,
+/// which is refused as [`merge_down`] is without blobs before its work.
 pub fn question_down<R: Threads + Sync>(
     rt: &R,
     alloc: Global,
@@ -79,19 +82,23 @@ pub fn question_down<R: Threads + Sync>(
     left: usize,
     workers: usize,
 ) -> Result<Question, EngineFault>
-    ensures accepted { OnOk result (IsAcceptedDown left (request_of Merge manifests.items bottom [] workers)) }
-    ensures question { IfOk result (IsQuestionOf (request_of Merge manifests.items bottom [] workers)) }
+    ensures accepted { OnOk result
+        (IsAcceptedDown left (request_of Merge manifests.items bottom [] workers)) }
+    ensures question { IfOk result
+        (IsQuestionOf (request_of Merge manifests.items bottom [] workers)) }
     ensures number { OnOk result ((0 < workers) × (workers ≤ worker_limit)) }
     ensures fewer { IfOk result (λ question. (0 < left) × (left < length question.stack.layers)) }
-    ensures refused { IfErr result (IsRefusalDown left (request_of Merge manifests.items bottom [] workers)) }
+    ensures refused { IfErr result
+        (IsRefusalDown left (request_of Merge manifests.items bottom [] workers)) }
 {
     let question = question_of(rt, alloc, Command::Merge, manifests, bottom, workers)?;
     expect_lower(&question.stack, left)?;
     Ok(question)
 }
 
-/// The second part: what the merges give of their question and of what is told, see [`answer_told`](crate::answer_told).
-/// Contents are told once for all merges: no blob is named by a new layer that the given ones don't name.
+/// The second part: what the merges give of their question and of what is told, see
+/// [`answer_told`](crate::answer_told). Contents are told once for all merges: no blob is named by
+/// a new layer that the given ones don't name.
 pub fn merge_down_told<G: Gate + Sync, R: Threads + Wait + Sync>(
     rt: &R,
     alloc: Global,
@@ -106,7 +113,8 @@ pub fn merge_down_told<G: Gate + Sync, R: Threads + Wait + Sync>(
     requires ascend { contents_ascend told.items ≡ true }
     requires told { (blobs : List BlobView) × (contents_of blobs ≡ told.items) }
     ensures outcome { (blobs : List BlobView) → contents_of blobs ≡ told.items
-        → IsRunDown left blobs question.stack (λ one. MayRefuseTold Merge one (G.may_refuse gate.now)) result }
+        → IsRunDown left blobs question.stack
+        (λ one. MayRefuseTold Merge one (G.may_refuse gate.now)) result }
     ensures keeps { IfOk result (KeepsTreeDown left question.stack) }
 {
     let Question {
@@ -127,7 +135,8 @@ pub fn merge_down_told<G: Gate + Sync, R: Threads + Wait + Sync>(
 // Comes before the first merge: there must be a layer to be merged so that as many are left.
 fn expect_lower(stack: &Stack, left: usize) -> Result<(), EngineFault>
     ensures fewer { OnOk result ((0 < left) × (left < length stack.now.layers)) }
-    ensures refused { IfErr result (λ fault. (fault ≡ NoLower) × ((left ≡ 0) ⊎ (length stack.now.layers ≤ left))) }
+    ensures refused { IfErr result
+        (λ fault. (fault ≡ NoLower) × ((left ≡ 0) ⊎ (length stack.now.layers ≤ left))) }
 {
     if left == 0 || left >= stack.ordinary() {
         return Err(EngineFault::NoLower);
@@ -144,7 +153,8 @@ fn contents_by<G: Gate + Sync, R: Threads + Wait + Sync>(
     requires ascend { are_in_order (blob_views blobs.now) ≡ true }
     ensures told { IfOk result (λ told. told.items ≡ contents_of (blob_views blobs.now)) }
     ensures ascend { IfOk result (λ told. contents_ascend told.items ≡ true) }
-    ensures fault { IfErr result (IsFailedWalk (MayRefuseBlobs (blob_views blobs.now) (G.may_refuse team.now.gate.now))) }
+    ensures fault { IfErr result
+        (IsFailedWalk (MayRefuseBlobs (blob_views blobs.now) (G.may_refuse team.now.gate.now))) }
 {
     let wrong = wrong_blobs(team, blobs)?;
     Ok(contents_held(team.alloc, blobs, &wrong)?)
@@ -162,7 +172,8 @@ fn merged_down<G: Gate + Sync, R: Threads + Wait + Sync>(
     requires ascend { contents_ascend told.now ≡ true }
     requires told { (blobs : List BlobView) × (contents_of blobs ≡ told.now) }
     ensures outcome { (blobs : List BlobView) → contents_of blobs ≡ told.now
-        → IsRunDown left blobs stack (λ one. MayRefuseTold Merge one (G.may_refuse team.now.gate.now)) result }
+        → IsRunDown left blobs stack
+        (λ one. MayRefuseTold Merge one (G.may_refuse team.now.gate.now)) result }
     ensures keeps { IfOk result (KeepsTreeDown left stack) }
 {
     let before = stack.ordinary() - left - 1;
@@ -184,10 +195,13 @@ fn merged_over<G: Gate + Sync, R: Threads + Wait + Sync>(
     requires several { 1 < length stack.layers }
     requires ascend { contents_ascend told.now ≡ true }
     requires told { (blobs : List BlobView) × (contents_of blobs ≡ told.now) }
-    ensures next { IfOk result (λ next. (blobs : List BlobView) → contents_of blobs ≡ told.now → MergeLeads blobs stack next) }
+    ensures next { IfOk result
+        (λ next. (blobs : List BlobView) → contents_of blobs ≡ told.now
+        → MergeLeads blobs stack next) }
     ensures tree { IfOk result (λ next. (path : PathNames) → look next path ≡ look stack path) }
     ensures fault { IfErr result (λ fault. (blobs : List BlobView) → contents_of blobs ≡ told.now
-        → IsFailure Merge stack (findings blobs stack) (MayRefuseTold Merge stack (G.may_refuse team.now.gate.now)) fault) }
+        → IsFailure Merge stack (findings blobs stack)
+        (MayRefuseTold Merge stack (G.may_refuse team.now.gate.now)) fault) }
 {
     let found = findings_by(team, &stack, told)?;
     expect_clean(team.alloc, found)?;
@@ -205,7 +219,8 @@ fn left_by_merge<G: Gate + Sync, R: Threads + Wait + Sync>(
     ensures next { IfOk result (IsLeftByMerge stack) }
     ensures tree { IfOk result (λ next. (path : PathNames) → look next path ≡ look stack path) }
     ensures fault { IfErr result (λ fault. (found : List Finding) → is_clean found ≡ true
-        → IsFailure Merge stack found (MayRefuseOwn Merge stack (G.may_refuse team.now.gate.now)) fault) }
+        → IsFailure Merge stack found
+        (MayRefuseOwn Merge stack (G.may_refuse team.now.gate.now)) fault) }
 {
     // Each layer of a stack is one, and there are no more than there may be.
     let _all = stack.layers();

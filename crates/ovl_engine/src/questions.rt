@@ -1,4 +1,5 @@
-//! Commands over contents that needn't be held: what has to be told for one, and what it gives of that.
+//! Commands over contents that needn't be held: what has to be told for one, and what it gives of
+//! that.
 ghost use Rattle.std.specs.Prelude.{◌≡◌, ◌↔◌, ◌<◌, ◌≤◌, true, false, Err, IfOk, IfErr, OnOk, [], List, length, nat_le};
 ghost use Rattle.ovl_lookup.specs.Stacks.{layer_limit};
 ghost use Rattle.ovl_lookup.specs.Sound.{IsSoundStack};
@@ -38,17 +39,18 @@ pub struct Question {
     pub what: Command,
     /// The layers that the manifests state.
     pub stack: Stack,
-    /// The names of blobs whose contents are wanted: those that the layers state, ascending, each once; none where the
-    /// command doesn't check them.
+    /// The names of blobs whose contents are wanted: those that the layers state, ascending, each
+    /// once; none where the command doesn't check them.
     pub names: Vec<Digest>,
 }
 
-/// What [`command`](crate::command) gives, with contents that needn't be held in memory in place of blobs: where the
-/// command checks the layers, [`Contents::tell`] is asked once, for the names of blobs that they state, each once, after all
-/// that is refused before any work. There is no limit of their bytes. The answer is that with blobs that may be what `tell`
-/// told of, whatever is under names that no layer states, see
-/// [`findings_need_named`](ovl_check::laws::findings_need_named); the gate is asked for directories alone. Where contents
-/// can't be told, that fault is told. It is [`question_of`] and [`answer_told`], one after the other.
+/// What [`command`](crate::command) gives, with contents that needn't be held in memory in place of
+/// blobs: where the command checks the layers, [`Contents::tell`] is asked once, for the names of
+/// blobs that they state, each once, after all that is refused before any work. There is no limit
+/// of their bytes. The answer is that with blobs that may be what `tell` told of, whatever is under
+/// names that no layer states, see [`findings_need_named`](ovl_check::laws::findings_need_named);
+/// the gate is asked for directories alone. Where contents can't be told, that fault is told. It is
+/// [`question_of`] and [`answer_told`], one after the other.
 pub fn command_over<C: Contents, G: Gate + Sync, R: Threads + Wait + Sync>(
     rt: &R,
     alloc: Global,
@@ -59,22 +61,25 @@ pub fn command_over<C: Contents, G: Gate + Sync, R: Threads + Wait + Sync>(
     workers: usize,
     gate: &G,
 ) -> Result<Answer, CommandFault<C::Fault>>
-    ensures outcome { IsOutcomeOver (request_of what manifests.items bottom [] workers) (C.may_be contents.now) (C.may_fail contents.now) (G.may_refuse gate.now) result }
+    ensures outcome { IsOutcomeOver (request_of what manifests.items bottom [] workers)
+        (C.may_be contents.now) (C.may_fail contents.now) (G.may_refuse gate.now) result }
     ensures keeps { IfOk result (λ answer. makes_layers what ≡ true
-        → let request = request_of what manifests.items bottom [] workers in KeepsTree request (after request answer)) }
+        → let request = request_of what manifests.items bottom [] workers in KeepsTree request
+        (after request answer)) }
     ensures sound { IfOk result (λ answer. stays_sound what ≡ true
         → HasSoundStack (after (request_of what manifests.items bottom [] workers) answer)) }
     ensures quiet { IfOk result (λ answer. stands_alone what ≡ true
-        → let request = request_of what manifests.items bottom [] workers in IsQuiet request (after request answer)) }
+        → let request = request_of what manifests.items bottom [] workers in IsQuiet request
+        (after request answer)) }
 {
     let question = question_of(rt, alloc, what, manifests, bottom, workers)?;
     let told = told_by(alloc, &question, contents)?;
     Ok(answer_told(rt, alloc, question, told, workers, gate)?)
 }
 
-/// The first part of a command over contents: reads the manifests, by at most as many threads as there are workers, and
-/// gives the stack of their layers with the names of blobs that these state. It is refused for what refuses
-/// [`command`](crate::command) without blobs before its work.
+/// The first part of a command over contents: reads the manifests, by at most as many threads as
+/// there are workers, and gives the stack of their layers with the names of blobs that these state.
+/// It is refused for what refuses [`command`](crate::command) without blobs before its work.
 pub fn question_of<R: Threads + Sync>(
     rt: &R,
     alloc: Global,
@@ -83,16 +88,21 @@ pub fn question_of<R: Threads + Sync>(
     bottom: u16,
     workers: usize,
 ) -> Result<Question, EngineFault>
-    ensures accepted { OnOk result (IsAccepted (request_of what manifests.items bottom [] workers)) }
-    ensures question { IfOk result (IsQuestionOf (request_of what manifests.items bottom [] workers)) }
+    ensures accepted { OnOk result
+        (IsAccepted (request_of what manifests.items bottom [] workers)) }
+    ensures question { IfOk result
+        (IsQuestionOf (request_of what manifests.items bottom [] workers)) }
     ensures number { OnOk result ((0 < workers) × (workers ≤ worker_limit)) }
-    ensures several { IfOk result (λ question. wants_lower question.what ≡ true → 1 < length question.stack.layers) }
+    ensures several { IfOk result
+        (λ question. wants_lower question.what ≡ true → 1 < length question.stack.layers) }
     ensures refused { IfErr result (IsRefusal (request_of what manifests.items bottom [] workers)) }
     ensures workers { (result ≡ Err Workers) ↔ (is_outside worker_limit workers ≡ true) }
     ensures layers { (result ≡ Err Layers)
-        ↔ ((is_outside worker_limit workers ≡ false) × (is_outside layer_limit (length manifests.items) ≡ true)) }
+        ↔ ((is_outside worker_limit workers ≡ false)
+        × (is_outside layer_limit (length manifests.items) ≡ true)) }
     ensures data_layers { (result ≡ Err DataLayers)
-        ↔ ((is_outside worker_limit workers ≡ false) × (is_outside layer_limit (length manifests.items) ≡ false)
+        ↔ ((is_outside worker_limit workers ≡ false)
+        × (is_outside layer_limit (length manifests.items) ≡ false)
         × (nat_le (length manifests.items) bottom ≡ true)) }
 {
     let stack = stack_for(rt, alloc, what, manifests, bottom, &[], workers)?;
@@ -100,10 +110,11 @@ pub fn question_of<R: Threads + Sync>(
     Ok(Question { what, stack, names })
 }
 
-/// The second part of a command over contents: what it gives of its question and of what is told, by 1 to
-/// [`WORKER_LIMIT`](ovl_board::WORKER_LIMIT) workers: the contents of blobs, their names ascending, of each name that was
-/// asked for and is there. The answer is that with any blobs that have these contents; a name that isn't told has none. The
-/// gate is asked for directories alone. Fails as [`command`](crate::command) does in its work.
+/// The second part of a command over contents: what it gives of its question and of what is told,
+/// by 1 to [`WORKER_LIMIT`](ovl_board::WORKER_LIMIT) workers: the contents of blobs, their names
+/// ascending, of each name that was asked for and is there. The answer is that with any blobs that
+/// have these contents; a name that isn't told has none. The gate is asked for directories alone.
+/// Fails as [`command`](crate::command) does in its work.
 pub fn answer_told<G: Gate + Sync, R: Threads + Wait + Sync>(
     rt: &R,
     alloc: Global,
@@ -117,10 +128,17 @@ pub fn answer_told<G: Gate + Sync, R: Threads + Wait + Sync>(
     requires ascend { contents_ascend told.items ≡ true }
     requires told { (blobs : List BlobView) × (contents_of blobs ≡ told.items) }
     ensures outcome { (blobs : List BlobView) → contents_of blobs ≡ told.items
-        → IsRun question.what question.stack (findings blobs question.stack) (MayRefuseTold question.what question.stack (G.may_refuse gate.now)) result }
-    ensures keeps { IfOk result (λ answer. makes_layers question.what ≡ true → KeepsTreeOf question.what question.stack answer) }
-    ensures sound { IfOk result (λ answer. stays_sound question.what ≡ true → KeepsSoundness question.what question.stack answer) }
-    ensures quiet { IfOk result (λ answer. stands_alone question.what ≡ true → IsQuietOf question.what question.stack answer) }
+        → IsRun question.what question.stack (findings blobs question.stack)
+        (MayRefuseTold question.what question.stack (G.may_refuse gate.now)) result }
+    ensures keeps { IfOk result
+        (λ answer. makes_layers question.what ≡ true
+        → KeepsTreeOf question.what question.stack answer) }
+    ensures sound { IfOk result
+        (λ answer. stays_sound question.what ≡ true
+        → KeepsSoundness question.what question.stack answer) }
+    ensures quiet { IfOk result
+        (λ answer. stands_alone question.what ≡ true
+        → IsQuietOf question.what question.stack answer) }
 {
     let Question { what, stack, names } = question;
     drop(names);
@@ -152,7 +170,8 @@ fn told_by<C: Contents>(
     contents: &C,
 ) -> Result<Vec<Content>, CommandFault<C::Fault>>
     requires { AreAsked question.now.what question.now.stack question.now.names.items }
-    ensures told { IfOk result (λ told. AreTold (C.may_be contents.now) question.now.names.items told.items) }
+    ensures told { IfOk result
+        (λ told. AreTold (C.may_be contents.now) question.now.names.items told.items) }
     ensures fault { IfErr result (λ fault. (why : C.Fault) × ((fault ≡ ContentsFault why)
         × ((checks_test question.now.what ≡ true) × C.may_fail contents.now why))) }
 {

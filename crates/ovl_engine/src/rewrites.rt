@@ -15,7 +15,8 @@ use ovl_reports::side_by_side;
 use std::alloc::{AllocError, Global};
 use std::thread::Threads;
 
-/// Comes before new layers are made: a stack in which a fault is found is refused with the report of `fsck`.
+/// Comes before new layers are made: a stack in which a fault is found is refused with the report
+/// of `fsck`.
 pub(crate) fn expect_clean(alloc: Global, found: Vec<Finding>) -> Result<(), EngineFault>
     ensures clean { IfOk result (λ _. clean_test found.items ≡ true) }
     ensures refused { IfErr result (IsUnclean found.items) }
@@ -26,8 +27,8 @@ pub(crate) fn expect_clean(alloc: Global, found: Vec<Finding>) -> Result<(), Eng
     Err(EngineFault::Faulty(fsck_report_of(alloc, &found)?))
 }
 
-/// The answer with the report that `report` writes and these new layers, whose manifests are written beside it where there
-/// are several workers.
+/// The answer with the report that `report` writes and these new layers, whose manifests are
+/// written beside it where there are several workers.
 pub(crate) fn rewritten<R: Threads, F: FnOnce() -> Result<Vec<u8>, AllocError> + Send>(
     rt: &R,
     alloc: Global,
@@ -37,12 +38,18 @@ pub(crate) fn rewritten<R: Threads, F: FnOnce() -> Result<Vec<u8>, AllocError> +
 ) -> Result<Answer, AllocError>
     requires { F.pre report }
     ensures report { IfOk result (λ answer. F.post report (Ok answer.report)) }
-    ensures answer { IfOk result (λ answer. IsRewritten answer.report.items (map (λ layer. layer.now) layers.now) answer) }
-    ensures back { IfOk result (λ answer. map read_layer (new_manifests answer) ≡ map (λ layer. Ok layer.now) layers.now) }
+    ensures answer { IfOk result
+        (λ answer. IsRewritten answer.report.items (map (λ layer. layer.now) layers.now) answer) }
+    ensures back { IfOk result
+        (λ answer. map read_layer (new_manifests answer) ≡ map (λ layer. Ok layer.now) layers.now) }
 {
     let write = || -> Result<Vec<Vec<u8>>, AllocError>
-        ensures texts { IfOk result (λ manifests. map (λ manifest. manifest.items) manifests.items ≡ map (λ layer. manifest_text layer.now) layers.entry.now) }
-        ensures back { IfOk result (λ manifests. map read_layer (map (λ manifest. manifest.items) manifests.items) ≡ map (λ layer. Ok layer.now) layers.entry.now) }
+        ensures texts { IfOk result
+            (λ manifests. map (λ manifest. manifest.items) manifests.items
+            ≡ map (λ layer. manifest_text layer.now) layers.entry.now) }
+        ensures back { IfOk result
+            (λ manifests. map read_layer (map (λ manifest. manifest.items) manifests.items)
+            ≡ map (λ layer. Ok layer.now) layers.entry.now) }
     { manifests_of(alloc, layers) };
     let (report, manifests) = side_by_side(rt, workers, report, write);
     Ok(Answer {
@@ -54,8 +61,12 @@ pub(crate) fn rewritten<R: Threads, F: FnOnce() -> Result<Vec<u8>, AllocError> +
 
 // The manifests of layers, in order.
 fn manifests_of(alloc: Global, layers: &[&Layer]) -> Result<Vec<Vec<u8>>, AllocError>
-    ensures texts { IfOk result (λ manifests. map (λ manifest. manifest.items) manifests.items ≡ map (λ layer. manifest_text layer.now) layers.now) }
-    ensures back { IfOk result (λ manifests. map read_layer (map (λ manifest. manifest.items) manifests.items) ≡ map (λ layer. Ok layer.now) layers.now) }
+    ensures texts { IfOk result
+        (λ manifests. map (λ manifest. manifest.items) manifests.items
+        ≡ map (λ layer. manifest_text layer.now) layers.now) }
+    ensures back { IfOk result
+        (λ manifests. map read_layer (map (λ manifest. manifest.items) manifests.items)
+        ≡ map (λ layer. Ok layer.now) layers.now) }
 {
     let mut manifests = Vec::with_capacity(alloc, layers.len())?;
     for layer in layers {

@@ -11,9 +11,9 @@ use std::alloc::Global;
 use std::convert::AsSlice;
 use std::thread::{Threads, for_each_mut, join};
 
-/// The stack of the layers that 1 to [`LAYER_LIMIT`](ovl_lookup::LAYER_LIMIT) manifests state, the topmost first, of which
-/// the last `bottom`, fewer than all, are data-only. They are read by at most as many threads as there are workers, and each
-/// goes once its layer is read.
+/// The stack of the layers that 1 to [`LAYER_LIMIT`](ovl_lookup::LAYER_LIMIT) manifests state, the
+/// topmost first, of which the last `bottom`, fewer than all, are data-only. They are read by at
+/// most as many threads as there are workers, and each goes once its layer is read.
 pub(crate) fn read_stack<R: Threads + Sync, M: AsSlice<u8> + Send + Drop>(
     rt: &R,
     alloc: Global,
@@ -25,9 +25,11 @@ pub(crate) fn read_stack<R: Threads + Sync, M: AsSlice<u8> + Send + Drop>(
     requires limit { length manifests.items ≤ layer_limit }
     requires some { bottom < length manifests.items }
     ensures read { IfOk result (λ _. first_unread (map M.items manifests.items) ≡ None) }
-    ensures stack { IfOk result (λ stack. stack ≡ stack_with (stated_layers (map M.items manifests.items)) bottom) }
+    ensures stack { IfOk result
+        (λ stack. stack ≡ stack_with (stated_layers (map M.items manifests.items)) bottom) }
     ensures count { IfOk result (λ stack. length stack.layers ≡ length manifests.items - bottom) }
-    ensures unread { IfErr result (λ fault. IsUnread (layers_from 0 (map M.items manifests.items)) fault) }
+    ensures unread { IfErr result
+        (λ fault. IsUnread (layers_from 0 (map M.items manifests.items)) fault) }
 {
     let ordinary = manifests.len() - usize::from(bottom);
     let share = manifests.len().div_ceil(workers);
@@ -40,8 +42,8 @@ pub(crate) fn read_stack<R: Threads + Sync, M: AsSlice<u8> + Send + Drop>(
     }
 }
 
-// The layers that the manifests state, of which the first has this index. Each share of so many of them is read by a thread
-// of its own, the last by this one.
+// The layers that the manifests state, of which the first has this index. Each share of so many of
+// them is read by a thread of its own, the last by this one.
 #[cycle(shares)]
 fn read_layers<R: Threads + Sync, M: AsSlice<u8> + Send + Drop>(
     rt: &R,
@@ -81,8 +83,8 @@ fn read_layers<R: Threads + Sync, M: AsSlice<u8> + Send + Drop>(
     Ok(layers)
 }
 
-// The layers that the manifests state, of which the first has this index, read one after another. Each manifest goes before
-// the next is read.
+// The layers that the manifests state, of which the first has this index, read one after another.
+// Each manifest goes before the next is read.
 fn read_share<M: AsSlice<u8> + Drop>(
     alloc: Global,
     first: usize,
@@ -103,8 +105,8 @@ fn read_share<M: AsSlice<u8> + Drop>(
     Ok(layers)
 }
 
-/// Lets a stack go, its layers shared by at most as many threads as there are workers. When out of memory for that,
-/// this thread does it alone.
+/// Lets a stack go, its layers shared by at most as many threads as there are workers. When out of
+/// memory for that, this thread does it alone.
 pub(crate) fn let_go<R: Threads + Sync>(rt: &R, alloc: Global, stack: Stack, workers: usize)
     requires { 0 < workers }
 {

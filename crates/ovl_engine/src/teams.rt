@@ -12,7 +12,8 @@ use std::alloc::Global;
 use std::sync::Wait;
 use std::thread::Threads;
 
-/// The workers of a command, 1 to [`ovl_board::WORKER_LIMIT`], with the gate that they ask before each visit.
+/// The workers of a command, 1 to [`ovl_board::WORKER_LIMIT`], with the gate that they ask before
+/// each visit.
 #[derive(Drop)]
 pub(crate) struct Team<'a, G, R> {
     pub(crate) rt: &'a R,
@@ -32,8 +33,11 @@ impl<G: Gate + Sync, R: Threads + Wait + Sync> Team<'_, G, R> {
         W::Out: Send,
         requires { (0 < self.now.workers) × (self.now.workers ≤ worker_limit) }
         ensures { MatchResult result
-            (λ parcels. IsPlain (W.kids_of work.now) (W.out_of work.now) (root_of space) (parcel_views W.seen parcels.items))
-            (λ fault. IsFailedWalk (MayBeRefused (W.kids_of work.now) (G.may_refuse self.now.gate.now) (root_of space)) fault) }
+            (λ parcels. IsPlain (W.kids_of work.now) (W.out_of work.now) (root_of space)
+            (parcel_views W.seen parcels.items))
+            (λ fault. IsFailedWalk
+            (MayBeRefused (W.kids_of work.now) (G.may_refuse self.now.gate.now)
+            (root_of space)) fault) }
     {
         let root = Piece {
             space,

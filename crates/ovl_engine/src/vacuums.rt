@@ -22,8 +22,8 @@ use std::alloc::AllocError;
 use std::sync::Wait;
 use std::thread::Threads;
 
-/// The topmost layer of a stack without what changes nothing, where no fault is found in the stack, and the report of
-/// what went. The new layer keeps the merged tree.
+/// The topmost layer of a stack without what changes nothing, where no fault is found in the stack,
+/// and the report of what went. The new layer keeps the merged tree.
 pub(crate) fn vacuum<G: Gate + Sync, R: Threads + Wait + Sync>(
     team: &Team<'_, G, R>,
     stack: Stack,
@@ -31,7 +31,8 @@ pub(crate) fn vacuum<G: Gate + Sync, R: Threads + Wait + Sync>(
 ) -> Result<Answer, EngineFault>
     requires number { (0 < team.now.workers) × (team.now.workers ≤ worker_limit) }
     requires sound { is_clean found.items ≡ true → IsSoundStack stack }
-    ensures outcome { IsRun Vacuum stack found.items (MayRefuseOwn Vacuum stack (G.may_refuse team.now.gate.now)) result }
+    ensures outcome { IsRun Vacuum stack found.items
+        (MayRefuseOwn Vacuum stack (G.may_refuse team.now.gate.now)) result }
     ensures tree { IfOk result (KeepsTreeOf Vacuum stack) }
     ensures sound { IfOk result (KeepsSoundness Vacuum stack) }
 {
@@ -57,8 +58,10 @@ fn vacuumed<G: Gate + Sync, R: Threads + Wait + Sync>(
 ) -> Result<VacuumDone, EngineFault>
     requires { (0 < team.now.workers) × (team.now.workers ≤ worker_limit) }
     ensures { MatchResult result
-        (λ done. (done.layer ≡ left_by_vacuum stack.now) × (done.removed.items ≡ removed_by_vacuum stack.now))
-        (λ fault. IsFailedWalk (MayRefuseOwn Vacuum stack.now (G.may_refuse team.now.gate.now)) fault) }
+        (λ done. (done.layer ≡ left_by_vacuum stack.now)
+        × (done.removed.items ≡ removed_by_vacuum stack.now))
+        (λ fault. IsFailedWalk
+        (MayRefuseOwn Vacuum stack.now (G.may_refuse team.now.gate.now)) fault) }
 {
     let work = VacuumWork::new(stack);
     let parcels = team.walk(&work, 0)?;

@@ -9,7 +9,7 @@ use std::sync::Wait;
 use std::test::Fail;
 use std::thread::Threads;
 
-// A text for each of forty directories one after another, with its path in place of `DIR`.
+/// A text for each of forty directories one after another, with its path in place of `DIR`.
 pub(crate) fn of_forty(alloc: Global, text: &str) -> Result<String, Fail> {
     let mut all = String::new(alloc);
     for number in 0..40 {
@@ -19,7 +19,7 @@ pub(crate) fn of_forty(alloc: Global, text: &str) -> Result<String, Fail> {
     Ok(all)
 }
 
-// What is told of a fault.
+/// What is told of a fault.
 pub(crate) fn text_of(alloc: Global, fault: Option<EngineFault>) -> Result<String, Fail> {
     match fault {
         Some(fault) => Ok(fault.to_string(alloc)?),

@@ -12,7 +12,8 @@ const NAMED: &str =
     "ba7816bf8f01cfea414140de5dae2223b00361a396177a9cb410ff61f20015ad [97, 98, 99]; \
     ca978112ca1bbdcafac231b39a23dc4da786eff8147c4e72b9807785afee48bb [97]; ";
 
-// Takes a few bytes in all, one or two at a time, is interrupted before each, and then fails, or takes none.
+// Takes a few bytes in all, one or two at a time, is interrupted before each, and then fails, or
+// takes none.
 #[derive(Drop)]
 struct Narrow {
     room: usize,

@@ -15,6 +15,7 @@ use std::thread::Threads;
 
 const LOOKS_OF_A_GATE: u32 = 20_000_000;
 
+/// The root as a piece.
 pub(crate) fn root_piece(alloc: Global) -> Piece
     ensures { result ≡ record { space = 0; dir = [] } }
 {
@@ -125,8 +126,9 @@ fn fault_of<R: Threads + Wait + Sync, G: Gate + Sync>(
 
 const TWO: &str = "/a /b";
 
-// A command, its stack, and pieces of one of its spaces: a layer, or that of the blobs, where `/ba` and `/fb` are those of
-// `abc` and of `ab`. The last three lines are of directories of the new layer alone, which no check visits.
+// A command, its stack, and pieces of one of its spaces: a layer, or that of the blobs, where `/ba`
+// and `/fb` are those of `abc` and of `ab`. The last three lines are of directories of the new
+// layer alone, which no check visits.
 const SHARED: &str = "\
 show of dir /a, dir /b | root -> 0 /a /b
 fsck of dir /a, dir /b | root -> 0 /a /b
@@ -198,8 +200,8 @@ fn all_workers_of_a_command_meet(rt: HostRuntime) -> Result<(), Fail> {
     Ok(())
 }
 
-// Each directory is asked for by the check, and by the work of the command where the check finds no fault. Before the stack
-// stands from how many times on a directory is refused.
+// Each directory is asked for by the check, and by the work of the command where the check finds no
+// fault. Before the stack stands from how many times on a directory is refused.
 const REFUSED: &str = "\
 3 of dir /a, dir /b | root -> none
 2 of dir /a, dir /b | root -> gate
@@ -295,7 +297,8 @@ fn directories(alloc: Global, paths: &str) -> Result<String, Fail> {
     Ok(entries)
 }
 
-// Workers and the directories that are to meet, and behind them the parcels, and what is known, delivered, taken and left.
+// Workers and the directories that are to meet, and behind them the parcels, and what is known,
+// delivered, taken and left.
 const RUNS: &str = "\
 2 /a /b -> 3: 3 3 3 0
 1 /a /b -> Gate
@@ -330,7 +333,8 @@ fn a_run_has_a_worker_at_least(rt: HostRuntime) -> Result<(), Fail> {
     same("no worker", none.as_str(), "Workers")
 }
 
-// The paths of forty directories and of the root, each asked for once where a run asks through this gate.
+// The paths of forty directories and of the root, each asked for once where a run asks through this
+// gate.
 fn forty_asked<R: Wait>(rt: &R, alloc: Global) -> Result<Asked<'_, R>, Fail> {
     let paths = of_forty(alloc, " DIR")?;
     Asked::none_of(rt, alloc, 0, format!(in alloc; "/{paths}")?.as_str())

@@ -10,8 +10,8 @@ use ovl_names::Path;
 use std::alloc::{AllocError, Global};
 use std::test::Fail;
 
-// In a redirect each letter stands for the byte of its number. A mark stands before whether it is told as a whiteout and as
-// a directory.
+// In a redirect each letter stands for the byte of its number. A mark stands before whether it is
+// told as a whiteout and as a directory.
 const ROWS: &str = "\
 digest: ca978112ca1bbdcafac231b39a23dc4da786eff8147c4e72b9807785afee48bb -> ca978112ca1bbdcafac231b39a23dc4da786eff8147c4e72b9807785afee48bb
 digest: ca978112ca1bbdcafac231b39a23dc4da786eff8147c4e72b9807785afee48b -> the digest has not 64 digits

@@ -1,5 +1,6 @@
-//! Tests of the public calls of the engine and of the crates below it but for the board, the lanes and the pool.
-//! They stand apart from the crates that they test, since a crate with tests is proved twice.
+//! Tests of the public calls of the engine and of the crates below it but for the board, the lanes
+//! and the pool. They stand apart from the crates that they test, since a crate with tests is
+//! proved twice.
 #![tactic(auto)]
 
 #[cfg(test)]

@@ -12,8 +12,9 @@ use ovl_names::{Name, Path};
 use std::alloc::{AllocError, Global};
 use std::test::Fail;
 
-// A line of a stack is of the lines behind it. Of these the words before the colon are a call, of layer 0 or from it on
-// where no other number stands there, a path, and for views names to go down by; behind the colon stands what comes of it.
+// A line of a stack is of the lines behind it. Of these the words before the colon are a call, of
+// layer 0 or from it on where no other number stands there, a path, and for views names to go down
+// by; behind the colon stands what comes of it.
 const ROWS: &str = "
 dir /n opaque=y, dir /n/d redirect=/x, whiteout /x | dir /n, file /n/z, dir /x, file /x/k
 layers /: 2
@@ -195,7 +196,8 @@ fn none(alloc: Global) -> Result<String, Fail> {
     Ok(String::from_str(alloc, "none")?)
 }
 
-// What is shown in the directory of a view, or in that which a name leads to from there where it isn't empty.
+// What is shown in the directory of a view, or in that which a name leads to from there where it
+// isn't empty.
 fn entered_last(
     alloc: Global,
     stack: &Stack,
@@ -330,7 +332,8 @@ fn counted(alloc: Global, made: Result<Stack, StackFault>) -> Result<String, All
     }
 }
 
-// Numbers of layers and of those that are data-only, and how many the stack has in all and not data-only.
+// Numbers of layers and of those that are data-only, and how many the stack has in all and not
+// data-only.
 const LIMITS: &str = "\
 0 0 -> layers must be 1 to 128
 1 0 -> 1 1

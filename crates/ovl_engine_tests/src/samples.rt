@@ -7,8 +7,8 @@ use ovl_manifest::read_layer;
 use std::alloc::{AllocError, Global};
 use std::test::Fail;
 
-// The entries that the words stand for, as new layers are written, with a path and attributes in place of `PATH` and `ATTRS`.
-// Those that are `bare` are files of which the contents lie elsewhere.
+// The entries that the words stand for, as new layers are written, with a path and attributes in
+// place of `PATH` and `ATTRS`. Those that are `bare` are files of which the contents lie elsewhere.
 const KINDS: &str = r#"
 dir {"gid":0,"kind":"dir","mode":493,"mtime":0,"mtime-nsec":0,"path":"PATH","uid":0,"xattrs":{ATTRS}}
 dir-0700 {"gid":0,"kind":"dir","mode":448,"mtime":0,"mtime-nsec":0,"path":"PATH","uid":0,"xattrs":{ATTRS}}
@@ -42,7 +42,8 @@ fn kind_of(word: &str) -> Result<&'static str, Fail> {
     Err(Fail::new("no kind has this word"))
 }
 
-// An attribute, as a manifest states it, of a word such as `opaque=y`; one of the overlay has no prefix in the word.
+// An attribute, as a manifest states it, of a word such as `opaque=y`; one of the overlay has no
+// prefix in the word.
 fn attribute_of(alloc: Global, word: &str) -> Result<String, AllocError> {
     let (name, value) = word.split_once('=').unwrap_or((word, ""));
     let value = hex::encode(alloc, value.as_bytes())?;
@@ -103,9 +104,10 @@ fn stands_for_itself(entries: &str) -> bool {
     entries.is_empty() || entries.starts_with('[') || entries.starts_with('{')
 }
 
-// The manifest of these entries, with commas between them, under a root of mode 0755 where none of them is one, as new
-// layers are written: `root` is such a root alone. An entry is the word of its kind, its path and its attributes, as
-// `dir /d redirect=/x user.k=v`. A text in brackets stands for itself, and so does none.
+/// The manifest of these entries, with commas between them, under a root of mode 0755 where none of
+/// them is one, as new layers are written: `root` is such a root alone. An entry is the word of its
+/// kind, its path and its attributes, as `dir /d redirect=/x user.k=v`. A text in brackets stands
+/// for itself, and so does none.
 pub(crate) fn manifest_of(alloc: Global, entries: &str) -> Result<Vec<u8>, Fail> {
     if stands_for_itself(entries) {
         return Ok(String::from_str(alloc, entries)?.into_bytes());
@@ -116,8 +118,8 @@ pub(crate) fn manifest_of(alloc: Global, entries: &str) -> Result<Vec<u8>, Fail>
     Ok(text.into_bytes())
 }
 
-// The manifests of a stack, the topmost layer first, and how many of them are data-only: a line has ` | ` between layers,
-// and `data ` before each data-only one.
+/// The manifests of a stack, the topmost layer first, and how many of them are data-only: a line
+/// has ` | ` between layers, and `data ` before each data-only one.
 pub(crate) fn manifests_of(alloc: Global, stack: &str) -> Result<(Vec<Vec<u8>>, u16), Fail> {
     let mut manifests = Vec::new(alloc);
     let mut bottom: u16 = 0;
@@ -129,12 +131,12 @@ pub(crate) fn manifests_of(alloc: Global, stack: &str) -> Result<(Vec<Vec<u8>>, 
     Ok((manifests, bottom))
 }
 
-// The layer of these entries.
+/// The layer of these entries.
 pub(crate) fn layer_of(alloc: Global, entries: &str) -> Result<Layer, Fail> {
     Ok(read_layer(alloc, &manifest_of(alloc, entries)?)?)
 }
 
-// The stack of a line.
+/// The stack of a line.
 pub(crate) fn stack_of(alloc: Global, stack: &str) -> Result<Stack, Fail> {
     let (manifests, bottom) = manifests_of(alloc, stack)?;
     let mut layers = Vec::new(alloc);
@@ -144,8 +146,8 @@ pub(crate) fn stack_of(alloc: Global, stack: &str) -> Result<Stack, Fail> {
     Ok(Stack::with_data(alloc, layers, bottom)?)
 }
 
-// A blob for each word, in this order: of the bytes of the word, or of those behind `=`, where it has the name of those
-// before.
+/// A blob for each word, in this order: of the bytes of the word, or of those behind `=`, where it
+/// has the name of those before.
 pub(crate) fn blobs_of(alloc: Global, words: &str) -> Result<Vec<Blob>, Fail> {
     let mut blobs = Vec::new(alloc);
     for word in words.split_whitespace() {

@@ -3,12 +3,12 @@
 use std::alloc::{AllocError, Global};
 use std::test::Fail;
 
-// The words of a row, and what is wanted of it.
+/// The words of a row, and what is wanted of it.
 pub(crate) fn parts_of(row: &str) -> (&str, &str) {
     row.split_once(" -> ").unwrap_or((row, ""))
 }
 
-// A failure where something else was found than is wanted of a row.
+/// A failure where something else was found than is wanted of a row.
 pub(crate) fn same(row: &str, found: &str, wanted: &str) -> Result<(), Fail> {
     if found == wanted {
         return Ok(());
@@ -16,7 +16,7 @@ pub(crate) fn same(row: &str, found: &str, wanted: &str) -> Result<(), Fail> {
     Err(Fail::new(format_args!("{row}: found {found:?}")))
 }
 
-// A text, or one so often as the number and `*` before it say.
+/// A text, or one so often as the number and `*` before it say.
 pub(crate) fn repeated(alloc: Global, text: &str) -> Result<String, AllocError> {
     match text.split_once('*') {
         Some((number, text)) => text.repeat(alloc, number.parse().unwrap_or(0)),

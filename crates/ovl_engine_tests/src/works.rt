@@ -36,7 +36,8 @@ fn told<T: Drop>(alloc: Global, parcels: &[Parcel<Vec<(Name, T)>>]) -> Result<St
     Ok(text)
 }
 
-// What a core of two workers over a stack's merged tree gives of these steps, after one that isn't possible.
+// What a core of two workers over a stack's merged tree gives of these steps, after one that isn't
+// possible.
 fn shared(alloc: Global, stack: &Stack, steps: &[Event]) -> Result<String, Fail> {
     let work = ShowWork::new(stack);
     let mut core = Core::start(alloc, &work, root_piece(alloc), 2)?;

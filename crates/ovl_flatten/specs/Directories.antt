@@ -1,5 +1,5 @@
--- The directories of the flattened layer as work: a piece is a directory, its kids are the directories in it, and its
--- output is each name in it with its inode.
+-- The directories of the flattened layer as work: a piece is a directory, its kids are the
+-- directories in it, and its output is each name in it with its inode.
 use Rattle.std.specs.Prelude.{◌*◌, ℕ, List, [], length}
 use Rattle.ovl_names.specs.Paths.{depth_limit}
 use Rattle.ovl_lookup.specs.Stacks.{StackView}
@@ -8,7 +8,8 @@ use Rattle.ovl_board.specs.declared.pieces.Piece.{Piece}
 use Rattle.ovl_board.specs.Parcels.{ParcelView, IsPlain}
 use Rattle.ovl_rewrite.specs.Directories.{NamedInode, directories_among, visited_kids}
 
--- the kids of a directory are the directories in it, and its output is each name in it, in order, with its inode
+-- the kids of a directory are the directories in it, and its output is each name in it, in order,
+-- with its inode
 abbrev pub flatten_kids : StackView → Piece → List Piece
 flatten_kids stack piece = directories_among piece (shown_inodes stack piece.dir)
 

@@ -8,8 +8,8 @@ use Rattle.ovl_lookup.specs.Stacks.{StackView}
 use Rattle.ovl_lookup.specs.Words.{top_layer}
 use Rattle.ovl_flatten.specs.declared.finish.FlattenEnd.{FlattenEnd}
 
--- it is the end of a flatten of this stack: there is a layer, each layer is one, and the root is the visible one of the
--- topmost
+-- it is the end of a flatten of this stack: there is a layer, each layer is one, and the root is
+-- the visible one of the topmost
 pub record IsFlattenEnd (stack : StackView) (end : FlattenEnd) : Type 0 where
   pub some : 0 < length stack.layers
   pub each : All IsLayer stack.layers

@@ -1,4 +1,5 @@
--- Laws of flatten: what a sound stack shows, as one layer, is a layer; alone it shows the same, and has no marks.
+-- Laws of flatten: what a sound stack shows, as one layer, is a layer; alone it shows the same, and
+-- has no marks.
 use Rattle.std.specs.Prelude.{◌≡◌, ◌<◌, true, length, nat_le}
 use Rattle.std.specs.List.{All, list_all}
 use Rattle.ovl_names.specs.Order.{ascends}
@@ -25,9 +26,13 @@ FlattenIsSound = (stack : StackView) → All IsLayer stack.layers → IsSoundSta
 
 -- entries in order that are those of a flattened layer are a layer, but for the limits
 abbrev pub FlattenGivesLayer : Type 0
-FlattenGivesLayer = (stack : StackView) → 0 < length stack.layers → All IsLayer stack.layers → All IsLayer stack.data_only →
-    IsSoundStack stack → (entries : Entries) → ascends entry_cmp entries ≡ true → IsFlattened entries stack →
-    list_all (λ entry. is_within_limits entry.0) entries ≡ true → nat_le (length entries) entry_limit ≡ true →
+FlattenGivesLayer =
+    (stack : StackView) → 0 < length stack.layers → All IsLayer stack.layers
+    → All IsLayer stack.data_only →
+    IsSoundStack stack → (entries : Entries) → ascends entry_cmp entries ≡ true
+    → IsFlattened entries stack →
+    list_all (λ entry. is_within_limits entry.0) entries ≡ true
+    → nat_le (length entries) entry_limit ≡ true →
     IsLayer entries
 
 -- it is the one layer without marks that shows alone what the stack shows

@@ -37,9 +37,9 @@ impl FlattenWork<'_> {
 }
 
 impl FlattenEnd {
-    /// What is shown, as one layer, of each stack whose flatten ends so. The parcels are the plain walk of its work from
-    /// `/` of space 0. Over a sound stack it is refused, unless memory runs out, exactly where that layer passes a limit
-    /// of manifests.
+    /// What is shown, as one layer, of each stack whose flatten ends so. The parcels are the plain
+    /// walk of its work from `/` of space 0. Over a sound stack it is refused, unless memory runs
+    /// out, exactly where that layer passes a limit of manifests.
     pub fn finish(
         self,
         alloc: Global,
@@ -47,18 +47,22 @@ impl FlattenEnd {
     ) -> Result<Layer, RewriteFault>
         ensures is { IfOk result (λ layer. IsLayer layer) }
         ensures layer { IfOk result (λ layer. (stack : StackView) → IsFlattenEnd stack self
-            → IsFlattenWalk stack (parcel_views inodes_seen parcels.items) → IsFlattened layer stack) }
+            → IsFlattenWalk stack (parcel_views inodes_seen parcels.items)
+            → IsFlattened layer stack) }
         ensures kept { IfOk result (λ _. (stack : StackView) → IsFlattenEnd stack self
-            → IsFlattenWalk stack (parcel_views inodes_seen parcels.items) → PassesLimit stack → ⊥) }
-        ensures limit { result ≡ Err LimitOut → (stack : StackView) → IsFlattenEnd stack self → IsSoundStack stack
+            → IsFlattenWalk stack (parcel_views inodes_seen parcels.items) → PassesLimit stack
+            → ⊥) }
+        ensures limit { result ≡ Err LimitOut → (stack : StackView) → IsFlattenEnd stack self
+            → IsSoundStack stack
             → IsFlattenWalk stack (parcel_views inodes_seen parcels.items) → PassesLimit stack }
     {
         layer_within(alloc, self.root, parcels)
     }
 }
 
-/// What the stack shows, as one layer. The parcels are the plain walk of the work from `/` of space 0. Over a sound
-/// stack it is refused, unless memory runs out, exactly where that layer passes a limit of manifests.
+/// What the stack shows, as one layer. The parcels are the plain walk of the work from `/` of space
+/// 0. Over a sound stack it is refused, unless memory runs out, exactly where that layer passes a
+/// limit of manifests.
 pub fn finish_flatten(
     alloc: Global,
     work: &FlattenWork<'_>,

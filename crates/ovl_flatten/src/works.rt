@@ -32,7 +32,8 @@ impl<'a> FlattenWork<'a> {
     /// The work of this stack; its visits tell the flattened layer.
     pub fn new(stack: &'a Stack) -> FlattenWork<'a>
         ensures value { result ≡ stack.now }
-        ensures tells { TellsLayer (flattened_at stack.now) (flatten_kids stack.now) (flatten_out stack.now) }
+        ensures tells { TellsLayer (flattened_at stack.now) (flatten_kids stack.now)
+            (flatten_out stack.now) }
     {
         // Each layer of a stack is one.
         let _layers = stack.ordinary();

@@ -15,18 +15,25 @@ use Rattle.ovl_lookup.specs.Views.{Reached, reached, entry_in}
 
 -- a place in a stack: its row is one of its layer
 abbrev pub IsPlaceOver : StackView → DirPlace → Type 0
-IsPlaceOver stack place = IsSomeAnd (slice_get stack.layers place.layer) (λ layer. place.row < length layer)
+IsPlaceOver stack place =
+    IsSomeAnd (slice_get stack.layers place.layer) (λ layer. place.row < length layer)
 
 -- the path of a row of a layer of the stack
 abbrev pub path_in : StackView → ℕ → ℕ → PathNames
-path_in stack layer row = elim (slice_get stack.layers layer) [ Some entries ↦ path_at entries row | None ↦ [] ]
+path_in stack layer row =
+    elim (slice_get stack.layers layer) [ Some entries ↦ path_at entries row | None ↦ [] ]
 
--- the path by which the layers below know the directory of such a row, and whether they are hidden there
+-- the path by which the layers below know the directory of such a row, and whether they are hidden
+-- there
 abbrev pub next_in : StackView → ℕ → ℕ → PathNames
-next_in stack layer row = elim (slice_get stack.layers layer) [ Some entries ↦ turn entries (path_at entries row) | None ↦ [] ]
+next_in stack layer row =
+    elim (slice_get stack.layers layer)
+    [ Some entries ↦ turn entries (path_at entries row) | None ↦ [] ]
 
 abbrev pub closed_in : StackView → ℕ → ℕ → Bool
-closed_in stack layer row = elim (slice_get stack.layers layer) [ Some entries ↦ is_shut entries (path_at entries row) | None ↦ false ]
+closed_in stack layer row =
+    elim (slice_get stack.layers layer)
+    [ Some entries ↦ is_shut entries (path_at entries row) | None ↦ false ]
 
 -- the place as the laws of views have it
 abbrev pub place_in : StackView → DirPlace → Reached
@@ -44,26 +51,31 @@ places_in stack places = map (place_in stack) places
 pub record IsViewOver (stack : StackView) (view : DirView) : Type 0 where
   pub within : view.from ≤ length stack.layers
   pub over : All (IsPlaceOver stack) view.places.items
-  pub reached : places_in stack view.places.items ≡ reached (drop view.from stack.layers) view.from view.path
+  pub reached : places_in stack view.places.items
+      ≡ reached (drop view.from stack.layers) view.from view.path
 
 -- the view of a path of the merged tree, at which a directory is shown
-pub record IsViewOf (stack : StackView) (from : ℕ) (path : PathNames) (view : DirView) : Type 0 where
+pub record IsViewOf (stack : StackView) (from : ℕ) (path : PathNames)
+    (view : DirView) : Type 0 where
   pub over : IsViewOver stack view
   pub starts : view.from ≡ from
   pub stands : view.path ≡ path
   pub shown : shows_directory (from_layer from stack) path ≡ true
 
 -- more places were added
-pub record AddsPlaces (stack : StackView) (old new : List DirPlace) (more : List Reached) : Type 0 where
+pub record AddsPlaces (stack : StackView) (old new : List DirPlace)
+    (more : List Reached) : Type 0 where
   pub places : places_in stack new ≡ places_in stack old ++ more
   pub over : All (IsPlaceOver stack) old → All (IsPlaceOver stack) new
 
 -- what stands at a name in a place: the number of its row, its inode and its mark
-pub record IsEntryIn (stack : StackView) (name : PathName) (place : DirPlace) (entry : PlaceEntry) : Type 0 where
+pub record IsEntryIn (stack : StackView) (name : PathName) (place : DirPlace)
+    (entry : PlaceEntry) : Type 0 where
   pub inode : entry_in stack.layers name (place_in stack place) ≡ Some entry.inode.now
   pub mark : entry.mark.now ≡ mark_of entry.inode.now
   pub row : IsSomeAnd (slice_get stack.layers place.layer)
-      (λ layer. (entry.row < length layer) × (path_at layer entry.row ≡ child_path (path_at layer place.row) name))
+      (λ layer. (entry.row < length layer)
+      × (path_at layer entry.row ≡ child_path (path_at layer place.row) name))
 
 -- the place of the directory that an entry of a place is
 abbrev pub place_below : DirPlace → PlaceEntry → DirPlace
@@ -72,4 +84,5 @@ place_below place entry = record { layer = place.layer; row = entry.row }
 -- the view of a directory of the layers from one on, and none where they show no directory there
 abbrev pub IsSought : StackView → ℕ → PathNames → Option DirView → Type 0
 IsSought stack from path found =
-    MatchOption found (shows_directory (from_layer from stack) path ≡ false) (λ view. IsViewOf stack from path view)
+    MatchOption found (shows_directory (from_layer from stack) path ≡ false)
+    (λ view. IsViewOf stack from path view)

@@ -10,7 +10,8 @@ use Rattle.ovl_lookup.specs.Equal.{look_eq}
 pub look_eq-same : (one other : Look) → look_eq one other ≡ true → one ≡ other
 look_eq-same Nothing Nothing e = refl
 look_eq-same (Shown one) (Shown other) e = ap (λ (i : Inode). Shown i) (inode_eq-same one other e)
-look_eq-same (Broken one) (Broken other) e = ap (λ (i : Inode). Broken i) (inode_eq-same one other e)
+look_eq-same (Broken one) (Broken other) e =
+    ap (λ (i : Inode). Broken i) (inode_eq-same one other e)
 look_eq-same _ _ e = let bad : false ≡ true = e in cc
 
 look_eq-itself : (look : Look) → look_eq look look ≡ true
@@ -19,4 +20,6 @@ look_eq-itself (Shown inode) = inode_eq-itself inode
 look_eq-itself (Broken inode) = inode_eq-itself inode
 
 pub look_eq_equiv : IsEquivalence look_eq
-look_eq_equiv = decided look_eq (λ one other. (look_eq-same one other, λ e. ap (look_eq one) (sym e) ∙ look_eq-itself one))
+look_eq_equiv =
+    decided look_eq
+    (λ one other. (look_eq-same one other, λ e. ap (look_eq one) (sym e) ∙ look_eq-itself one))

@@ -32,7 +32,8 @@ is_full_file inode = is_data inode && not (is_whiteout inode)
 
 -- the first full file that data-only layers have at a path
 abbrev pub full_file_in : List Entries → PathNames → Option Inode
-full_file_in data_only path = find is_full_file (filter_map (λ layer. entry_at layer path) data_only)
+full_file_in data_only path =
+    find is_full_file (filter_map (λ layer. entry_at layer path) data_only)
 
 -- where data-only layers have the data of a metacopy file: at its absolute redirect
 abbrev pub place_of_data : Mark → Option PathNames
@@ -52,13 +53,14 @@ last_place found = elim (last_of found) [ Some inode ↦ place_of_data (mark_of 
 abbrev pub place_told : List Inode → Option PathNames
 place_told found = if list_all is_metacopy found then last_place found else None
 
--- the data of the things found: where they are metacopy files alone, what data-only layers have where the last one says;
--- else the last hit, where that is a regular file without `metacopy`; overlayfs.rst, "Metadata only copy up" and
--- "Data-only lower layers"
+-- the data of the things found: where they are metacopy files alone, what data-only layers have
+-- where the last one says; else the last hit, where that is a regular file without `metacopy`;
+-- overlayfs.rst, "Metadata only copy up" and "Data-only lower layers"
 abbrev pub data_of : List Entries → List Inode → Option Inode
 data_of data_only found =
     if list_all is_metacopy found then data_at_place data_only (last_place found)
-    else elim (last_of (hits_of found)) [ Some inode ↦ (if is_data inode then Some inode else None) | None ↦ None ]
+    else elim (last_of (hits_of found))
+    [ Some inode ↦ (if is_data inode then Some inode else None) | None ↦ None ]
 
 -- a kind with its own size and no blob
 abbrev pub without_blob : Kind → Kind
@@ -66,8 +68,8 @@ without_blob (File size blob) = File size None
 without_blob kind = kind
 
 -- what is shown of the things found: the visible inode of the first, a metacopy file with its data
--- (overlayfs.rst, "Metadata only copy up"), or broken with its own size and no blob; that the size is that of the data,
--- and what is broken, are this profile's
+-- (overlayfs.rst, "Metadata only copy up"), or broken with its own size and no blob; that the size
+-- is that of the data, and what is broken, are this profile's
 abbrev pub shown_of : List Entries → List Inode → Look
 shown_of data_only [] = Nothing
 shown_of data_only (inode ∷ below) =
@@ -109,7 +111,8 @@ look_cmp one other = path_cmp one.0 other.0
 abbrev pub look_at : List (PathNames × Look) → PathNames → Look
 look_at looks path = elim (lookup (path_eq path) looks) [ Some found ↦ found | None ↦ Nothing ]
 
--- the merged tree as a list: each path at which something is shown once, in path order, with what is shown there
+-- the merged tree as a list: each path at which something is shown once, in path order, with what
+-- is shown there
 pub record IsMerged (stack : StackView) (looks : List (PathNames × Look)) : Type 0 where
   pub in_order : ascends look_cmp looks ≡ true
   pub same : (path : PathNames) → look_at looks path ≡ look stack path

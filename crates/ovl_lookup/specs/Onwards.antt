@@ -21,12 +21,15 @@ name_on (Meta None) name = Some name
 name_on (Meta (Some (ByName own))) name = Some own
 name_on _ name = None
 
--- the path and the flag at an entry of this mark and name, by those of the directory that it stands in
+-- the path and the flag at an entry of this mark and name, by those of the directory that it stands
+-- in
 abbrev pub next_on : Mark → PathNames → PathName → PathNames
-next_on mark next name = unwrap_or (path_on mark) (child_path next (unwrap_or (name_on mark name) name))
+next_on mark next name =
+    unwrap_or (path_on mark) (child_path next (unwrap_or (name_on mark name) name))
 
 abbrev pub closed_on : Mark → PathName → Bool → Bool
-closed_on mark name closed = if is_some (path_on mark) then false else if is_none (name_on mark name) then true else closed
+closed_on mark name closed =
+    if is_some (path_on mark) then false else if is_none (name_on mark name) then true else closed
 
 -- the same as the program tells it
 abbrev pub path_told : Onward → Option PathNames

@@ -30,7 +30,8 @@ abbrev pub IsNumberAt : Entries → PathNames → Option ℕ → Type 0
 IsNumberAt layer path None = entry_at layer path ≡ None
 IsNumberAt layer path (Some number) = (number < length layer) × (path_at layer number ≡ path)
 
--- a directory of a layer at a path, and how its walk goes on: by another path only where marks turn its own
+-- a directory of a layer at a path, and how its walk goes on: by another path only where marks turn
+-- its own
 pub record IsOwnDirectory (layer : Entries) (path : PathNames) (own : OwnDirectory) : Type 0 where
   pub inside : own.row < length layer
   pub here : path_at layer own.row ≡ path
@@ -49,7 +50,8 @@ pub record IsOwnEntry (layer : Entries) (path : PathNames) (own : OwnDirectory) 
 abbrev pub IsStop : Entries → PathNames → PathNames → Option ℕ → Type 0
 IsStop layer above [] number = number ≡ None
 IsStop layer above (name ∷ rest) number =
-    (is_directory_at layer (child_path above name) ≡ false) × IsNumberAt layer (child_path above name) number
+    (is_directory_at layer (child_path above name) ≡ false)
+    × IsNumberAt layer (child_path above name) number
 
 -- how far a path goes through directories of a layer
 pub record IsDescent (layer : Entries) (path : PathNames) (descent : Descent) : Type 0 where
@@ -63,7 +65,11 @@ pub record IsDescent (layer : Entries) (path : PathNames) (descent : Descent) : 
 
 -- the step that a walk along a trail gives, and that what it found has its mark
 abbrev pub step_of : TrailStep → Step
-step_of step = record { found = option_map (λ found. found.inode.now) step.found; next = step.next; closed = step.closed }
+step_of step = record {
+  found = option_map (λ found. found.inode.now) step.found;
+  next = step.next;
+  closed = step.closed;
+}
 
 abbrev pub IsMarked : TrailStep → Type 0
 IsMarked step = IfSome step.found (λ found. found.mark.now ≡ mark_of found.inode.now)
@@ -71,21 +77,28 @@ IsMarked step = IfSome step.found (λ found. found.mark.now ≡ mark_of found.in
 -- the same of a walk of this path that says where it goes on only if that is another path
 abbrev pub own_step_of : PathNames → OwnStep → Step
 own_step_of path step =
-    record { found = option_map (λ found. found.inode.now) step.found; next = unwrap_or step.turned path; closed = step.closed }
+    record {
+      found = option_map (λ found. found.inode.now) step.found;
+      next = unwrap_or step.turned path;
+      closed = step.closed;
+    }
 
 abbrev pub IsOwnMarked : OwnStep → Type 0
 IsOwnMarked step = IfSome step.found (λ found. found.mark.now ≡ mark_of found.inode.now)
 
--- where the walk of a path leads that is no directory: nothing is found below, which goes on by its own names
+-- where the walk of a path leads that is no directory: nothing is found below, which goes on by its
+-- own names
 pub record IsPast (layer : Entries) (path onward : PathNames) (hidden : Bool) : Type 0 where
   pub none : is_directory_at layer path ≡ false
   pub ended : hidden ≡ (is_some (entry_at layer path) || (walk layer path).closed)
   pub next : hidden ≡ false → onward ≡ (walk layer path).next
-  pub below : (name : PathName) (names : PathNames) → walk layer (path ++ name ∷ names) ≡ nothing_found (onward ++ name ∷ names) hidden
+  pub below : (name : PathName) (names : PathNames)
+      → walk layer (path ++ name ∷ names) ≡ nothing_found (onward ++ name ∷ names) hidden
 
 -- where the walk of a path in a layer leads
 abbrev pub IsArrivalAt : Entries → PathNames → Option ℕ → PathNames → Bool → Type 0
-IsArrivalAt layer path (Some row) next closed = IsOwnDirectory layer path (record { row = row; turned = Some next; closed = closed })
+IsArrivalAt layer path (Some row) next closed =
+    IsOwnDirectory layer path (record { row = row; turned = Some next; closed = closed })
 IsArrivalAt layer path None next closed = IsPast layer path next closed
 
 abbrev pub IsArrival : Entries → PathNames → Arrival → Type 0
@@ -93,10 +106,12 @@ IsArrival layer path arrival = IsArrivalAt layer path arrival.row arrival.next a
 
 -- the path and the flag in a directory of this mark, by those of its parent
 abbrev pub entered_path : Mark → PathNames → PathName → PathNames
-entered_path mark next name = unwrap_or (origin_path (Some mark)) (child_path next (name_in_lower (Some mark) name))
+entered_path mark next name =
+    unwrap_or (origin_path (Some mark)) (child_path next (name_in_lower (Some mark) name))
 
 abbrev pub entered_closed : Mark → Bool → Bool
-entered_closed mark closed = if is_some (origin_path (Some mark)) then false else (closed || is_closing (Some mark))
+entered_closed mark closed =
+    if is_some (origin_path (Some mark)) then false else (closed || is_closing (Some mark))
 
 -- what the layers from `i` on find, where the walk above them gave this path and flag
 abbrev pub found_on : StackView → ℕ → PathNames → Bool → List Inode
@@ -113,7 +128,8 @@ abbrev pub shown_with : Inode → Option Inode → Look
 shown_with inode (Some contents) = Shown (record (visible inode) { kind = contents.kind })
 shown_with inode None = Broken (record (visible inode) { kind = without_blob inode.kind })
 
--- the data below a metacopy file, by where that says that data-only layers have it, and by what is found there
+-- the data below a metacopy file, by where that says that data-only layers have it, and by what is
+-- found there
 abbrev pub data_below : List Entries → Option PathNames → List Inode → Option Inode
 data_below data_only place [] = data_at_place data_only place
 data_below data_only place (inode ∷ below) =
@@ -125,7 +141,8 @@ data_below data_only place (inode ∷ below) =
 abbrev pub own_names_along : List Entries → PathNames → List PathName
 own_names_along [] path = []
 own_names_along (layer ∷ layers) path =
-    names_below layer path ++ (if (walk layer path).closed then [] else own_names_along layers (walk layer path).next)
+    names_below layer path
+    ++ (if (walk layer path).closed then [] else own_names_along layers (walk layer path).next)
 
 -- names put among ascending ones
 abbrev pub put_names : List PathName → List PathName → List PathName
@@ -134,7 +151,9 @@ put_names names (name ∷ more) = put_names (insert_key name_cmp names name) mor
 
 -- those of the layers' own names below which something is shown
 abbrev pub kids_along : StackView → PathNames → List PathName
-kids_along stack path = filter (λ name. shows stack (child_path path name)) (put_names [] (own_names_along stack.layers path))
+kids_along stack path =
+    filter (λ name. shows stack (child_path path name))
+    (put_names [] (own_names_along stack.layers path))
 
 -- looks with `name` before each path
 abbrev pub looks_under : PathName → List (PathNames × Look) → List (PathNames × Look)
@@ -148,4 +167,6 @@ looks_placed path looks = map (λ e. (path ++ e.0, e.1)) looks
 abbrev pub looks_from : ℕ → StackView → PathNames → List (PathNames × Look)
 looks_from zero stack path = []
 looks_from (suc depth) stack path =
-    ([], look stack path) ∷ flat_map (λ name. looks_under name (looks_from depth stack (child_path path name))) (kids_along stack path)
+    ([], look stack path)
+    ∷ flat_map (λ name. looks_under name (looks_from depth stack (child_path path name)))
+    (kids_along stack path)

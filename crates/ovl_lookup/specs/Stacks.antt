@@ -2,8 +2,8 @@
 use Rattle.std.specs.Prelude.{ℕ, ◌-◌, List, ◌++◌, length, take, drop}
 use Rattle.ovl_layer.specs.Layers.{Entries}
 
--- a stack: its layers, the topmost first, and the data-only layers under them; overlayfs.rst, "Multiple lower layers" and
--- "Data-only lower layers"
+-- a stack: its layers, the topmost first, and the data-only layers under them; overlayfs.rst,
+-- "Multiple lower layers" and "Data-only lower layers"
 pub record StackView : Type 0 where
   pub layers : List Entries
   pub data_only : List Entries

@@ -9,8 +9,8 @@ use Rattle.ovl_lookup.specs.declared.steps.Step.{Step}
 use Rattle.ovl_lookup.specs.Walk.{walk}
 use Rattle.ovl_lookup.specs.Stacks.{StackView}
 
--- the walks of a path, layer by layer, each of the next path of the one above, as long as that is open;
--- overlayfs.rst, "Multiple lower layers"
+-- the walks of a path, layer by layer, each of the next path of the one above, as long as that is
+-- open; overlayfs.rst, "Multiple lower layers"
 abbrev pub walks : List Entries → PathNames → List Step
 walks [] path = []
 walks (layer ∷ layers) path =
@@ -24,10 +24,11 @@ things_found layers path = filter_map (λ step. step.found) (walks layers path)
 -- the longest prefix of these things that is directories alone; overlayfs.rst, "Directories"
 abbrev pub leading_directories : List Inode → List Inode
 leading_directories [] = []
-leading_directories (inode ∷ inodes) = if is_directory inode then inode ∷ leading_directories inodes else []
+leading_directories (inode ∷ inodes) =
+    if is_directory inode then inode ∷ leading_directories inodes else []
 
--- the longest prefix of these things that is metacopy files with at most one other non-directory after them;
--- overlayfs.rst, "Metadata only copy up" and "Data-only lower layers"
+-- the longest prefix of these things that is metacopy files with at most one other non-directory
+-- after them; overlayfs.rst, "Metadata only copy up" and "Data-only lower layers"
 abbrev pub leading_files : List Inode → List Inode
 leading_files [] = []
 leading_files (inode ∷ inodes) =
@@ -40,7 +41,8 @@ leading_files (inode ∷ inodes) =
 abbrev pub hits_of : List Inode → List Inode
 hits_of [] = []
 hits_of (inode ∷ inodes) =
-    if is_directory inode then leading_directories (inode ∷ inodes) else leading_files (inode ∷ inodes)
+    if is_directory inode then leading_directories (inode ∷ inodes)
+    else leading_files (inode ∷ inodes)
 
 -- the hits of a path in a stack
 abbrev pub trace : StackView → PathNames → List Inode

@@ -8,7 +8,8 @@ use Rattle.ovl_names.specs.Paths.{PathNames, path_cmp, path_eq}
 abbrev pub names_of_parts : List PathNames → PathNames
 names_of_parts parts = flat_map (λ part. part) parts
 
--- trails are ordered by their names from the last one on, since those below one redirect begin with all its names
+-- trails are ordered by their names from the last one on, since those below one redirect begin with
+-- all its names
 abbrev pub trail_cmp : PathNames → PathNames → Ordering
 trail_cmp one other = path_cmp (reverse one) (reverse other)
 

@@ -19,7 +19,8 @@ pub record First : Type 0 where
   pub place : ℕ
   pub inode : Inode
 
--- the first of these places that has a name, by all layers of the stack; the first place has the number `i`
+-- the first of these places that has a name, by all layers of the stack; the first place has the
+-- number `i`
 abbrev pub first_in : List Entries → ℕ → List Reached → PathName → Option First
 first_in layers i [] name = None
 first_in layers i (place ∷ rest) name =
@@ -33,14 +34,17 @@ abbrev pub AreInOrder : List (PathName × First) → Type 0
 AreInOrder tops = ascends name_cmp (map (λ top. top.0) tops) ≡ true
 
 -- all names in the directories of these places in order, each with the first place that has it
-pub record AreTops (layers : List Entries) (i : ℕ) (places : List Reached) (tops : List (PathName × First)) : Type 0 where
+pub record AreTops (layers : List Entries) (i : ℕ) (places : List Reached)
+    (tops : List (PathName × First)) : Type 0 where
   pub in_order : AreInOrder tops
   pub each : (name : PathName) → lookup (name_eq name) tops ≡ first_in layers i places name
 
 -- the names of both lists in order, with the upper's place where both have a name
 pub record AreMerged (upper lower tops : List (PathName × First)) : Type 0 where
   pub in_order : AreInOrder tops
-  pub each : (name : PathName) → lookup (name_eq name) tops ≡ option_or (lookup (name_eq name) upper) (lookup (name_eq name) lower)
+  pub each : (name : PathName)
+      → lookup (name_eq name) tops
+      ≡ option_or (lookup (name_eq name) upper) (lookup (name_eq name) lower)
 
 -- the names of a pass with their places
 abbrev pub top_told : Top → PathName × First
@@ -55,10 +59,13 @@ look_from_top stack places top =
     (top.0, shown_of stack.data_only (found_below stack.layers top.0 (drop top.1.place places)))
 
 -- the names at which something is shown, with what is shown there
-abbrev pub looks_from_tops : StackView → List Reached → List (PathName × First) → List (PathName × Look)
-looks_from_tops stack places tops = filter (λ e. not (is_nothing e.1)) (map (look_from_top stack places) tops)
+abbrev pub looks_from_tops : StackView → List Reached → List (PathName × First)
+    → List (PathName × Look)
+looks_from_tops stack places tops =
+    filter (λ e. not (is_nothing e.1)) (map (look_from_top stack places) tops)
 
 -- the names in a directory of the merged tree in order, each with what is shown there
-pub record AreLooks (stack : StackView) (path : PathNames) (looks : List (PathName × Look)) : Type 0 where
+pub record AreLooks (stack : StackView) (path : PathNames)
+    (looks : List (PathName × Look)) : Type 0 where
   pub names : AreKids stack path (map (λ e. e.0) looks)
   pub each : All (λ e. e.1 ≡ look stack (child_path path e.0)) looks

@@ -1,5 +1,5 @@
--- Views of directories: the layers that have a directory where the walks of a path come to it, and how a view goes on
--- with one more name.
+-- Views of directories: the layers that have a directory where the walks of a path come to it, and
+-- how a view goes on with one more name.
 use Rattle.std.specs.Prelude.{◌≡◌, ℕ, suc, ◌<◌, ◌≤◌, Bool, true, false, ◌||◌, Option, Some, None, List, [], ◌∷◌, if◌then◌else◌, length, drop, is_some, slice_get, IfSome, ⊤}
 use Rattle.ovl_names.specs.Names.{PathName}
 use Rattle.ovl_names.specs.Paths.{PathNames, child_path}
@@ -20,14 +20,15 @@ pub record Reached : Type 0 where
   pub next : PathNames  -- how its walk goes on
   pub closed : Bool
 
--- the view of a path over these layers, of which the first has this number: a layer that has nothing there is passed
--- over; a whiteout, a file and a walk that is closed end it
+-- the view of a path over these layers, of which the first has this number: a layer that has
+-- nothing there is passed over; a whiteout, a file and a walk that is closed end it
 abbrev pub reached : List Entries → ℕ → PathNames → List Reached
 reached [] i path = []
 reached (layer ∷ layers) i path =
     let step = walk layer path in
     if is_directory_at layer path
-    then (record { layer = i; path = path; next = step.next; closed = step.closed }) ∷ (if step.closed then [] else reached layers (suc i) step.next)
+    then (record { layer = i; path = path; next = step.next; closed = step.closed })
+    ∷ (if step.closed then [] else reached layers (suc i) step.next)
     else if is_some (entry_at layer path) || step.closed then []
     else reached layers (suc i) step.next
 
@@ -36,13 +37,16 @@ abbrev pub is_reached : List Reached → Bool
 is_reached [] = false
 is_reached (place ∷ places) = true
 
--- a place of such a view, by all layers of the stack: the layer has that directory, whose walk goes on so
+-- a place of such a view, by all layers of the stack: the layer has that directory, whose walk goes
+-- on so
 pub record IsPlace (layers : List Entries) (from : ℕ) (place : Reached) : Type 0 where
   pub not_above : from ≤ place.layer
   pub inside : place.layer < length layers
-  pub directory : IfSome (slice_get layers place.layer) (λ layer. is_directory_at layer place.path ≡ true)
+  pub directory : IfSome (slice_get layers place.layer)
+      (λ layer. is_directory_at layer place.path ≡ true)
   pub next : IfSome (slice_get layers place.layer) (λ layer. place.next ≡ turn layer place.path)
-  pub closed : IfSome (slice_get layers place.layer) (λ layer. place.closed ≡ is_shut layer place.path)
+  pub closed : IfSome (slice_get layers place.layer)
+      (λ layer. place.closed ≡ is_shut layer place.path)
 
 -- after a place whose walk is closed there is none
 abbrev pub EndsWhereClosed : List Reached → Type 0
@@ -52,7 +56,8 @@ EndsWhereClosed (place ∷ rest) = (place.closed ≡ true → rest ≡ []) × En
 -- what stands at a name in a directory that is reached, by all layers of the stack
 abbrev pub entry_in : List Entries → PathName → Reached → Option Inode
 entry_in layers name place =
-    elim (slice_get layers place.layer) [ Some layer ↦ entry_at layer (child_path place.path name) | None ↦ None ]
+    elim (slice_get layers place.layer)
+    [ Some layer ↦ entry_at layer (child_path place.path name) | None ↦ None ]
 
 -- the directory of that name and mark in it
 abbrev pub entered : PathName → Mark → Reached → Reached
@@ -63,8 +68,10 @@ entered name mark place = record {
   closed = entered_closed mark place.closed;
 }
 
--- what goes on below an entry of this name and mark: at a path from the root, beside it by a name, or not at all
-abbrev pub below_entry : {X : Type 0} → Mark → PathName → (PathNames → List X) → (PathName → List X) → List X
+-- what goes on below an entry of this name and mark: at a path from the root, beside it by a name,
+-- or not at all
+abbrev pub below_entry : {X : Type 0} → Mark → PathName → (PathNames → List X) → (PathName → List X)
+    → List X
 below_entry DirPlain name from_root beside = beside name
 below_entry (DirMoved (Beside other)) name from_root beside = beside other
 below_entry (DirMoved (To origin)) name from_root beside = from_root origin
@@ -80,7 +87,10 @@ reached_below layers name (place ∷ rest) =
     elim (entry_in layers name place) [
       | Some inode ↦
           if is_directory inode
-          then entered name (mark_of inode) place ∷ below_entry (mark_of inode) name (reached (drop (suc place.layer) layers) (suc place.layer)) (λ other. reached_below layers other rest)
+          then entered name (mark_of inode) place
+          ∷ below_entry (mark_of inode) name
+          (reached (drop (suc place.layer) layers) (suc place.layer))
+          (λ other. reached_below layers other rest)
           else []
       | None ↦ reached_below layers name rest
     ]
@@ -92,6 +102,8 @@ found_below layers name (place ∷ rest) =
     elim (entry_in layers name place) [
       | Some inode ↦
           if is_whiteout inode then []
-          else inode ∷ below_entry (mark_of inode) name (things_found (drop (suc place.layer) layers)) (λ other. found_below layers other rest)
+          else inode
+          ∷ below_entry (mark_of inode) name (things_found (drop (suc place.layer) layers))
+          (λ other. found_below layers other rest)
       | None ↦ found_below layers name rest
     ]

@@ -27,10 +27,12 @@ is_at_or_under path other = starts_with name_eq other path
 
 -- two layers have the same mark, or the same entry, at each prefix of a path
 abbrev pub SameMarks : Entries → Entries → PathNames → Type 0
-SameMarks one other path = (front back : PathNames) → front ++ back ≡ path → mark_at one front ≡ mark_at other front
+SameMarks one other path =
+    (front back : PathNames) → front ++ back ≡ path → mark_at one front ≡ mark_at other front
 
 abbrev pub SameEntries : Entries → Entries → PathNames → Type 0
-SameEntries one other path = (front back : PathNames) → front ++ back ≡ path → entry_at one front ≡ entry_at other front
+SameEntries one other path =
+    (front back : PathNames) → front ++ back ≡ path → entry_at one front ≡ entry_at other front
 
 -- the next path after these layers; none where a walk is closed
 abbrev pub through : List Entries → PathNames → Option PathNames

@@ -7,8 +7,8 @@ use ovl_inode::Inode;
 use ovl_names::{Name, Path};
 use std::alloc::{AllocError, Global};
 
-/// The names in a directory of the merged tree, in order, each with the inode that is shown there, whole or broken; none
-/// where the stack shows no directory. Fails only when out of memory.
+/// The names in a directory of the merged tree, in order, each with the inode that is shown there,
+/// whole or broken; none where the stack shows no directory. Fails only when out of memory.
 pub fn shown_inodes(
     alloc: Global,
     stack: &Stack,

@@ -3,13 +3,14 @@ ghost use Rattle.ovl_lookup.specs.Laws.{ShowsParents, ShowsWithinDepth, ViewsGoO
 ghost use Rattle.ovl_lookup.specs.WalkSplits.{WalksStep, WalksSplit, AbsoluteRedirectsLead, RelativeRedirectsLead};
 ghost use Rattle.ovl_lookup.specs.WalkLaws.{WalksEnter, WalksEnd, WalksPass, WalksPassOver, FilesClose, WalksKeepNames, WalksStayBelowRoot};
 
-/// The merged tree is closed under parents: where something is shown in a directory, that directory is shown.
+/// The merged tree is closed under parents: where something is shown in a directory, that directory
+/// is shown.
 pub fn merged_tree_has_parents()
     ensures { ShowsParents }
 {}
 
-/// The merged tree is no deeper than the most names of a layer's path times the number of layers, the data-only ones
-/// not counted.
+/// The merged tree is no deeper than the most names of a layer's path times the number of layers,
+/// the data-only ones not counted.
 pub fn merged_tree_is_within_depth()
     ensures { ShowsWithinDepth }
 {}

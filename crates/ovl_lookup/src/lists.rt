@@ -8,9 +8,9 @@ use ovl_names::{DEPTH_LIMIT, Name, Path};
 use std::alloc::{AllocError, Global};
 
 impl Stack {
-    /// The names that a directory has in the merged tree of the layers with index `from` and up, in order; none where
-    /// no directory is shown. `from` is at most the number of layers that aren't data-only. Fails only when out of
-    /// memory. overlayfs.rst: "Directories", "readdir".
+    /// The names that a directory has in the merged tree of the layers with index `from` and up, in
+    /// order; none where no directory is shown. `from` is at most the number of layers that aren't
+    /// data-only. Fails only when out of memory. overlayfs.rst: "Directories", "readdir".
     pub fn names(&self, alloc: Global, from: usize, path: &Path) -> Result<Vec<Name>, AllocError>
         requires { from ≤ length self.now.layers }
         ensures { IfOk result (λ names. AreKids (from_layer from self.now) path.now names.items) }
@@ -23,8 +23,8 @@ impl Stack {
         }
     }
 
-    /// The whole merged tree in path order: each path at which something is shown once, with what is shown there.
-    /// Fails only when out of memory.
+    /// The whole merged tree in path order: each path at which something is shown once, with what
+    /// is shown there. Fails only when out of memory.
     pub fn list(&self, alloc: Global) -> Result<Vec<(Path, Look)>, AllocError>
         ensures { IfOk result (λ looks. IsMerged self.now looks.items) }
     {
@@ -43,7 +43,9 @@ impl Stack {
         depth: usize,
         looks: &mut Vec<(Path, Look)>,
     ) -> Result<(), AllocError>
-        ensures { OnOk result (looks.new.items ≡ looks.old.items ++ looks_placed path.now (looks_from depth self.now path.now)) }
+        ensures { OnOk result
+            (looks.new.items
+            ≡ looks.old.items ++ looks_placed path.now (looks_from depth self.now path.now)) }
     {
         let _ = &self.layers;
         if depth == 0 {

@@ -27,7 +27,8 @@ use std::alloc::{AllocError, Global};
 pub enum Look {
     /// Nothing is shown.
     Nothing,
-    /// The inode, without the overlay's own attributes; of a metacopy file with the size and blob of its data.
+    /// The inode, without the overlay's own attributes; of a metacopy file with the size and blob
+    /// of its data.
     Shown(Inode),
     /// A metacopy file whose data is missing: its inode with its own size, and no blob.
     Broken(Inode),
@@ -81,8 +82,8 @@ impl Look {
     }
 }
 
-// The first thing that the walks of a path find, and how they go on, unless they are closed, in the layers from `below`
-// on.
+/// The first thing that the walks of a path find, and how they go on, unless they are closed, in
+/// the layers from `below` on.
 #[derive(Drop)]
 pub(crate) struct Hit<'a> {
     found: Found<'a>,
@@ -92,9 +93,9 @@ pub(crate) struct Hit<'a> {
 }
 
 impl Stack {
-    /// What the layers with index `from` and up show at a path, over the data-only ones; `from` is at most the number of
-    /// the others. Fails only when out of memory. overlayfs.rst: "Directories", "Multiple lower layers", "Metadata only
-    /// copy up", "Data-only lower layers".
+    /// What the layers with index `from` and up show at a path, over the data-only ones; `from` is
+    /// at most the number of the others. Fails only when out of memory. overlayfs.rst:
+    /// "Directories", "Multiple lower layers", "Metadata only copy up", "Data-only lower layers".
     pub fn look(&self, alloc: Global, from: usize, path: &Path) -> Result<Look, AllocError>
         requires { from ≤ length self.now.layers }
         ensures { IfOk result (λ look. look ≡ the_look (from_layer from self.now) path.now) }
@@ -114,7 +115,8 @@ impl Stack {
         path: Trail<'a>,
     ) -> Result<Sight, AllocError>
         requires { from ≤ length self.now.layers }
-        ensures { IfOk result (λ sight. sight ≡ sight_of (the_look (from_layer from self.now) path.entry)) }
+        ensures { IfOk result
+            (λ sight. sight ≡ sight_of (the_look (from_layer from self.now) path.entry)) }
     {
         match self.first_hit(alloc, from, path)? {
             Some(hit) => Ok(Sight::of(hit.found.inode)),
@@ -165,7 +167,8 @@ impl Stack {
         trail: Trail<'a>,
     ) -> Result<TrailStep<'a>, AllocError>
         requires { i < length self.now.layers }
-        ensures value { IfSome (slice_get self.now.layers i) (λ layer. IfOk result (λ step. step_of step ≡ the_walk layer trail.entry)) }
+        ensures value { IfSome (slice_get self.now.layers i)
+            (λ layer. IfOk result (λ step. step_of step ≡ the_walk layer trail.entry)) }
         ensures marked { IfOk result IsMarked }
     {
         follow(alloc, &self.layers[i], trail)
@@ -176,7 +179,9 @@ impl Stack {
         requires layers { hit.below ≤ length self.now.layers }
         requires marked { hit.found.mark.now ≡ the_mark hit.found.inode.now }
         ensures { IfOk result (λ look. look
-            ≡ shown_of self.now.data_only (hit.entry.found.inode.now ∷ found_on self.now hit.entry.below hit.entry.next hit.entry.closed)) }
+            ≡ shown_of self.now.data_only
+            (hit.entry.found.inode.now
+            ∷ found_on self.now hit.entry.below hit.entry.next hit.entry.closed)) }
     {
         let Hit {
             found: Found { inode, mark },
@@ -217,9 +222,10 @@ impl Stack {
         self.data(alloc, i, next, origin)
     }
 
-    /// The data that the layers with index `from` and up have at a path, below metacopy files, of which the last says where
-    /// data-only layers have it; before the first, that is `place_told`. `from` is at most the number of layers that aren't
-    /// data-only. Fails only when out of memory. overlayfs.rst: "Metadata only copy up", "Data-only lower layers".
+    /// The data that the layers with index `from` and up have at a path, below metacopy files, of
+    /// which the last says where data-only layers have it; before the first, that is `place_told`.
+    /// `from` is at most the number of layers that aren't data-only. Fails only when out of memory.
+    /// overlayfs.rst: "Metadata only copy up", "Data-only lower layers".
     pub fn data<'a>(
         &'a self,
         alloc: Global,
@@ -229,7 +235,8 @@ impl Stack {
     ) -> Result<Option<&'a Inode>, AllocError>
         requires { from ≤ length self.now.layers }
         ensures { IfOk result (λ found. option_map (λ inode. inode.now) found
-            ≡ data_below self.now.data_only (option_map (λ told. told.now) place_told.entry) (things_found (drop from self.now.layers) path.entry)) }
+            ≡ data_below self.now.data_only (option_map (λ told. told.now) place_told.entry)
+            (things_found (drop from self.now.layers) path.entry)) }
     {
         let mut next = path;
         let mut origin = place_told;
@@ -256,10 +263,12 @@ impl Stack {
         Ok(self.data_at(origin))
     }
 
-    /// Where data-only layers have the data of what is found at a path, if that is metacopy files alone: where the last of
-    /// them says. Fails only when out of memory. overlayfs.rst: "Data-only lower layers".
+    /// Where data-only layers have the data of what is found at a path, if that is metacopy files
+    /// alone: where the last of them says. Fails only when out of memory. overlayfs.rst: "Data-only
+    /// lower layers".
     pub fn data_place(&self, alloc: Global, path: &Path) -> Result<Option<Path>, AllocError>
-        ensures { IfOk result (λ place. place ≡ the_place_told (things_found self.now.layers path.now)) }
+        ensures { IfOk result
+            (λ place. place ≡ the_place_told (things_found self.now.layers path.now)) }
     {
         let mut next = Trail::of(alloc, &path.names())?;
         let mut told = None;
@@ -285,7 +294,8 @@ impl Stack {
 
     // The first full file that data-only layers have where the last metacopy file says so.
     fn data_at(&self, origin: Option<&Path>) -> Option<&Inode>
-        ensures { option_map (λ inode. inode.now) result ≡ data_at_place self.now.data_only (option_map (λ path. path.now) origin.entry) }
+        ensures { option_map (λ inode. inode.now) result
+            ≡ data_at_place self.now.data_only (option_map (λ path. path.now) origin.entry) }
     {
         match origin {
             Some(path) => self.full_file(path),
@@ -293,8 +303,8 @@ impl Stack {
         }
     }
 
-    /// The first full file that the data-only layers have at a path: a regular file with its contents itself, and no
-    /// whiteout. Takes no memory. overlayfs.rst: "Data-only lower layers".
+    /// The first full file that the data-only layers have at a path: a regular file with its
+    /// contents itself, and no whiteout. Takes no memory. overlayfs.rst: "Data-only lower layers".
     pub fn full_file(&self, path: &Path) -> Option<&Inode>
         ensures { option_map (λ inode. inode.now) result ≡ the_file self.now.data_only path.now }
     {
@@ -333,7 +343,7 @@ fn is_full(inode: &Inode) -> bool
     is_data(inode) && !is_whiteout(inode)
 }
 
-// Where data-only layers have the data of a metacopy file of this mark.
+/// Where data-only layers have the data of a metacopy file of this mark.
 pub(crate) fn place_of_data(mark: &Mark) -> Option<&Path>
     ensures { option_map (λ path. path.now) result ≡ the_place mark.now }
 {
@@ -343,13 +353,14 @@ pub(crate) fn place_of_data(mark: &Mark) -> Option<&Path>
     }
 }
 
-// What is shown of a metacopy file, by its data.
+/// What is shown of a metacopy file, by its data.
 pub(crate) fn metacopy_shown(
     alloc: Global,
     inode: &Inode,
     contents: Option<&Inode>,
 ) -> Result<Look, AllocError>
-    ensures { IfOk result (λ look. look ≡ shown_with inode.now (option_map (λ found. found.now) contents.entry)) }
+    ensures { IfOk result
+        (λ look. look ≡ shown_with inode.now (option_map (λ found. found.now) contents.entry)) }
 {
     let shown = visible(alloc, inode)?;
     Ok(match contents {
@@ -366,7 +377,7 @@ fn with_kind(inode: Inode, kind: Kind) -> Inode
     inode
 }
 
-// Whether the inode is a regular file with `metacopy`.
+/// Whether the inode is a regular file with `metacopy`.
 pub(crate) fn lacks_contents(inode: &Inode) -> bool
     ensures { result ≡ (is_regular inode.now && has_metacopy inode.now) }
 {

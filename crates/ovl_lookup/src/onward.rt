@@ -3,8 +3,8 @@ ghost use Rattle.ovl_lookup.specs.Onwards.{IsOnward};
 use ovl_inode::{Mark, Redirect};
 use ovl_names::{Name, Path};
 
-/// Where the walk of a path goes on in the layer below one that has an entry. overlayfs.rst: "whiteouts and opaque
-/// directories", "renaming directories", "Metadata only copy up".
+/// Where the walk of a path goes on in the layer below one that has an entry. overlayfs.rst:
+/// "whiteouts and opaque directories", "renaming directories", "Metadata only copy up".
 #[derive(Drop)]
 pub enum Onward<'a> {
     /// By this name, in the directory as which that layer knows the one above.

@@ -19,7 +19,7 @@ pub enum Sight {
 }
 
 impl Sight {
-    // That of an inode that is shown.
+    /// That of an inode that is shown.
     pub(crate) fn of(inode: &Inode) -> Sight
         ensures { result ≡ sight_of_kind inode.now.kind }
     {

@@ -42,7 +42,8 @@ impl From<AllocError> for StackFault {
     }
 }
 
-/// A stack of 1 to [`LAYER_LIMIT`] layers, the topmost first; the data-only ones come last, and there is another.
+/// A stack of 1 to [`LAYER_LIMIT`] layers, the topmost first; the data-only ones come last, and
+/// there is another.
 #[derive(Drop)]
 pub struct Stack {
     pub(crate) layers: Vec<Sheet>,
@@ -59,16 +60,19 @@ impl Model for Stack {
 
     ghost view = { λ a. record { layers = a.layers.items; data_only = a.data_only.items } };
 
-    ghost invariant = { λ a. (0 < length a.layers.items) × (length a.layers.items + length a.data_only.items ≤ layer_limit) × All IsLayer a.layers.items × All IsLayer a.data_only.items };
+    ghost invariant = { λ a. (0 < length a.layers.items)
+        × (length a.layers.items + length a.data_only.items ≤ layer_limit)
+        × All IsLayer a.layers.items × All IsLayer a.data_only.items };
 }
 
 impl Stack {
-    /// The stack of these layers, the topmost first; refused exactly where they are none or more than [`LAYER_LIMIT`].
-    /// When out of memory, the layers are dropped.
+    /// The stack of these layers, the topmost first; refused exactly where they are none or more
+    /// than [`LAYER_LIMIT`]. When out of memory, the layers are dropped.
     pub fn of(alloc: Global, layers: Vec<Layer>) -> Result<Stack, StackFault>
         ensures value { IfOk result (λ stack. stack.layers ≡ layers.items) }
         ensures bare { IfOk result (λ stack. stack.data_only ≡ []) }
-        ensures refused { (result ≡ Err Layers) ↔ ((length layers.items ≡ 0) ⊎ (layer_limit < length layers.items)) }
+        ensures refused { (result ≡ Err Layers)
+            ↔ ((length layers.items ≡ 0) ⊎ (layer_limit < length layers.items)) }
         ensures left { result ≢ Err DataCount }
     {
         if is_outside(layers.len()) {
@@ -78,14 +82,16 @@ impl Stack {
         Stack::of_sheets(sheets, Vec::new(alloc))
     }
 
-    /// The stack of these layers, the topmost first, of which the last `bottom` are data-only; refused exactly where they
-    /// are none or more than [`LAYER_LIMIT`], and where no other is left. When out of memory, the layers are dropped.
-    /// overlayfs.rst: "Data-only lower layers".
+    /// The stack of these layers, the topmost first, of which the last `bottom` are data-only;
+    /// refused exactly where they are none or more than [`LAYER_LIMIT`], and where no other is
+    /// left. When out of memory, the layers are dropped. overlayfs.rst: "Data-only lower layers".
     pub fn with_data(alloc: Global, layers: Vec<Layer>, bottom: u16) -> Result<Stack, StackFault>
         ensures value { IfOk result (λ stack. stack ≡ stack_with layers.items bottom) }
-        ensures refused { (result ≡ Err Layers) ↔ ((length layers.items ≡ 0) ⊎ (layer_limit < length layers.items)) }
+        ensures refused { (result ≡ Err Layers)
+            ↔ ((length layers.items ≡ 0) ⊎ (layer_limit < length layers.items)) }
         ensures none_left { (result ≡ Err DataCount)
-            ↔ ((0 < length layers.items) × (length layers.items ≤ layer_limit) × (length layers.items ≤ bottom)) }
+            ↔ ((0 < length layers.items) × (length layers.items ≤ layer_limit)
+            × (length layers.items ≤ bottom)) }
     {
         if is_outside(layers.len()) {
             return Err(StackFault::Layers);
@@ -99,12 +105,15 @@ impl Stack {
         Stack::of_sheets(sheets, data_only)
     }
 
-    /// The stack of layers that are sheets already, the topmost first, over data-only ones; refused exactly where there is
-    /// none but those or they are more than [`LAYER_LIMIT`] together. Takes no memory.
+    /// The stack of layers that are sheets already, the topmost first, over data-only ones; refused
+    /// exactly where there is none but those or they are more than [`LAYER_LIMIT`] together. Takes
+    /// no memory.
     pub fn of_sheets(layers: Vec<Sheet>, data_only: Vec<Sheet>) -> Result<Stack, StackFault>
         ensures { MatchResult result
             (λ stack. (stack.layers ≡ layers.items) × (stack.data_only ≡ data_only.items))
-            (λ fault. (fault ≡ Layers) × ((length layers.items ≡ 0) ⊎ (layer_limit < length layers.items + length data_only.items))) }
+            (λ fault. (fault ≡ Layers)
+            × ((length layers.items ≡ 0)
+            ⊎ (layer_limit < length layers.items + length data_only.items))) }
     {
         if is_outside(layers.len()) {
             return Err(StackFault::Layers);
@@ -174,26 +183,30 @@ impl Stack {
         }
     }
 
-    /// The inode that layer `i` has at a path, and `None` where it has no entry; `i` is below the number of layers.
+    /// The inode that layer `i` has at a path, and `None` where it has no entry; `i` is below the
+    /// number of layers.
     pub fn own_at(&self, i: usize, path: &Path) -> Option<&Inode>
         requires { i < length (all_layers self.now) }
-        ensures { IfSome (slice_get (all_layers self.now) i) (λ layer. option_map (λ inode. inode.now) result ≡ entry_at layer path.now) }
+        ensures { IfSome (slice_get (all_layers self.now) i)
+            (λ layer. option_map (λ inode. inode.now) result ≡ entry_at layer path.now) }
     {
         self.any_sheet(i).at(path)
     }
 
-    /// The names directly below a path in layer `i`, in order; none where it has no directory. `i` is below the number
-    /// of layers. Fails only when out of memory.
+    /// The names directly below a path in layer `i`, in order; none where it has no directory. `i`
+    /// is below the number of layers. Fails only when out of memory.
     pub fn own_names(&self, alloc: Global, i: usize, path: &Path) -> Result<Vec<Name>, AllocError>
         requires { i < length (all_layers self.now) }
-        ensures all { IfSome (slice_get (all_layers self.now) i) (λ layer. IfOk result (λ names. names.items ≡ names_below layer path.now)) }
-        ensures ordinary { IfSome (slice_get self.now.layers i) (λ layer. IfOk result (λ names. names.items ≡ names_below layer path.now)) }
+        ensures all { IfSome (slice_get (all_layers self.now) i)
+            (λ layer. IfOk result (λ names. names.items ≡ names_below layer path.now)) }
+        ensures ordinary { IfSome (slice_get self.now.layers i)
+            (λ layer. IfOk result (λ names. names.items ≡ names_below layer path.now)) }
     {
         self.any_sheet(i).children(alloc, path)
     }
 
-    /// The walk of a trail in layer `i`, see [`OwnStep::at`]; `i` is below the number of layers. Fails only when out of
-    /// memory.
+    /// The walk of a trail in layer `i`, see [`OwnStep::at`]; `i` is below the number of layers.
+    /// Fails only when out of memory.
     pub fn own_step<'a>(
         &'a self,
         alloc: Global,
@@ -201,15 +214,16 @@ impl Stack {
         trail: &Trail<'a>,
     ) -> Result<OwnStep<'a>, AllocError>
         requires { i < length (all_layers self.now) }
-        ensures value { IfSome (slice_get (all_layers self.now) i) (λ layer. IfOk result (λ step. own_step_of trail.now step ≡ the_walk layer trail.now)) }
+        ensures value { IfSome (slice_get (all_layers self.now) i)
+            (λ layer. IfOk result (λ step. own_step_of trail.now step ≡ the_walk layer trail.now)) }
         ensures marked { IfOk result IsOwnMarked }
     {
         OwnStep::at(alloc, self.any_sheet(i), trail)
     }
 
-    /// The directory that layer `i` has at a path, with how its walk goes on, and `None` where it has none; `i` is below
-    /// the number of layers. No name is copied. Fails only when out of memory. overlayfs.rst: "renaming directories",
-    /// "whiteouts and opaque directories".
+    /// The directory that layer `i` has at a path, with how its walk goes on, and `None` where it
+    /// has none; `i` is below the number of layers. No name is copied. Fails only when out of
+    /// memory. overlayfs.rst: "renaming directories", "whiteouts and opaque directories".
     pub fn own_directory<'a>(
         &'a self,
         alloc: Global,
@@ -217,7 +231,8 @@ impl Stack {
         path: &Path,
     ) -> Result<Option<OwnDirectory<'a>>, AllocError>
         requires { i < length (all_layers self.now) }
-        ensures { IfSome (slice_get (all_layers self.now) i) (λ layer. IfOk result (λ found. MatchOption found
+        ensures { IfSome (slice_get (all_layers self.now) i)
+            (λ layer. IfOk result (λ found. MatchOption found
             (is_directory_at layer path.now ≡ false)
             (IsOwnDirectory layer path.now))) }
     {

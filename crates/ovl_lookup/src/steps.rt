@@ -25,10 +25,10 @@ pub struct Step {
     pub closed: bool,
 }
 
-/// The walk of a path in one layer: what is found there, the path that goes on in the layer below, and whether it is
-/// closed. A path may have any number of names. Fails only when out of memory.
-/// overlayfs.rst: "whiteouts and opaque directories", "renaming directories", "Metadata only copy up", "Data-only lower
-/// layers"; a redirect of one name, beside the old one, is this profile's.
+/// The walk of a path in one layer: what is found there, the path that goes on in the layer below,
+/// and whether it is closed. A path may have any number of names. Fails only when out of memory.
+/// overlayfs.rst: "whiteouts and opaque directories", "renaming directories", "Metadata only copy
+/// up", "Data-only lower layers"; a redirect of one name, beside the old one, is this profile's.
 pub fn walk(alloc: Global, sheet: &Sheet, path: &Path) -> Result<Step, AllocError>
     ensures { IfOk result (λ step. step ≡ the_walk sheet.now path.now) }
 {
@@ -93,7 +93,8 @@ impl<'a> TrailStep<'a> {
     }
 }
 
-/// The walk of a trail in one layer, see [`walk`], with nothing copied. Fails only when out of memory.
+/// The walk of a trail in one layer, see [`walk`], with nothing copied. Fails only when out of
+/// memory.
 pub fn follow<'a>(
     alloc: Global,
     sheet: &'a Sheet,
@@ -128,7 +129,8 @@ pub struct OwnStep<'a> {
 impl<'a> OwnStep<'a> {
     /// The walk of a trail in one layer, see [`walk`]. Fails only when out of memory.
     pub fn at(alloc: Global, sheet: &'a Sheet, trail: &Trail<'a>) -> Result<OwnStep<'a>, AllocError>
-        ensures value { IfOk result (λ step. own_step_of trail.now step ≡ the_walk sheet.now trail.now) }
+        ensures value { IfOk result
+            (λ step. own_step_of trail.now step ≡ the_walk sheet.now trail.now) }
         ensures marked { IfOk result IsOwnMarked }
     {
         let Descent { own, depth, number } = descend(alloc, sheet, trail)?;
@@ -180,14 +182,16 @@ impl<'a> OwnStep<'a> {
     }
 }
 
-// The path that goes on past so many names of the trail, which lead to a directory that is known by another path, if
-// marks turn it.
+// The path that goes on past so many names of the trail, which lead to a directory that is known by
+// another path, if marks turn it.
 fn past<'a>(
     turned: Option<Trail<'a>>,
     trail: &Trail<'a>,
     depth: usize,
 ) -> Result<Option<Trail<'a>>, AllocError>
-    ensures { IfOk result (λ next. unwrap_or next trail.now ≡ unwrap_or turned.entry (take depth trail.now) ++ drop depth trail.now) }
+    ensures { IfOk result
+        (λ next. unwrap_or next trail.now
+        ≡ unwrap_or turned.entry (take depth trail.now) ++ drop depth trail.now) }
 {
     match turned {
         Some(next) => Ok(Some(trail.onward(next, depth)?)),
@@ -207,8 +211,8 @@ pub struct OwnDirectory<'a> {
 }
 
 impl<'a> OwnDirectory<'a> {
-    // What stands at a name in this directory, which lies so deep, by the number of its row: a directory or something
-    // else.
+    // What stands at a name in this directory, which lies so deep, by the number of its row: a
+    // directory or something else.
     fn enter(
         self,
         alloc: Global,
@@ -219,8 +223,11 @@ impl<'a> OwnDirectory<'a> {
         requires inside { self.row < length sheet.now }
         requires number { number < length sheet.now }
         requires depth { depth ≡ length (path_at sheet.now self.row) }
-        ensures { IfOk result (λ entered. (path : PathNames) (name : PathName) → IsOwnDirectory sheet.now path self.entry
-            → path_at sheet.now number ≡ child_path path name → IsOwnEntry sheet.now (child_path path name) entered) }
+        ensures { IfOk result
+            (λ entered. (path : PathNames) (name : PathName)
+            → IsOwnDirectory sheet.now path self.entry
+            → path_at sheet.now number ≡ child_path path name
+            → IsOwnEntry sheet.now (child_path path name) entered) }
     {
         // Each sheet is a layer.
         let _root = sheet.root_number();
@@ -247,9 +254,12 @@ impl<'a> OwnDirectory<'a> {
     ) -> Result<(Option<Trail<'a>>, bool), AllocError>
         requires inside { self.row < length sheet.now }
         requires depth { depth ≡ length (path_at sheet.now self.row) }
-        ensures next { IfOk result (λ entered. unwrap_or entered.0 (child_path (path_at sheet.now self.entry.row) name.now)
-            ≡ next_on mark.now (unwrap_or self.entry.turned (path_at sheet.now self.entry.row)) name.now) }
-        ensures closed { IfOk result (λ entered. entered.1 ≡ closed_on mark.now name.now self.entry.closed) }
+        ensures next { IfOk result
+            (λ entered. unwrap_or entered.0 (child_path (path_at sheet.now self.entry.row) name.now)
+            ≡ next_on mark.now
+            (unwrap_or self.entry.turned (path_at sheet.now self.entry.row)) name.now) }
+        ensures closed { IfOk result
+            (λ entered. entered.1 ≡ closed_on mark.now name.now self.entry.closed) }
     {
         let OwnDirectory {
             row,
@@ -277,7 +287,10 @@ fn turned_child<'a>(
     turned: Option<Trail<'a>>,
     name: &'a Name,
 ) -> Result<Option<Trail<'a>>, AllocError>
-    ensures { (dir : PathNames) → IfOk result (λ child. unwrap_or child (child_path dir name.now) ≡ child_path (unwrap_or turned.entry dir) name.now) }
+    ensures { (dir : PathNames)
+        → IfOk result
+        (λ child. unwrap_or child (child_path dir name.now)
+        ≡ child_path (unwrap_or turned.entry dir) name.now) }
 {
     match turned {
         Some(next) => Ok(Some(next.child(name.as_str())?)),
@@ -327,8 +340,8 @@ fn trail_of_row<'a>(
     trail_of_row(alloc, sheet, *parent, depth - 1)?.child(name.as_str())
 }
 
-// How far a path goes through directories of a layer: the last of them, how many names lead to it, and the number of what
-// the layer has at the next name, if it has anything.
+/// How far a path goes through directories of a layer: the last of them, how many names lead to it,
+/// and the number of what the layer has at the next name, if it has anything.
 #[derive(Drop)]
 pub(crate) struct Descent<'a> {
     pub(crate) own: OwnDirectory<'a>,
@@ -336,7 +349,7 @@ pub(crate) struct Descent<'a> {
     pub(crate) number: Option<u32>,
 }
 
-// How far a path goes through directories. No name is kept while no mark turns the path.
+/// How far a path goes through directories. No name is kept while no mark turns the path.
 pub(crate) fn descend<'a>(
     alloc: Global,
     sheet: &'a Sheet,
@@ -392,7 +405,7 @@ pub(crate) fn descend<'a>(
     })
 }
 
-// The directory that a layer has at a path.
+/// The directory that a layer has at a path.
 pub(crate) fn directory_in<'a>(
     alloc: Global,
     sheet: &'a Sheet,

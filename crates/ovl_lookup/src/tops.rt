@@ -10,7 +10,8 @@ use ovl_names::Name;
 use std::alloc::{AllocError, Global};
 use std::cmp::Ordering;
 
-// A name in the directories of a view, with its inode in the first place that has it, and the number of that place.
+/// A name in the directories of a view, with its inode in the first place that has it, and the
+/// number of that place.
 #[derive(Clone, Copy)]
 pub(crate) struct Top<'a> {
     pub(crate) name: &'a Name,
@@ -18,7 +19,8 @@ pub(crate) struct Top<'a> {
     pub(crate) place: usize,
 }
 
-// The names in the directories of these places, in order, each once; `first` is the number of the first place.
+/// The names in the directories of these places, in order, each once; `first` is the number of the
+/// first place.
 pub(crate) fn tops_of<'a>(
     alloc: Global,
     stack: &'a Stack,
@@ -27,7 +29,9 @@ pub(crate) fn tops_of<'a>(
 ) -> Result<Vec<Top<'a>>, AllocError>
     requires over { All (IsPlaceOver stack.now) places.now }
     requires numbers { first + length places.now < 2 ^ 64 }
-    ensures { IfOk result (λ tops. AreTops stack.now.layers first (places_in stack.now places.now) (tops_told tops.items)) }
+    ensures { IfOk result
+        (λ tops. AreTops stack.now.layers first (places_in stack.now places.now)
+        (tops_told tops.items)) }
 {
     let _ = &stack.layers;
     match places {
@@ -50,7 +54,9 @@ fn tops_in<'a>(
     number: usize,
 ) -> Result<Vec<Top<'a>>, AllocError>
     requires { IsPlaceOver stack.now place.now }
-    ensures { IfOk result (λ tops. AreTops stack.now.layers number (place_in stack.now place.now ∷ []) (tops_told tops.items)) }
+    ensures { IfOk result
+        (λ tops. AreTops stack.now.layers number (place_in stack.now place.now ∷ [])
+        (tops_told tops.items)) }
 {
     let _ = &stack.layers;
     let sheet = stack.sheet(place.layer);
@@ -68,7 +74,8 @@ fn tops_in<'a>(
     Ok(tops)
 }
 
-// Both lists as one, in the order of names, in which each of them is; of a name that both have, the upper's stays.
+// Both lists as one, in the order of names, in which each of them is; of a name that both have, the
+// upper's stays.
 fn merged<'a>(
     alloc: Global,
     upper: &[Top<'a>],
@@ -76,7 +83,8 @@ fn merged<'a>(
 ) -> Result<Vec<Top<'a>>, AllocError>
     requires upper { AreInOrder (tops_told upper.now) }
     requires lower { AreInOrder (tops_told lower.now) }
-    ensures { IfOk result (λ tops. AreMerged (tops_told upper.now) (tops_told lower.now) (tops_told tops.items)) }
+    ensures { IfOk result
+        (λ tops. AreMerged (tops_told upper.now) (tops_told lower.now) (tops_told tops.items)) }
 {
     let mut tops = Vec::with_capacity(alloc, upper.len().saturating_add(lower.len()))?;
     let (mut i, mut j) = (0, 0);

@@ -5,7 +5,8 @@ ghost use Rattle.ovl_lookup.specs.Trails.{names_of_parts};
 use ovl_names::Names;
 use std::slice;
 
-// The names of a trail that are left of it from its end: those of whole parts, and behind them of one that has begun.
+/// The names of a trail that are left of it from its end: those of whole parts, and behind them of
+/// one that has begun.
 #[derive(Drop)]
 pub(crate) struct TrailEnd<'t, 'a> {
     parts: slice::Iter<'t, Names<'a>>,
@@ -13,9 +14,10 @@ pub(crate) struct TrailEnd<'t, 'a> {
 }
 
 impl<'t, 'a> TrailEnd<'t, 'a> {
-    // All names of these parts, and of a last one; where what has begun has none, there are none.
+    /// All names of these parts, and of a last one; where what has begun has none, there are none.
     pub(crate) fn of(parts: &'t [Names<'a>], last: Names<'a>) -> TrailEnd<'t, 'a>
-        ensures names { names_of_parts (iter_rest result.parts) ++ result.last ≡ names_of_parts parts.now ++ last.entry }
+        ensures names { names_of_parts (iter_rest result.parts) ++ result.last
+            ≡ names_of_parts parts.now ++ last.entry }
         ensures all { result.last ≡ [] → names_of_parts (iter_rest result.parts) ≡ [] }
     {
         let mut end = TrailEnd {
@@ -26,9 +28,10 @@ impl<'t, 'a> TrailEnd<'t, 'a> {
         end
     }
 
-    // Where the last part has no names left, goes on to one that has some, if there is one.
+    /// Where the last part has no names left, goes on to one that has some, if there is one.
     pub(crate) fn refill(&mut self)
-        ensures names { names_of_parts (iter_rest self.new.parts) ++ self.new.last ≡ names_of_parts (iter_rest self.old.parts) ++ self.old.last }
+        ensures names { names_of_parts (iter_rest self.new.parts) ++ self.new.last
+            ≡ names_of_parts (iter_rest self.old.parts) ++ self.old.last }
         ensures all { self.new.last ≡ [] → names_of_parts (iter_rest self.new.parts) ≡ [] }
     {
         while self.last.is_empty() {

@@ -6,7 +6,7 @@ use ovl_names::Names;
 use std::marker::Model;
 use std::slice;
 
-// The names of a trail that are left: those of a part that has begun, and of whole parts.
+/// The names of a trail that are left: those of a part that has begun, and of whole parts.
 #[derive(Drop)]
 pub(crate) struct TrailNames<'t, 'a> {
     first: Names<'a>,
@@ -25,7 +25,7 @@ impl<'t, 'a> Model for TrailNames<'t, 'a> {
 }
 
 impl<'t, 'a> TrailNames<'t, 'a> {
-    // All names of these parts.
+    /// All names of these parts.
     pub(crate) fn of(parts: &'t [Names<'a>]) -> TrailNames<'t, 'a>
         ensures { result ≡ names_of_parts parts.now }
     {

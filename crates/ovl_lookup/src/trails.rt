@@ -29,7 +29,8 @@ impl<'a> Model for Trail<'a> {
 
     ghost view = { λ a. names_of_parts a.parts.items };
 
-    ghost invariant = { λ a. (a.len ≡ length (names_of_parts a.parts.items)) × (has_names (names_of_parts a.parts.items) ≡ true) };
+    ghost invariant = { λ a. (a.len ≡ length (names_of_parts a.parts.items))
+        × (has_names (names_of_parts a.parts.items) ≡ true) };
 }
 
 // The bytes that a part takes.
@@ -53,7 +54,7 @@ impl<'a> Trail<'a> {
         Trail::root(alloc).with(names)
     }
 
-    // The trail that goes down these names from this one.
+    /// The trail that goes down these names from this one.
     pub(crate) fn with(self, names: &Names<'a>) -> Result<Trail<'a>, AllocError>
         ensures { IfOk result (λ trail. trail ≡ self.entry ++ names.now) }
     {
@@ -67,7 +68,7 @@ impl<'a> Trail<'a> {
         Ok(Trail { parts, len })
     }
 
-    // The trail of the entry `name` in this directory.
+    /// The trail of the entry `name` in this directory.
     pub(crate) fn child(self, name: &'a str) -> Result<Trail<'a>, AllocError>
         requires { IsTrue (is_name name.now) }
         ensures { IfOk result (λ trail. trail ≡ child_path self.entry name.now) }
@@ -82,14 +83,14 @@ impl<'a> Trail<'a> {
         self.len == 0
     }
 
-    // The number of names.
+    /// The number of names.
     pub(crate) fn len(&self) -> usize
         ensures { result ≡ length self.now }
     {
         self.len
     }
 
-    // The names from the root down.
+    /// The names from the root down.
     pub(crate) fn names(&self) -> TrailNames<'_, 'a>
         ensures value { result ≡ self.now }
         ensures names { IsTrue (has_names self.now) }
@@ -100,7 +101,7 @@ impl<'a> Trail<'a> {
         TrailNames::of(&self.parts)
     }
 
-    // The trail that goes on at `next` in place of so many names.
+    /// The trail that goes on at `next` in place of so many names.
     pub(crate) fn onward(&self, next: Trail<'a>, walked: usize) -> Result<Trail<'a>, AllocError>
         ensures { IfOk result (λ trail. trail ≡ next.entry ++ drop walked self.now) }
     {
@@ -136,7 +137,8 @@ impl<'a> Trail<'a> {
         Ok(path)
     }
 
-    /// The path in a text of its own, if that takes no more bytes than the parts; fails only when out of memory.
+    /// The path in a text of its own, if that takes no more bytes than the parts; fails only when
+    /// out of memory.
     pub fn short_path(&self, alloc: Global) -> Result<Option<Path>, AllocError>
         ensures { IfOk result (λ short. IfSome short (λ path. path ≡ self.now)) }
     {
@@ -165,7 +167,8 @@ impl<'a> Trail<'a> {
         self.compare_with(&Names::none(), other, &Names::none())
     }
 
-    /// How this trail with these names below it is to another with others below that, name by name from the last one on.
+    /// How this trail with these names below it is to another with others below that, name by name
+    /// from the last one on.
     pub fn compare_with(
         &self,
         below: &Names<'_>,

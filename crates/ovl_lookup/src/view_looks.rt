@@ -21,18 +21,21 @@ use ovl_names::{Name, Path};
 use std::alloc::{AllocError, Global};
 
 impl<'a> DirView<'a> {
-    /// What is shown at a name in this directory. The name is sought in the directory of each layer; a layer is walked
-    /// from its root only below an absolute redirect. Fails only when out of memory.
+    /// What is shown at a name in this directory. The name is sought in the directory of each
+    /// layer; a layer is walked from its root only below an absolute redirect. Fails only when out
+    /// of memory.
     pub fn look(&self, alloc: Global, stack: &Stack, name: &Name) -> Result<Look, AllocError>
         requires { IsViewOver stack.now self.now }
-        ensures { IfOk result (λ look. look ≡ the_look (from_layer self.now.from stack.now) (child_path self.now.path name.now)) }
+        ensures { IfOk result
+            (λ look. look
+            ≡ the_look (from_layer self.now.from stack.now) (child_path self.now.path name.now)) }
     {
         let _ = &stack.layers;
         look_in(alloc, stack, &self.places, name)
     }
 
-    /// What the stack shows at a name in a directory, by the view of that, which is made with the first name that is
-    /// asked for and kept for the others. Fails only when out of memory.
+    /// What the stack shows at a name in a directory, by the view of that, which is made with the
+    /// first name that is asked for and kept for the others. Fails only when out of memory.
     pub fn look_kept(
         alloc: Global,
         stack: &'a Stack,
@@ -41,7 +44,8 @@ impl<'a> DirView<'a> {
         name: &Name,
     ) -> Result<Look, AllocError>
         requires { IfSome view.old (IsViewOf stack.now 0 dir.now) }
-        ensures look { IfOk result (λ look. look ≡ the_look stack.now (child_path dir.now name.now)) }
+        ensures look { IfOk result
+            (λ look. look ≡ the_look stack.now (child_path dir.now name.now)) }
         ensures view { IfSome view.new (IsViewOf stack.now 0 dir.now) }
         ensures kept { OnErr result (view.new ≡ view.old) }
     {
@@ -61,7 +65,9 @@ impl<'a> DirView<'a> {
     /// Of what kind that is, with nothing copied; takes no memory.
     pub fn sight(&self, stack: &Stack, name: &Name) -> Sight
         requires { IsViewOver stack.now self.now }
-        ensures { result ≡ sight_of (the_look (from_layer self.now.from stack.now) (child_path self.now.path name.now)) }
+        ensures { result
+            ≡ sight_of
+            (the_look (from_layer self.now.from stack.now) (child_path self.now.path name.now)) }
     {
         let _ = &stack.layers;
         sight_in(stack, &self.places, name)
@@ -70,14 +76,15 @@ impl<'a> DirView<'a> {
     /// Whether something is shown at a name in this directory; takes no memory.
     pub fn shows(&self, stack: &Stack, name: &Name) -> bool
         requires { IsViewOver stack.now self.now }
-        ensures { result ≡ shows_there (from_layer self.now.from stack.now) (child_path self.now.path name.now) }
+        ensures { result
+            ≡ shows_there (from_layer self.now.from stack.now) (child_path self.now.path name.now) }
     {
         !self.sight(stack, name).is_nothing()
     }
 
-    /// The data that there is at a name in this directory below a metacopy file that doesn't say itself where data-only
-    /// layers have it. Fails only when out of memory.
-    /// overlayfs.rst: "Metadata only copy up".
+    /// The data that there is at a name in this directory below a metacopy file that doesn't say
+    /// itself where data-only layers have it. Fails only when out of memory. overlayfs.rst:
+    /// "Metadata only copy up".
     pub fn data<'s>(
         &self,
         alloc: Global,
@@ -86,17 +93,20 @@ impl<'a> DirView<'a> {
     ) -> Result<Option<&'s Inode>, AllocError>
         requires { IsViewOver stack.now self.now }
         ensures { IfOk result (λ found. option_map (λ inode. inode.now) found
-            ≡ data_below stack.now.data_only None (things_found (drop self.now.from stack.now.layers) (child_path self.now.path name.now))) }
+            ≡ data_below stack.now.data_only None
+            (things_found (drop self.now.from stack.now.layers)
+            (child_path self.now.path name.now))) }
     {
         let _ = &stack.layers;
         data_in(alloc, stack, &self.places, name)
     }
 
-    /// The names in this directory at which something is shown, in order, each with what is shown there, in one pass
-    /// over the directories of all layers. Fails only when out of memory.
+    /// The names in this directory at which something is shown, in order, each with what is shown
+    /// there, in one pass over the directories of all layers. Fails only when out of memory.
     pub fn looks(&self, alloc: Global, stack: &Stack) -> Result<Vec<(Name, Look)>, AllocError>
         requires { IsViewOver stack.now self.now }
-        ensures { IfOk result (λ looks. AreLooks (from_layer self.now.from stack.now) self.now.path looks.items) }
+        ensures { IfOk result
+            (λ looks. AreLooks (from_layer self.now.from stack.now) self.now.path looks.items) }
     {
         let _ = &stack.layers;
         let tops = tops_of(alloc, stack, &self.places, 0)?;
@@ -109,10 +119,12 @@ impl<'a> DirView<'a> {
         Ok(looks)
     }
 
-    /// The names in this directory at which something is shown, in order. Fails only when out of memory.
+    /// The names in this directory at which something is shown, in order. Fails only when out of
+    /// memory.
     pub fn names(&self, alloc: Global, stack: &Stack) -> Result<Vec<Name>, AllocError>
         requires { IsViewOver stack.now self.now }
-        ensures { IfOk result (λ names. AreKids (from_layer self.now.from stack.now) self.now.path names.items) }
+        ensures { IfOk result
+            (λ names. AreKids (from_layer self.now.from stack.now) self.now.path names.items) }
     {
         let _ = &stack.layers;
         let tops = tops_of(alloc, stack, &self.places, 0)?;
@@ -134,10 +146,14 @@ impl<'a> DirView<'a> {
     }
 }
 
-// Of what kind it is that is shown at a name, by these places: by the first entry, unless that is a whiteout.
+// Of what kind it is that is shown at a name, by these places: by the first entry, unless that is a
+// whiteout.
 fn sight_in(stack: &Stack, places: &[DirPlace], name: &Name) -> Sight
     requires { All (IsPlaceOver stack.now) places.now }
-    ensures { result ≡ sight_of (shown_of stack.now.data_only (found_below stack.now.layers name.now (places_in stack.now places.now))) }
+    ensures { result
+        ≡ sight_of
+        (shown_of stack.now.data_only
+        (found_below stack.now.layers name.now (places_in stack.now places.now))) }
 {
     for place in places {
         if let Some(entry) = place.entry(stack, name) {
@@ -178,7 +194,10 @@ fn look_at(
     requires over { All (IsPlaceOver stack.now) places.now }
     requires first { IsSomeAnd (slice_get (places_in stack.now places.now) 0)
         (λ place. entry_in stack.now.layers name.now place ≡ Some inode.now) }
-    ensures { IfOk result (λ look. look ≡ shown_of stack.now.data_only (found_below stack.now.layers name.now (places_in stack.now places.now))) }
+    ensures { IfOk result
+        (λ look. look
+        ≡ shown_of stack.now.data_only
+        (found_below stack.now.layers name.now (places_in stack.now places.now))) }
 {
     if is_whiteout(inode) {
         return Ok(Look::Nothing);
@@ -198,7 +217,10 @@ fn look_in(
     name: &Name,
 ) -> Result<Look, AllocError>
     requires { All (IsPlaceOver stack.now) places.now }
-    ensures { IfOk result (λ look. look ≡ shown_of stack.now.data_only (found_below stack.now.layers name.now (places_in stack.now places.now))) }
+    ensures { IfOk result
+        (λ look. look
+        ≡ shown_of stack.now.data_only
+        (found_below stack.now.layers name.now (places_in stack.now places.now))) }
 {
     for i in 0..places.len() {
         if let Some(entry) = places[i].entry(stack, name) {
@@ -217,7 +239,8 @@ fn data_in<'a>(
 ) -> Result<Option<&'a Inode>, AllocError>
     requires { All (IsPlaceOver stack.now) places.now }
     ensures { IfOk result (λ found. option_map (λ inode. inode.now) found
-        ≡ data_below stack.now.data_only None (found_below stack.now.layers name.now (places_in stack.now places.now))) }
+        ≡ data_below stack.now.data_only None
+        (found_below stack.now.layers name.now (places_in stack.now places.now))) }
 {
     let _ = &stack.layers;
     let mut own = name;

@@ -11,8 +11,9 @@ use ovl_inode::{Inode, Mark, is_directory};
 use ovl_names::{Name, Path};
 use std::alloc::{AllocError, Global};
 
-/// A directory of the merged tree of the layers from one on: where each of them has it that its walks come to. What it
-/// is asked is of the stack that it was made over. Of its path no name is copied.
+/// A directory of the merged tree of the layers from one on: where each of them has it that its
+/// walks come to. What it is asked is of the stack that it was made over. Of its path no name is
+/// copied.
 #[derive(Drop)]
 pub struct DirView<'a> {
     from: usize,
@@ -20,14 +21,14 @@ pub struct DirView<'a> {
     pub(crate) places: Vec<DirPlace>,
 }
 
-// A layer that has the directory, and the number of its row there.
+/// A layer that has the directory, and the number of its row there.
 #[derive(Drop)]
 pub(crate) struct DirPlace {
     pub(crate) layer: usize,
     pub(crate) row: u32,
 }
 
-// What stands at a name in a place.
+/// What stands at a name in a place.
 #[derive(Drop)]
 pub(crate) struct PlaceEntry<'a> {
     pub(crate) row: u32,
@@ -36,7 +37,7 @@ pub(crate) struct PlaceEntry<'a> {
 }
 
 impl DirPlace {
-    // What stands at a name there, if something does.
+    /// What stands at a name there, if something does.
     pub(crate) fn entry<'a>(&self, stack: &'a Stack, name: &Name) -> Option<PlaceEntry<'a>>
         requires { IsPlaceOver stack.now self.now }
         ensures { MatchOption result
@@ -56,9 +57,9 @@ impl DirPlace {
 }
 
 impl<'a> DirView<'a> {
-    /// The view of a path of the merged tree of the layers with index `from` and up, and `None` where they show no
-    /// directory there; `from` is at most the number of layers that aren't data-only. Each of these is walked at most
-    /// once. Fails only when out of memory.
+    /// The view of a path of the merged tree of the layers with index `from` and up, and `None`
+    /// where they show no directory there; `from` is at most the number of layers that aren't
+    /// data-only. Each of these is walked at most once. Fails only when out of memory.
     pub fn of(
         alloc: Global,
         stack: &'a Stack,
@@ -102,8 +103,9 @@ impl<'a> DirView<'a> {
         &self.path
     }
 
-    /// The view of the directory `name` in this one, and `None` where no directory is shown there. It goes on from the
-    /// rows of this one; a layer is walked from its root only below an absolute redirect. Fails only when out of memory.
+    /// The view of the directory `name` in this one, and `None` where no directory is shown there.
+    /// It goes on from the rows of this one; a layer is walked from its root only below an absolute
+    /// redirect. Fails only when out of memory.
     pub fn child(
         &self,
         alloc: Global,
@@ -112,7 +114,8 @@ impl<'a> DirView<'a> {
     ) -> Result<Option<DirView<'a>>, AllocError>
         requires { IsViewOver stack.now self.now }
         ensures { IfOk result (λ found. MatchOption found
-            (shows_directory (from_layer self.now.from stack.now) (child_path self.now.path name.now) ≡ false)
+            (shows_directory (from_layer self.now.from stack.now)
+            (child_path self.now.path name.now) ≡ false)
             (λ view. IsViewOf stack.now self.now.from (child_path self.now.path name.now) view)) }
     {
         let _ = &stack.layers;
@@ -139,7 +142,9 @@ fn push_reached<'a>(
     places: &mut Vec<DirPlace>,
 ) -> Result<(), AllocError>
     requires { from ≤ length stack.now.layers }
-    ensures { OnOk result (AddsPlaces stack.now places.old.items places.new.items (reached (drop from stack.now.layers) from path.entry)) }
+    ensures { OnOk result
+        (AddsPlaces stack.now places.old.items places.new.items
+        (reached (drop from stack.now.layers) from path.entry)) }
 {
     let mut trail = path;
     for layer in from..stack.ordinary() {
@@ -164,7 +169,9 @@ fn push_below(
     below: &mut Vec<DirPlace>,
 ) -> Result<(), AllocError>
     requires { All (IsPlaceOver stack.now) places.now }
-    ensures { OnOk result (AddsPlaces stack.now below.old.items below.new.items (reached_below stack.now.layers name.now (places_in stack.now places.now))) }
+    ensures { OnOk result
+        (AddsPlaces stack.now below.old.items below.new.items
+        (reached_below stack.now.layers name.now (places_in stack.now places.now))) }
 {
     let _ = &stack.layers;
     let mut own = name;

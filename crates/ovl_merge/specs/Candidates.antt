@@ -1,4 +1,5 @@
--- The names of a visit: those in a directory that may have an entry, with the rows that the two layers have by them.
+-- The names of a visit: those in a directory that may have an entry, with the rows that the two
+-- layers have by them.
 use Rattle.std.specs.Prelude.{◌≡◌, ℕ, Option, None, Some, List, [], if◌then◌else◌, map, is_some, IfSome}
 use Rattle.std.specs.List.{All, filter_map}
 use Rattle.std.specs.Map.{lookup}
@@ -18,7 +19,8 @@ use Rattle.ovl_merge.specs.Reckoned.{onward_at, upper_onward}
 
 -- the names in a directory's base, where the two layers may hide what is shown there
 abbrev pub hidden_names : Merge → Directory → List PathName
-hidden_names m directory = if is_some (onward_at directory.lower) then [] else base_names m.rest (base m directory.path)
+hidden_names m directory =
+    if is_some (onward_at directory.lower) then [] else base_names m.rest (base m directory.path)
 
 -- ---- names with their rows
 
@@ -65,7 +67,8 @@ joined one other = (option_or one.0 other.0, option_or one.1 other.1)
 -- both as one
 pub record AreMerged (one other both : Rowed) : Type 0 where
   pub names : names_of both ≡ put_names (names_of one) (names_of other)
-  pub rows : (side : Side) (name : PathName) → row_at side name both ≡ option_or (row_at side name one) (row_at side name other)
+  pub rows : (side : Side) (name : PathName)
+      → row_at side name both ≡ option_or (row_at side name one) (row_at side name other)
 
 -- ---- those of a directory
 
@@ -74,25 +77,33 @@ other_side Upper = Lower
 other_side Lower = Upper
 
 -- the names that one layer has in a directory, each with its row
-pub record AreRowsOf (side : Side) (layer : Entries) (path : PathNames) (names : Rowed) : Type 0 where
+pub record AreRowsOf (side : Side) (layer : Entries) (path : PathNames)
+    (names : Rowed) : Type 0 where
   pub below : names_of names ≡ names_below layer path
   pub own : (name : PathName) → IsRowAt layer (child_path path name) (row_at side name names)
   pub other : (name : PathName) → row_at (other_side side) name names ≡ None
 
 -- the rows that the two layers have by a name in a directory
-pub record AreRowsBy (m : Merge) (directory : Directory) (name : PathName) (rows : Rows) : Type 0 where
+pub record AreRowsBy (m : Merge) (directory : Directory) (name : PathName)
+    (rows : Rows) : Type 0 where
   pub upper : IsRowAt m.upper (child_path directory.path name) rows.0
-  pub lower : IfSome (upper_onward m directory.path) (λ below. IsRowAt m.lower (child_path below name) rows.1)
+  pub lower : IfSome (upper_onward m directory.path)
+      (λ below. IsRowAt m.lower (child_path below name) rows.1)
 
 abbrev pub IsCandidate : Merge → Directory → Candidate → Type 0
-IsCandidate m directory candidate = AreRowsBy m directory candidate.name.now (candidate.upper, candidate.lower)
+IsCandidate m directory candidate =
+    AreRowsBy m directory candidate.name.now (candidate.upper, candidate.lower)
 
 -- these names, each with its rows
-pub record AreCandidates (m : Merge) (directory : Directory) (names : List PathName) (candidates : Rowed) : Type 0 where
+pub record AreCandidates (m : Merge) (directory : Directory) (names : List PathName)
+    (candidates : Rowed) : Type 0 where
   pub all : names_of candidates ≡ names
-  pub rows : (name : PathName) → AreRowsBy m directory name (row_at Upper name candidates, row_at Lower name candidates)
+  pub rows : (name : PathName)
+      → AreRowsBy m directory name (row_at Upper name candidates, row_at Lower name candidates)
 
 -- names with all that have an entry there, each with its rows
-pub record HaveEntries (m : Merge) (directory : Directory) (candidates : List Candidate) : Type 0 where
-  pub entries : filter_map (named_inode m directory.path) (names_of (candidates_told candidates)) ≡ entries_in m directory.path
+pub record HaveEntries (m : Merge) (directory : Directory)
+    (candidates : List Candidate) : Type 0 where
+  pub entries : filter_map (named_inode m directory.path) (names_of (candidates_told candidates))
+      ≡ entries_in m directory.path
   pub rows : All (IsCandidate m directory) candidates

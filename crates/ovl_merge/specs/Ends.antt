@@ -8,8 +8,8 @@ use Rattle.ovl_lookup.specs.Stacks.{StackView}
 use Rattle.ovl_merge.specs.declared.finish.MergeEnd.{MergeEnd}
 use Rattle.ovl_merge.specs.Places.{merge_of}
 
--- it is the end of a merge of this stack: there is a lower layer, each layer is one, and the root is the visible one of the
--- topmost
+-- it is the end of a merge of this stack: there is a lower layer, each layer is one, and the root
+-- is the visible one of the topmost
 pub record IsMergeEnd (stack : StackView) (end : MergeEnd) : Type 0 where
   pub several : 1 < length stack.layers
   pub each : All IsLayer stack.layers

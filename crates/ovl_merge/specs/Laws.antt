@@ -1,4 +1,5 @@
--- Laws of a merge: over a sound stack the merged tree stays, and where the walks of the new lower layer go on.
+-- Laws of a merge: over a sound stack the merged tree stays, and where the walks of the new lower
+-- layer go on.
 use Rattle.std.specs.Prelude.{◌≡◌, true, false, Some, None, [], ◌∷◌, length, nat_le}
 use Rattle.std.specs.List.{All, list_all}
 use Rattle.ovl_names.specs.Order.{ascends}
@@ -16,30 +17,41 @@ abbrev pub after_merge : Merge → Entries → StackView
 after_merge m lower = over (merged_top m) (over lower m.rest)
 
 abbrev pub MergeKeepsTree : Type 0
-MergeKeepsTree = (m : Merge) (lower : Entries) → All IsLayer (whole m).layers → IsSoundStack (whole m) →
-    IsLayer lower → IsMergedDown m lower → (path : PathNames) → look (after_merge m lower) path ≡ look (whole m) path
+MergeKeepsTree =
+    (m : Merge) (lower : Entries) → All IsLayer (whole m).layers → IsSoundStack (whole m) →
+    IsLayer lower → IsMergedDown m lower → (path : PathNames)
+    → look (after_merge m lower) path ≡ look (whole m) path
 
 -- the new lower layer keeps the tree without the new upper one above it, too
 abbrev pub MergedLayerKeepsTree : Type 0
-MergedLayerKeepsTree = (m : Merge) (lower : Entries) → All IsLayer (whole m).layers → IsSoundStack (whole m) →
-    IsLayer lower → IsMergedDown m lower → (path : PathNames) → look (over lower m.rest) path ≡ look (whole m) path
+MergedLayerKeepsTree =
+    (m : Merge) (lower : Entries) → All IsLayer (whole m).layers → IsSoundStack (whole m) →
+    IsLayer lower → IsMergedDown m lower → (path : PathNames)
+    → look (over lower m.rest) path ≡ look (whole m) path
 
--- a shown directory or metacopy file with a reach goes on there in the new lower layer; for a shown directory without
--- a reach, the rest shows no directory along the new walk; for every other path, what the rest shows along the new
--- walk is what it shows along the two old ones
+-- a shown directory or metacopy file with a reach goes on there in the new lower layer; for a shown
+-- directory without a reach, the rest shows no directory along the new walk; for every other path,
+-- what the rest shows along the new walk is what it shows along the two old ones
 pub record IsMergeCore (m : Merge) (lower : Entries) (path : PathNames) : Type 0 where
-  pub reached : (place : PathNames) → reach m path ≡ Some place → through (lower ∷ []) path ≡ Some place
-  pub unreached : shows_own_directory m path ≡ true → reach m path ≡ None → shows_directory_at m.rest (through (lower ∷ []) path) ≡ false
+  pub reached : (place : PathNames) → reach m path ≡ Some place
+      → through (lower ∷ []) path ≡ Some place
+  pub unreached : shows_own_directory m path ≡ true → reach m path ≡ None
+      → shows_directory_at m.rest (through (lower ∷ []) path) ≡ false
   pub other : shows_own_directory m path ≡ false → reach m path ≡ None →
-      look_on m.rest (through (lower ∷ []) path) ≡ look_on m.rest (through (two_layers m).layers path)
+      look_on m.rest (through (lower ∷ []) path)
+      ≡ look_on m.rest (through (two_layers m).layers path)
 
 abbrev pub MergeHasCore : Type 0
-MergeHasCore = (m : Merge) (lower : Entries) → All IsLayer (whole m).layers → IsSoundStack (whole m) →
+MergeHasCore =
+    (m : Merge) (lower : Entries) → All IsLayer (whole m).layers → IsSoundStack (whole m) →
     IsLayer lower → IsMergedDown m lower → (path : PathNames) → IsMergeCore m lower path
 
 -- entries in order that are those of the new lower layer are a layer, but for the limits
 abbrev pub MergeGivesLayer : Type 0
-MergeGivesLayer = (m : Merge) → All IsLayer (whole m).layers → All IsLayer m.rest.data_only → IsSoundStack (whole m) →
+MergeGivesLayer =
+    (m : Merge) → All IsLayer (whole m).layers → All IsLayer m.rest.data_only
+    → IsSoundStack (whole m) →
     (entries : Entries) → ascends entry_cmp entries ≡ true → IsMergedDown m entries →
-    list_all (λ entry. is_within_limits entry.0) entries ≡ true → nat_le (length entries) entry_limit ≡ true →
+    list_all (λ entry. is_within_limits entry.0) entries ≡ true
+    → nat_le (length entries) entry_limit ≡ true →
     IsLayer entries

@@ -12,7 +12,9 @@ use Rattle.ovl_merge.specs.MergeDown.{IsMergedDown}
 
 -- the entries of the new lower layer, in path order, don't keep them
 abbrev pub PassesLimit : Merge → Type 0
-PassesLimit m = (entries : Entries) × (ascends entry_cmp entries ≡ true) × IsMergedDown m entries × (keeps_limits entries ≡ false)
+PassesLimit m =
+    (entries : Entries) × (ascends entry_cmp entries ≡ true) × IsMergedDown m entries
+    × (keeps_limits entries ≡ false)
 
 -- why there is no merge where a new layer isn't given
 abbrev pub refused : RewriteFault → MergeFault

@@ -20,20 +20,22 @@ use Rattle.ovl_merge.specs.Places.{Merge, whole, first_hit, shows_own_directory,
 abbrev pub with_value : Inode → List ℕ → List ℕ → Inode
 with_value inode name value = record inode { attrs = with_attribute inode.attrs name value }
 
--- an entry of this name that goes on at `place`, its parent's reach given: no redirect where the place is that reach
--- followed by the name, the place's last name where it is the reach followed by another, else the whole path;
--- overlayfs.rst, "renaming directories" and "Metadata only copy up"
+-- an entry of this name that goes on at `place`, its parent's reach given: no redirect where the
+-- place is that reach followed by the name, the place's last name where it is the reach followed by
+-- another, else the whole path; overlayfs.rst, "renaming directories" and "Metadata only copy up"
 abbrev pub redirected_from : Option PathNames → PathName → Inode → PathNames → Inode
 redirected_from None own inode place = with_value inode redirect_name (path_text place)
 redirected_from (Some above) own inode place =
     if path_eq place (child_path above own) then inode
-    else if path_eq place (child_path above (last_name place)) then with_value inode redirect_name (last_name place)
+    else if path_eq place (child_path above (last_name place))
+    then with_value inode redirect_name (last_name place)
     else with_value inode redirect_name (path_text place)
 
 -- the same for the entry at a path; the root gets no redirect
 abbrev pub redirected : Merge → PathNames → Inode → PathNames → Inode
 redirected m path inode place =
-    if is_root path then inode else redirected_from (reach m (parent_path path)) (last_name path) inode place
+    if is_root path then inode
+    else redirected_from (reach m (parent_path path)) (last_name path) inode place
 
 -- a file with the contents that the whole stack shows at its path
 abbrev pub with_contents : Inode → Look → Inode
@@ -49,12 +51,13 @@ abbrev pub kept_if_alone : Merge → Option PathNames → Option PathNames
 kept_if_alone m None = None
 kept_if_alone m (Some place) = if has_data_alone m place then Some place else None
 
--- where data-only layers have the data of a path, as the last of the metacopy files found there says, if the rest shows
--- nothing at that place
+-- where data-only layers have the data of a path, as the last of the metacopy files found there
+-- says, if the rest shows nothing at that place
 abbrev pub kept_place : Merge → PathNames → Option PathNames
 kept_place m path = kept_if_alone m (place_told (things_found (whole m).layers path))
 
--- a metacopy file without a reach: it keeps an absolute redirect to its data in data-only layers, or gets its contents
+-- a metacopy file without a reach: it keeps an absolute redirect to its data in data-only layers,
+-- or gets its contents
 abbrev pub unreached_metacopy : Merge → PathNames → Inode → Option PathNames → Inode
 unreached_metacopy m path inode (Some place) =
     with_value (with_value (visible inode) metacopy_name []) redirect_name (path_text place)
@@ -63,10 +66,12 @@ unreached_metacopy m path inode None = with_contents (visible inode) (look (whol
 -- the new inode of a shown directory, of a metacopy file, and of any other thing
 abbrev pub merged_directory : Merge → PathNames → Inode → Option PathNames → Inode
 merged_directory m path inode (Some place) = redirected m path (visible inode) place
-merged_directory m path inode None = if gets_opaque m path then with_value (visible inode) opaque_name (codes "y") else visible inode
+merged_directory m path inode None =
+    if gets_opaque m path then with_value (visible inode) opaque_name (codes "y") else visible inode
 
 abbrev pub merged_metacopy : Merge → PathNames → Inode → Option PathNames → Inode
-merged_metacopy m path inode (Some place) = redirected m path (with_value (visible inode) metacopy_name []) place
+merged_metacopy m path inode (Some place) =
+    redirected m path (with_value (visible inode) metacopy_name []) place
 merged_metacopy m path inode None = unreached_metacopy m path inode (kept_place m path)
 
 abbrev pub merged_inode : Merge → PathNames → Inode → Inode
@@ -77,7 +82,15 @@ merged_inode m path inode =
 
 -- a whiteout as a merge writes it; overlayfs.rst, "whiteouts and opaque directories"
 abbrev pub new_whiteout : Inode
-new_whiteout = record { kind = Char 0 0; mode = 0; uid = 0; gid = 0; mtime = pos 0; nsec = 0; attrs = [] }
+new_whiteout = record {
+  kind = Char 0 0;
+  mode = 0;
+  uid = 0;
+  gid = 0;
+  mtime = pos 0;
+  nsec = 0;
+  attrs = [];
+}
 
 -- a hidden path in a shown directory, at whose natural place the rest shows something
 abbrev pub needs_whiteout : Merge → PathNames → Bool

@@ -40,15 +40,18 @@ found_by layer path = option_and_then (λ path. (walk layer path).found) path
 abbrev pub onward_by : Entries → Option PathNames → Option PathNames
 onward_by layer path = option_and_then (λ path. step_onward (walk layer path)) path
 
--- the walk of a path in the lower layer, if there is one, by where the rest knows the directory above
-pub record IsPassed (layer : Entries) (path above : Option PathNames) (passed : Passed) : Type 0 where
+-- the walk of a path in the lower layer, if there is one, by where the rest knows the directory
+-- above
+pub record IsPassed (layer : Entries) (path above : Option PathNames)
+    (passed : Passed) : Type 0 where
   pub found : told_in passed.found ≡ found_by layer path
   pub marked : IsMarked passed.found
   pub rest : rest_from above passed.rest ≡ onward_by layer path
   pub placed : IsPlaced above passed.rest
 
 -- the walks of a path: that in the upper layer, and where it goes on that in the lower one
-pub record IsPassage (m : Merge) (path : PathNames) (above : Option PathNames) (passage : Passage) : Type 0 where
+pub record IsPassage (m : Merge) (path : PathNames) (above : Option PathNames)
+    (passage : Passage) : Type 0 where
   pub upper : told_in passage.upper ≡ (walk m.upper path).found
   pub marked : IsMarked passage.upper
   pub lower : IsPassed m.lower (step_onward (walk m.upper path)) above passage.lower

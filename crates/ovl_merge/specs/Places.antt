@@ -1,4 +1,5 @@
--- Where the paths of a merge lie in the rest of the stack: the upper layer goes into the lower one, over the rest.
+-- Where the paths of a merge lie in the rest of the stack: the upper layer goes into the lower one,
+-- over the rest.
 use Rattle.std.specs.Prelude.{ℕ, zero, suc, Bool, true, false, ◌&&◌, not, Option, Some, None, List, [], ◌∷◌, if◌then◌else◌, length, is_some, is_none}
 use Rattle.ovl_names.specs.Names.{PathName}
 use Rattle.ovl_names.specs.Paths.{PathNames, child_path, parent_path, is_root}
@@ -28,7 +29,11 @@ two_layers m = record m.rest { layers = m.upper ∷ m.lower ∷ [] }
 
 -- the merge of a stack's topmost layer into the next
 abbrev pub merge_of : StackView → Merge
-merge_of stack = record { upper = top_layer stack; lower = top_layer (lower_layers stack); rest = from_layer 2 stack }
+merge_of stack = record {
+  upper = top_layer stack;
+  lower = top_layer (lower_layers stack);
+  rest = from_layer 2 stack;
+}
 
 -- where a path goes on in the lower layer, and where in the rest
 abbrev pub lower_path : Merge → PathNames → PathNames
@@ -53,7 +58,8 @@ abbrev pub passes : (Inode → Bool) → Option Inode → Bool
 passes test None = false
 passes test (Some inode) = test inode
 
--- the two layers show a directory at the path; and they show nothing there, and their walks aren't open
+-- the two layers show a directory at the path; and they show nothing there, and their walks aren't
+-- open
 abbrev pub shows_own_directory : Merge → PathNames → Bool
 shows_own_directory m path = passes is_directory (first_hit m path)
 
@@ -71,19 +77,22 @@ is_shown_regular Nothing = false
 is_shown_regular (Shown inode) = is_regular inode
 is_shown_regular (Broken inode) = is_regular inode
 
--- a thing goes on at a place of the rest, where the lower layer has `passed` on the way: each is of its own sort, a
--- directory for a directory, a regular file for a metacopy file; overlayfs.rst, "Directories" and "Metadata only copy up"
+-- a thing goes on at a place of the rest, where the lower layer has `passed` on the way: each is of
+-- its own sort, a directory for a directory, a regular file for a metacopy file; overlayfs.rst,
+-- "Directories" and "Metadata only copy up"
 abbrev pub goes_on_at : Merge → Inode → Option Inode → PathNames → Bool
 goes_on_at m inode passed place =
     if is_directory inode then is_nothing_or is_directory passed && shows_directory m.rest place
-    else is_metacopy inode && is_nothing_or is_metacopy passed && is_shown_regular (look m.rest place)
+    else is_metacopy inode && is_nothing_or is_metacopy passed
+    && is_shown_regular (look m.rest place)
 
 -- an open path goes on through the lower layer
 abbrev pub goes_on : Merge → PathNames → Inode → Bool
 goes_on m path inode =
     is_open m path && goes_on_at m inode (walk m.lower (lower_path m path)).found (rest_path m path)
 
--- the reach of a path: where what is shown there, a directory or a metacopy file, goes on in the rest
+-- the reach of a path: where what is shown there, a directory or a metacopy file, goes on in the
+-- rest
 abbrev pub reach_of : Merge → PathNames → Option Inode → Option PathNames
 reach_of m path None = None
 reach_of m path (Some inode) = if goes_on m path inode then Some (rest_path m path) else None
@@ -100,11 +109,13 @@ abbrev pub shows_at : StackView → Option PathNames → Bool
 shows_at rest None = false
 shows_at rest (Some place) = shows rest place
 
--- a shown directory gets `opaque`, its natural place given: it isn't the root, has no reach, and the rest shows a
--- directory at its natural place; overlayfs.rst, "whiteouts and opaque directories"
+-- a shown directory gets `opaque`, its natural place given: it isn't the root, has no reach, and
+-- the rest shows a directory at its natural place; overlayfs.rst, "whiteouts and opaque
+-- directories"
 abbrev pub gets_opaque_at : Merge → PathNames → Option PathNames → Bool
 gets_opaque_at m path place =
-    not (is_root path) && shows_own_directory m path && is_none (reach m path) && shows_directory_at m.rest place
+    not (is_root path) && shows_own_directory m path && is_none (reach m path)
+    && shows_directory_at m.rest place
 
 -- the base of a shown directory, its natural place given: where the names in it lie in the rest
 abbrev pub base_at : Merge → PathNames → Option PathNames → Option PathNames
@@ -123,8 +134,8 @@ last_name [] = []
 last_name (name ∷ []) = name
 last_name (name ∷ other ∷ names) = last_name (other ∷ names)
 
--- the natural place of a path of `depth` names: the root's is the root, that of another its last name in the base of its
--- parent
+-- the natural place of a path of `depth` names: the root's is the root, that of another its last
+-- name in the base of its parent
 abbrev pub natural_at : Merge → ℕ → PathNames → Option PathNames
 natural_at m zero path = Some []
 natural_at m (suc depth) path =

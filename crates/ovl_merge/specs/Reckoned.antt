@@ -34,7 +34,8 @@ upper_onward m path = step_onward (walk m.upper path)
 
 -- where the walk stands, where that of the upper layer goes on
 abbrev pub IsBelow : Entries → Option PathNames → Option Stand → Type 0
-IsBelow layer onward below = MatchOption below (onward ≡ None) (λ stand. IsSomeAnd onward (λ path. IsStand layer path stand))
+IsBelow layer onward below =
+    MatchOption below (onward ≡ None) (λ stand. IsSomeAnd onward (λ path. IsStand layer path stand))
 
 abbrev pub is_inside_at : Option Stand → Bool
 is_inside_at None = false
@@ -54,8 +55,11 @@ reached_in Apart = None
 
 -- where the names in a directory lie in the rest
 abbrev pub IsBase : StackView → PathNames → Base → Type 0
-IsBase stack dir (Reached view) = (reach (merge_of stack) dir ≡ Some view.path) × IsViewOf stack 2 view.path view
-IsBase stack dir Apart = (reach (merge_of stack) dir ≡ None) × (shows_directory_at (merge_of stack).rest (base (merge_of stack) dir) ≡ false)
+IsBase stack dir (Reached view) =
+    (reach (merge_of stack) dir ≡ Some view.path) × IsViewOf stack 2 view.path view
+IsBase stack dir Apart =
+    (reach (merge_of stack) dir ≡ None)
+    × (shows_directory_at (merge_of stack).rest (base (merge_of stack) dir) ≡ false)
 
 -- ---- both
 
@@ -69,6 +73,7 @@ pub record AreStands (m : Merge) (path : PathNames) (stands : Stands) : Type 0 w
 pub record IsVisited (stack : StackView) (dir : PathNames) (directory : Directory) : Type 0 where
   pub path : directory.path ≡ dir
   pub shown : shows_own_directory (merge_of stack) dir ≡ true
-  pub upper : StandsAt (merge_of stack).upper dir directory.upper (upper_onward (merge_of stack) dir)
+  pub upper : StandsAt (merge_of stack).upper dir directory.upper
+      (upper_onward (merge_of stack) dir)
   pub lower : IsBelow (merge_of stack).lower (upper_onward (merge_of stack) dir) directory.lower
   pub base : IsBase stack dir directory.base

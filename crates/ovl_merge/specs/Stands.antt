@@ -1,4 +1,5 @@
--- Where the walks of a directory and of the names in it stand and end in a layer, as the program reckons it.
+-- Where the walks of a directory and of the names in it stand and end in a layer, as the program
+-- reckons it.
 use Rattle.std.specs.Prelude.{◌≡◌, ℕ, ◌<◌, Bool, Option, Some, None, if◌then◌else◌, length, IfSome, MatchOption}
 use Rattle.std.specs.Option.{option_map}
 use Rattle.ovl_names.specs.Names.{PathName}
@@ -37,8 +38,10 @@ onward_to next Nowhere = None
 
 -- ---- where the walk of a directory's path stands
 
--- where it arrives in the layer, and the path that goes on there, unless it is hidden in the layers below
-pub record StandsAt (layer : Entries) (path : PathNames) (row : Option ℕ) (next : Option PathNames) : Type 0 where
+-- where it arrives in the layer, and the path that goes on there, unless it is hidden in the layers
+-- below
+pub record StandsAt (layer : Entries) (path : PathNames) (row : Option ℕ)
+    (next : Option PathNames) : Type 0 where
   pub layered : IsLayer layer
   pub onward : PathNames
   pub closed : Bool
@@ -56,18 +59,22 @@ IsOver layer stand = IfSome stand.row (λ row. row < length layer)
 
 -- the number of the row of an entry, if there is one
 abbrev pub IsRowAt : Entries → PathNames → Option ℕ → Type 0
-IsRowAt layer path row = MatchOption row (entry_at layer path ≡ None) (λ number. (number < length layer) × (path_at layer number ≡ path))
+IsRowAt layer path row =
+    MatchOption row (entry_at layer path ≡ None)
+    (λ number. (number < length layer) × (path_at layer number ≡ path))
 
 -- what a layer has in a row, and where a walk goes on there by this name
 pub record IsThing (layer : Entries) (row : ℕ) (name : PathName) (passing : Passing) : Type 0 where
   pub inode : Inode
   pub here : entry_at layer (path_at layer row) ≡ Some inode
-  pub found : option_map (λ found. found.inode.now) passing.found ≡ (if is_whiteout inode then None else Some inode)
+  pub found : option_map (λ found. found.inode.now) passing.found
+      ≡ (if is_whiteout inode then None else Some inode)
   pub marked : IfSome passing.found (λ found. found.mark.now ≡ mark_of found.inode.now)
   pub onward : IsOnward (mark_of inode) name passing.onward
 
 -- the walk of a path, by where the layer below knows the directory above
-pub record IsPassing (layer : Entries) (path : PathNames) (next : Option PathNames) (passing : Passing) : Type 0 where
+pub record IsPassing (layer : Entries) (path : PathNames) (next : Option PathNames)
+    (passing : Passing) : Type 0 where
   pub found : option_map (λ found. found.inode.now) passing.found ≡ (walk layer path).found
   pub marked : IfSome passing.found (λ found. found.mark.now ≡ mark_of found.inode.now)
   pub onward : onward_to next passing.onward ≡ step_onward (walk layer path)

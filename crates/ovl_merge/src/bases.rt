@@ -11,7 +11,7 @@ use ovl_lookup::{DirView, Sight, Stack};
 use ovl_names::{Name, Path};
 use std::alloc::{AllocError, Global};
 
-// Where the names in a directory lie in the rest, which is what lies below the two layers.
+/// Where the names in a directory lie in the rest, which is what lies below the two layers.
 #[derive(Drop)]
 pub(crate) enum Base<'a> {
     // In the directory of the rest in which it goes on.
@@ -21,7 +21,7 @@ pub(crate) enum Base<'a> {
 }
 
 impl<'a> Base<'a> {
-    // That of a directory that the two layers show, by where its walk in the lower one stands.
+    /// That of a directory that the two layers show, by where its walk in the lower one stands.
     pub(crate) fn of(
         alloc: Global,
         stack: &'a Stack,
@@ -30,7 +30,8 @@ impl<'a> Base<'a> {
     ) -> Result<Base<'a>, AllocError>
         requires several { 1 < length stack.now.layers }
         requires shown { shows_own_directory (merge_of stack.now) _dir.now ≡ true }
-        requires reach { reach (merge_of stack.now) _dir.now ≡ reach_from (merge_of stack.now).rest (onward_at lower.now) }
+        requires reach { reach (merge_of stack.now) _dir.now
+            ≡ reach_from (merge_of stack.now).rest (onward_at lower.now) }
         ensures { IfOk result (IsBase stack.now _dir.now) }
     {
         // Each layer of a stack is one.
@@ -44,11 +45,14 @@ impl<'a> Base<'a> {
         }
     }
 
-    // Of what kind it is that the rest shows at a name in it.
+    /// Of what kind it is that the rest shows at a name in it.
     pub(crate) fn sight(&self, stack: &Stack, _dir: &Path, name: &Name) -> Sight
         requires several { 1 < length stack.now.layers }
         requires base { IsBase stack.now _dir.now self.now }
-        ensures { result ≡ sight_of (look_on (merge_of stack.now).rest (child_of (the_base (merge_of stack.now) _dir.now) name.now)) }
+        ensures { result
+            ≡ sight_of
+            (look_on (merge_of stack.now).rest
+            (child_of (the_base (merge_of stack.now) _dir.now) name.now)) }
     {
         // Each layer of a stack is one.
         let _layers = stack.ordinary();
@@ -58,11 +62,13 @@ impl<'a> Base<'a> {
         }
     }
 
-    // Whether it shows something there.
+    /// Whether it shows something there.
     pub(crate) fn shows(&self, stack: &Stack, _dir: &Path, name: &Name) -> bool
         requires several { 1 < length stack.now.layers }
         requires base { IsBase stack.now _dir.now self.now }
-        ensures { result ≡ shows_test (merge_of stack.now).rest (child_of (the_base (merge_of stack.now) _dir.now) name.now) }
+        ensures { result
+            ≡ shows_test (merge_of stack.now).rest
+            (child_of (the_base (merge_of stack.now) _dir.now) name.now) }
     {
         // Each layer of a stack is one.
         let _layers = stack.ordinary();
@@ -72,7 +78,7 @@ impl<'a> Base<'a> {
         }
     }
 
-    // The names at which it shows something.
+    /// The names at which it shows something.
     pub(crate) fn names(
         &self,
         alloc: Global,
@@ -81,7 +87,9 @@ impl<'a> Base<'a> {
     ) -> Result<Vec<Name>, AllocError>
         requires several { 1 < length stack.now.layers }
         requires base { IsBase stack.now _dir.now self.now }
-        ensures { IfOk result (λ names. names.items ≡ base_names (merge_of stack.now).rest (the_base (merge_of stack.now) _dir.now)) }
+        ensures { IfOk result
+            (λ names. names.items
+            ≡ base_names (merge_of stack.now).rest (the_base (merge_of stack.now) _dir.now)) }
     {
         // Each layer of a stack is one.
         let _layers = stack.ordinary();

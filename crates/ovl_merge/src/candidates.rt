@@ -16,7 +16,7 @@ use ovl_names::Name;
 use std::alloc::{AllocError, Global};
 use std::cmp::Ordering;
 
-// A name in a directory, with the numbers of the rows that the two layers have by it there.
+/// A name in a directory, with the numbers of the rows that the two layers have by it there.
 #[derive(Clone, Copy)]
 pub(crate) struct Candidate<'a> {
     pub(crate) name: &'a Name,
@@ -24,7 +24,7 @@ pub(crate) struct Candidate<'a> {
     pub(crate) lower: Option<u32>,
 }
 
-// One of the two layers.
+/// One of the two layers.
 #[derive(Clone, Copy)]
 pub(crate) enum Side {
     Upper,
@@ -52,7 +52,11 @@ impl<'a> Candidate<'a> {
 
     // The name with the rows of both.
     fn joined(&self, other: &Candidate<'a>) -> Candidate<'a>
-        ensures { candidate_told result ≡ (self.now.name.now, joined_rows (candidate_told self.now).1 (candidate_told other.now).1) }
+        ensures { candidate_told result
+            ≡ (
+              self.now.name.now,
+              joined_rows (candidate_told self.now).1 (candidate_told other.now).1,
+            ) }
     {
         Candidate {
             name: self.name,
@@ -62,7 +66,7 @@ impl<'a> Candidate<'a> {
     }
 }
 
-// The names of its base where the two layers may hide what is shown there.
+/// The names of its base where the two layers may hide what is shown there.
 pub(crate) fn hidden_names(
     alloc: Global,
     stack: &Stack,
@@ -78,8 +82,8 @@ pub(crate) fn hidden_names(
     directory.base.names(alloc, stack, &directory.path)
 }
 
-// Names in a directory, in order, with all that have an entry: those of the two layers, and those of its base where the
-// two may hide these.
+/// Names in a directory, in order, with all that have an entry: those of the two layers, and those
+/// of its base where the two may hide these.
 pub(crate) fn candidates_in<'a>(
     alloc: Global,
     stack: &'a Stack,
@@ -89,7 +93,8 @@ pub(crate) fn candidates_in<'a>(
     requires several { 1 < length stack.now.layers }
     requires visited { IsVisited stack.now directory.now.path directory.now }
     requires hidden { hidden.now ≡ the_hidden (merge_of stack.now) directory.now }
-    ensures { IfOk result (λ candidates. HaveEntries (merge_of stack.now) directory.now candidates.items) }
+    ensures { IfOk result
+        (λ candidates. HaveEntries (merge_of stack.now) directory.now candidates.items) }
 {
     // Each layer of a stack is one.
     let _layers = stack.ordinary();
@@ -107,7 +112,8 @@ fn own_candidates<'a>(
     requires several { 1 < length stack.now.layers }
     requires visited { IsVisited stack.now directory.now.path directory.now }
     ensures { IfOk result (λ own. AreCandidates (merge_of stack.now) directory.now
-        (put_names [] (own_names_along (two_layers (merge_of stack.now)).layers directory.now.path)) (candidates_told own.items)) }
+        (put_names [] (own_names_along (two_layers (merge_of stack.now)).layers directory.now.path))
+        (candidates_told own.items)) }
 {
     // Each layer of a stack is one.
     let _layers = stack.ordinary();
@@ -127,7 +133,9 @@ fn rows_of<'a>(
     side: Side,
 ) -> Result<Vec<Candidate<'a>>, AllocError>
     requires { IfSome directory (λ row. row < length sheet.now) }
-    ensures { IfOk result (λ rows. (path : PathNames) (next : Option PathNames) → StandsAt sheet.now path directory next
+    ensures { IfOk result
+        (λ rows. (path : PathNames) (next : Option PathNames)
+        → StandsAt sheet.now path directory next
         → AreRowsOf side sheet.now path (candidates_told rows.items)) }
 {
     match directory {
@@ -144,7 +152,9 @@ fn rows_in<'a>(
     side: Side,
 ) -> Result<Vec<Candidate<'a>>, AllocError>
     requires { directory < length sheet.now }
-    ensures { IfOk result (λ rows. AreRowsOf side sheet.now (path_at sheet.now directory) (candidates_told rows.items)) }
+    ensures { IfOk result
+        (λ rows. AreRowsOf side sheet.now (path_at sheet.now directory)
+        (candidates_told rows.items)) }
 {
     // Each sheet is a layer.
     let _root = sheet.root_number();
@@ -173,8 +183,8 @@ fn without_rows<'a>(alloc: Global, names: &'a [Name]) -> Result<Vec<Candidate<'a
     Ok(candidates)
 }
 
-// Both lists as one, in the order of names, in which each of them is; a name that both have comes once, with the rows of
-// both.
+// Both lists as one, in the order of names, in which each of them is; a name that both have comes
+// once, with the rows of both.
 fn merged<'a>(
     alloc: Global,
     upper: Vec<Candidate<'a>>,
@@ -182,7 +192,9 @@ fn merged<'a>(
 ) -> Result<Vec<Candidate<'a>>, AllocError>
     requires upper { ascends name_cmp (names_of (candidates_told upper.items)) ≡ true }
     requires lower { ascends name_cmp (names_of (candidates_told lower.items)) ≡ true }
-    ensures { IfOk result (λ both. AreMerged (candidates_told upper.entry.items) (candidates_told lower.entry.items) (candidates_told both.items)) }
+    ensures { IfOk result
+        (λ both. AreMerged (candidates_told upper.entry.items) (candidates_told lower.entry.items)
+        (candidates_told both.items)) }
 {
     if upper.is_empty() {
         return Ok(lower);
@@ -201,7 +213,9 @@ fn interleaved<'a>(
 ) -> Result<Vec<Candidate<'a>>, AllocError>
     requires upper { ascends name_cmp (names_of (candidates_told upper.now)) ≡ true }
     requires lower { ascends name_cmp (names_of (candidates_told lower.now)) ≡ true }
-    ensures { IfOk result (λ both. AreMerged (candidates_told upper.now) (candidates_told lower.now) (candidates_told both.items)) }
+    ensures { IfOk result
+        (λ both. AreMerged (candidates_told upper.now) (candidates_told lower.now)
+        (candidates_told both.items)) }
 {
     let mut both = Vec::with_capacity(alloc, upper.len().saturating_add(lower.len()))?;
     let (mut i, mut j) = (0, 0);

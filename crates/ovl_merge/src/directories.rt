@@ -9,18 +9,18 @@ use ovl_lookup::{Arrival, Stack, Trail};
 use ovl_names::Path;
 use std::alloc::{AllocError, Global};
 
-// A directory that the two topmost layers show, and what is kept of it for the names in it.
+/// A directory that the two topmost layers show, and what is kept of it for the names in it.
 #[derive(Drop)]
 pub(crate) struct Directory<'a> {
     pub(crate) path: Path,
-    // The number of its row in the upper layer, if that has it, and where its walk in the lower one stands, if it goes on
-    // there.
+    // The number of its row in the upper layer, if that has it, and where its walk in the lower one
+    // stands, if it goes on there.
     pub(crate) upper: Option<u32>,
     pub(crate) lower: Option<Stand<'a>>,
     pub(crate) base: Base<'a>,
 }
 
-// The same two of any path.
+/// The same two of any path.
 #[derive(Drop)]
 pub(crate) struct Stands<'a> {
     upper: Option<u32>,
@@ -28,7 +28,7 @@ pub(crate) struct Stands<'a> {
 }
 
 impl<'a> Directory<'a> {
-    // The directory at a path, and `None` where they show none there.
+    /// The directory at a path, and `None` where they show none there.
     pub(crate) fn at(
         alloc: Global,
         stack: &'a Stack,
@@ -55,7 +55,7 @@ impl<'a> Directory<'a> {
         }))
     }
 
-    // Whether the walks of a name that neither layer has in it go on in the rest.
+    /// Whether the walks of a name that neither layer has in it go on in the rest.
     pub(crate) fn is_open(&self) -> bool
         ensures { result ≡ is_some (onward_at self.now.lower) }
     {
@@ -87,7 +87,8 @@ impl<'a> Stands<'a> {
     }
 }
 
-// The path by which the rest knows a directory whose walk in the lower layer stands so, unless it is hidden there.
+/// The path by which the rest knows a directory whose walk in the lower layer stands so, unless it
+/// is hidden there.
 pub(crate) fn onward_of<'l, 'a>(lower: &'l Option<Stand<'a>>) -> Option<&'l Trail<'a>>
     ensures { option_map (λ path. path.now) result ≡ onward_at lower.now }
 {

@@ -19,7 +19,7 @@ use ovl_lookup::{DirView, Found, Look, Stack, Trail, is_well_formed_metacopy};
 use ovl_names::{Name, Path};
 use std::alloc::{AllocError, Global};
 
-// What the new lower layer has at a name in a directory.
+/// What the new lower layer has at a name in a directory.
 pub(crate) fn inode_in<'d>(
     alloc: Global,
     stack: &'d Stack,
@@ -31,7 +31,9 @@ pub(crate) fn inode_in<'d>(
     requires whole { IfSome whole.old (IsViewOf stack.now 0 above.now.path) }
     requires above { IsVisited stack.now above.now.path above.now }
     requires candidate { IsCandidate (merge_of stack.now) above.now candidate.now }
-    ensures inode { IfOk result (λ found. found ≡ merged_entry (merge_of stack.now) (child_path above.now.path candidate.now.name.now)) }
+    ensures inode { IfOk result
+        (λ found. found
+        ≡ merged_entry (merge_of stack.now) (child_path above.now.path candidate.now.name.now)) }
     ensures whole { IfSome whole.new (IsViewOf stack.now 0 above.now.path) }
 {
     let name = candidate.name;
@@ -55,7 +57,8 @@ fn unfound(
 ) -> Option<Inode>
     requires several { 1 < length stack.now.layers }
     requires above { IsVisited stack.now above.now.path above.now }
-    requires passage { IsPassage (merge_of stack.now) (child_path above.now.path name.now) (onward_at above.now.lower) passage.now }
+    requires passage { IsPassage (merge_of stack.now) (child_path above.now.path name.now)
+        (onward_at above.now.lower) passage.now }
     requires none { first_in passage.now ≡ None }
     ensures { result ≡ merged_entry (merge_of stack.now) (child_path above.now.path name.now) }
 {
@@ -96,10 +99,13 @@ fn merged_inode<'d>(
     requires whole { IfSome whole.old (IsViewOf stack.now 0 above.now.path) }
     requires several { 1 < length stack.now.layers }
     requires above { IsVisited stack.now above.now.path above.now }
-    requires passage { IsPassage (merge_of stack.now) (child_path above.now.path name.now) (onward_at above.now.lower) passage.now }
+    requires passage { IsPassage (merge_of stack.now) (child_path above.now.path name.now)
+        (onward_at above.now.lower) passage.now }
     requires first { Some found.now.inode.now ≡ first_in passage.now }
     requires marked { found.now.mark.now ≡ the_mark found.now.inode.now }
-    ensures inode { IfOk result (λ new. new ≡ the_inode (merge_of stack.now) (child_path above.now.path name.now) found.now.inode.now) }
+    ensures inode { IfOk result
+        (λ new. new
+        ≡ the_inode (merge_of stack.now) (child_path above.now.path name.now) found.now.inode.now) }
     ensures whole { IfSome whole.new (IsViewOf stack.now 0 above.now.path) }
 {
     if is_directory(found.inode) {
@@ -121,8 +127,8 @@ fn shown_inode(alloc: Global, inode: &Inode) -> Result<Inode, AllocError>
     visible(alloc, inode)
 }
 
-// The new inode of a directory: it goes on at its reach, or hides what the rest has. overlayfs.rst: "renaming
-// directories", "whiteouts and opaque directories".
+// The new inode of a directory: it goes on at its reach, or hides what the rest has. overlayfs.rst:
+// "renaming directories", "whiteouts and opaque directories".
 fn merged_directory(
     alloc: Global,
     stack: &Stack,
@@ -133,11 +139,15 @@ fn merged_directory(
 ) -> Result<Inode, AllocError>
     requires several { 1 < length stack.now.layers }
     requires above { IsVisited stack.now above.now.path above.now }
-    requires passage { IsPassage (merge_of stack.now) (child_path above.now.path name.now) (onward_at above.now.lower) passage.now }
+    requires passage { IsPassage (merge_of stack.now) (child_path above.now.path name.now)
+        (onward_at above.now.lower) passage.now }
     requires first { Some found.now.inode.now ≡ first_in passage.now }
     requires marked { found.now.mark.now ≡ the_mark found.now.inode.now }
     requires directory { directory_test found.now.inode.now ≡ true }
-    ensures { IfOk result (λ new. new ≡ the_directory (merge_of stack.now) (child_path above.now.path name.now) found.now.inode.now
+    ensures { IfOk result
+        (λ new. new
+        ≡ the_directory (merge_of stack.now)
+        (child_path above.now.path name.now) found.now.inode.now
         (the_reach (merge_of stack.now) (child_path above.now.path name.now))) }
 {
     let shown = shown_inode(alloc, found.inode)?;
@@ -151,8 +161,8 @@ fn merged_directory(
     Ok(shown)
 }
 
-// The new inode of a metacopy file: it stays one where it goes on at its reach, and has its contents else.
-// overlayfs.rst: "Metadata only copy up".
+// The new inode of a metacopy file: it stays one where it goes on at its reach, and has its
+// contents else. overlayfs.rst: "Metadata only copy up".
 fn merged_metacopy<'d>(
     alloc: Global,
     stack: &'d Stack,
@@ -165,10 +175,13 @@ fn merged_metacopy<'d>(
     requires whole { IfSome whole.old (IsViewOf stack.now 0 above.now.path) }
     requires several { 1 < length stack.now.layers }
     requires above { IsVisited stack.now above.now.path above.now }
-    requires passage { IsPassage (merge_of stack.now) (child_path above.now.path name.now) (onward_at above.now.lower) passage.now }
+    requires passage { IsPassage (merge_of stack.now) (child_path above.now.path name.now)
+        (onward_at above.now.lower) passage.now }
     requires first { Some found.now.inode.now ≡ first_in passage.now }
     requires marked { found.now.mark.now ≡ the_mark found.now.inode.now }
-    ensures inode { IfOk result (λ new. new ≡ the_metacopy (merge_of stack.now) (child_path above.now.path name.now) found.now.inode.now
+    ensures inode { IfOk result
+        (λ new. new
+        ≡ the_metacopy (merge_of stack.now) (child_path above.now.path name.now) found.now.inode.now
         (the_reach (merge_of stack.now) (child_path above.now.path name.now))) }
     ensures whole { IfSome whole.new (IsViewOf stack.now 0 above.now.path) }
 {
@@ -187,8 +200,8 @@ fn merged_metacopy<'d>(
     with_contents(alloc, shown, &contents)
 }
 
-// Where data-only layers have the data of a path, as the last of the metacopy files found there says, if the rest shows
-// nothing at that place. overlayfs.rst: "Data-only lower layers".
+// Where data-only layers have the data of a path, as the last of the metacopy files found there
+// says, if the rest shows nothing at that place. overlayfs.rst: "Data-only lower layers".
 fn kept_place(alloc: Global, stack: &Stack, path: &Path) -> Result<Option<Path>, AllocError>
     requires { 1 < length stack.now.layers }
     ensures { IfOk result (λ kept. kept ≡ the_kept (merge_of stack.now) path.now) }
@@ -215,8 +228,9 @@ fn has_data_alone(alloc: Global, stack: &Stack, place: &Path) -> Result<bool, Al
     Ok(stack.sight(alloc, 2, trail)?.is_nothing())
 }
 
-// An entry `name` of a directory that goes on at a place: with no redirect where the reach of the directory has it by
-// this name, with one name where it has it by another, else with the whole path.
+// An entry `name` of a directory that goes on at a place: with no redirect where the reach of the
+// directory has it by this name, with one name where it has it by another, else with the whole
+// path.
 fn redirected(
     alloc: Global,
     stack: &Stack,
@@ -227,9 +241,13 @@ fn redirected(
 ) -> Result<Inode, AllocError>
     requires several { 1 < length stack.now.layers }
     requires above { IsVisited stack.now above.now.path above.now }
-    requires place { place_from (onward_at above.now.lower) place.now ≡ the_reach (merge_of stack.now) (child_path above.now.path name.now) }
-    ensures { IfOk result (λ new. (path : PathNames) → the_reach (merge_of stack.now) (child_path above.now.path name.now) ≡ Some path
-        → new ≡ redirected_from (the_reach (merge_of stack.now) above.now.path) name.now inode path) }
+    requires place { place_from (onward_at above.now.lower) place.now
+        ≡ the_reach (merge_of stack.now) (child_path above.now.path name.now) }
+    ensures { IfOk result
+        (λ new. (path : PathNames)
+        → the_reach (merge_of stack.now) (child_path above.now.path name.now) ≡ Some path
+        → new
+        ≡ redirected_from (the_reach (merge_of stack.now) above.now.path) name.now inode path) }
 {
     // Each layer of a stack is one.
     let _layers = stack.ordinary();
@@ -247,7 +265,8 @@ fn redirected_at(
     inode: Inode,
     path: &Path,
 ) -> Result<Inode, AllocError>
-    ensures { IfOk result (λ new. new ≡ redirected_from (reached_in base.now) name.now inode path.now) }
+    ensures { IfOk result
+        (λ new. new ≡ redirected_from (reached_in base.now) name.now inode path.now) }
 {
     if let Some(own) = name_in(alloc, base, path)? {
         return renamed(inode, name, own);
@@ -256,13 +275,16 @@ fn redirected_at(
     with_value(inode, overlay::REDIRECT, text.as_bytes())
 }
 
-// The name by which a path lies directly in the directory of the rest in which one goes on, if it does.
+// The name by which a path lies directly in the directory of the rest in which one goes on, if it
+// does.
 fn name_in<'p>(
     alloc: Global,
     base: &Base<'_>,
     path: &'p Path,
 ) -> Result<Option<&'p str>, AllocError>
-    ensures { IfOk result (λ name. option_map (λ name. name.now) name ≡ name_directly_in (reached_in base.now) path.now) }
+    ensures { IfOk result
+        (λ name. option_map (λ name. name.now) name
+        ≡ name_directly_in (reached_in base.now) path.now) }
 {
     let Base::Reached(view) = base else {
         return Ok(None);
@@ -279,7 +301,9 @@ fn name_in<'p>(
 
 // The inode that goes on by the name `own` in the directory in which that above goes on.
 fn renamed(inode: Inode, name: &Name, own: &str) -> Result<Inode, AllocError>
-    ensures { IfOk result (λ new. (above : Option PathNames) (path : PathNames) → Some own.now ≡ name_directly_in above path
+    ensures { IfOk result
+        (λ new. (above : Option PathNames) (path : PathNames)
+        → Some own.now ≡ name_directly_in above path
         → new ≡ redirected_from above name.now inode path) }
 {
     if own == name.as_str() {

@@ -12,7 +12,8 @@ pub enum MergeFault {
     /// One layer of the stack alone isn't data-only, so there is none to put it into.
     #[error("no lower layer")]
     NoLower,
-    /// The new lower layer has more entries than a manifest may have, or a path with more names or a longer text.
+    /// The new lower layer has more entries than a manifest may have, or a path with more names or
+    /// a longer text.
     #[error("result over the limits")]
     LimitOut,
     /// Out of memory.

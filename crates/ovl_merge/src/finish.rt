@@ -46,21 +46,28 @@ impl MergeWork<'_> {
 }
 
 impl MergeEnd {
-    /// The two topmost layers as one, below a topmost layer that has its root alone, of each stack whose merge ends so. The
-    /// parcels are the plain walk of its work from `/` of space 0. Over a sound stack it is refused, unless memory runs
-    /// out, exactly where the new lower layer passes a limit of manifests.
+    /// The two topmost layers as one, below a topmost layer that has its root alone, of each stack
+    /// whose merge ends so. The parcels are the plain walk of its work from `/` of space 0. Over a
+    /// sound stack it is refused, unless memory runs out, exactly where the new lower layer passes
+    /// a limit of manifests.
     pub fn finish(
         self,
         alloc: Global,
         parcels: Vec<Parcel<Vec<(Name, Inode)>>>,
     ) -> Result<MergeDone, MergeFault>
-        ensures top { IfOk result (λ done. (stack : StackView) → IsMergeEnd stack self → done.top ≡ merged_top (merge_of stack)) }
+        ensures top { IfOk result
+            (λ done. (stack : StackView) → IsMergeEnd stack self
+            → done.top ≡ merged_top (merge_of stack)) }
         ensures lower { IfOk result (λ done. (stack : StackView) → IsMergeEnd stack self
-            → IsMergeWalk stack (parcel_views inodes_seen parcels.items) → IsMergedDown (merge_of stack) done.lower) }
+            → IsMergeWalk stack (parcel_views inodes_seen parcels.items)
+            → IsMergedDown (merge_of stack) done.lower) }
         ensures kept { IfOk result (λ _. (stack : StackView) → IsMergeEnd stack self
-            → IsMergeWalk stack (parcel_views inodes_seen parcels.items) → PassesLimit (merge_of stack) → ⊥) }
-        ensures limit { result ≡ Err LimitOut → (stack : StackView) → IsMergeEnd stack self → IsSoundStack stack
-            → IsMergeWalk stack (parcel_views inodes_seen parcels.items) → PassesLimit (merge_of stack) }
+            → IsMergeWalk stack (parcel_views inodes_seen parcels.items)
+            → PassesLimit (merge_of stack) → ⊥) }
+        ensures limit { result ≡ Err LimitOut → (stack : StackView) → IsMergeEnd stack self
+            → IsSoundStack stack
+            → IsMergeWalk stack (parcel_views inodes_seen parcels.items)
+            → PassesLimit (merge_of stack) }
         ensures two { result ≡ Err NoLower → ⊥ }
     {
         let MergeEnd { root } = self;
@@ -70,9 +77,9 @@ impl MergeEnd {
     }
 }
 
-/// The two topmost layers as one, below a topmost layer that has its root alone. The parcels are the plain walk of the
-/// work from `/` of space 0. Over a sound stack it is refused, unless memory runs out, exactly where the new lower layer
-/// passes a limit of manifests.
+/// The two topmost layers as one, below a topmost layer that has its root alone. The parcels are
+/// the plain walk of the work from `/` of space 0. Over a sound stack it is refused, unless memory
+/// runs out, exactly where the new lower layer passes a limit of manifests.
 pub fn finish_merge(
     alloc: Global,
     work: &MergeWork<'_>,
@@ -82,7 +89,8 @@ pub fn finish_merge(
     ensures top { IfOk result (λ done. done.top ≡ merged_top (merge_of work.now)) }
     ensures lower { IfOk result (λ done. IsMergedDown (merge_of work.now) done.lower) }
     ensures kept { IfOk result (λ _. PassesLimit (merge_of work.now) → ⊥) }
-    ensures limit { IsSoundStack work.now → result ≡ Err LimitOut → PassesLimit (merge_of work.now) }
+    ensures limit { IsSoundStack work.now → result ≡ Err LimitOut
+        → PassesLimit (merge_of work.now) }
     ensures two { result ≡ Err NoLower → ⊥ }
 {
     work.end(alloc)?.finish(alloc, parcels)

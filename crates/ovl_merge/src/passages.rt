@@ -20,7 +20,7 @@ use ovl_lookup::{Found, Onward, Sight, Stack, Trail, TrailStep, follow, is_well_
 use ovl_names::{Name, Path};
 use std::alloc::{AllocError, Global};
 
-// The walks of a name in a directory.
+/// The walks of a name in a directory.
 #[derive(Drop)]
 pub(crate) struct Passage<'a> {
     // What that in the upper layer finds.
@@ -29,7 +29,7 @@ pub(crate) struct Passage<'a> {
     pub(crate) lower: Passed<'a>,
 }
 
-// How a walk in the lower layer ends.
+/// How a walk in the lower layer ends.
 #[derive(Drop)]
 pub(crate) struct Passed<'a> {
     pub(crate) found: Option<Found<'a>>,
@@ -37,7 +37,7 @@ pub(crate) struct Passed<'a> {
     pub(crate) rest: Option<Place<'a>>,
 }
 
-// A place in the rest.
+/// A place in the rest.
 #[derive(Drop)]
 pub(crate) enum Place<'a> {
     // By this name in the directory as which the rest knows the one above.
@@ -47,7 +47,7 @@ pub(crate) enum Place<'a> {
 }
 
 impl<'a> Passage<'a> {
-    // The walks of a name in the directory.
+    /// The walks of a name in the directory.
     pub(crate) fn of(
         alloc: Global,
         stack: &'a Stack,
@@ -57,7 +57,9 @@ impl<'a> Passage<'a> {
         requires several { 1 < length stack.now.layers }
         requires above { IsVisited stack.now above.now.path above.now }
         requires candidate { IsCandidate (merge_of stack.now) above.now candidate.now }
-        ensures { IfOk result (IsPassage (merge_of stack.now) (child_path above.now.path candidate.now.name.now) (onward_at above.now.lower)) }
+        ensures { IfOk result
+            (IsPassage (merge_of stack.now) (child_path above.now.path candidate.now.name.now)
+            (onward_at above.now.lower)) }
     {
         let name = candidate.name;
         let Passing { found, onward, .. } = passing_at(stack.sheet(0), name, candidate.upper);
@@ -68,7 +70,7 @@ impl<'a> Passage<'a> {
         })
     }
 
-    // The first thing that the two layers have there.
+    /// The first thing that the two layers have there.
     pub(crate) fn first(&self) -> Option<&Found<'a>>
         ensures first { option_map (λ found. found.now.inode.now) result ≡ first_in self.now }
         ensures marked { IsMarked self.now.upper → IsMarked self.now.lower.found
@@ -80,7 +82,8 @@ impl<'a> Passage<'a> {
         }
     }
 
-    // Where this first thing goes on in the rest, if it is a directory or a metacopy file that does.
+    /// Where this first thing goes on in the rest, if it is a directory or a metacopy file that
+    /// does.
     pub(crate) fn reach(
         &self,
         alloc: Global,
@@ -91,12 +94,17 @@ impl<'a> Passage<'a> {
     ) -> Result<Option<&Place<'a>>, AllocError>
         requires several { 1 < length stack.now.layers }
         requires above { IsVisited stack.now above.now.path above.now }
-        requires passage { IsPassage (merge_of stack.now) (child_path above.now.path _name.now) (onward_at above.now.lower) self.now }
+        requires passage { IsPassage (merge_of stack.now) (child_path above.now.path _name.now)
+            (onward_at above.now.lower) self.now }
         requires first { Some found.now.inode.now ≡ first_in self.now }
         requires marked { found.now.mark.now ≡ the_mark found.now.inode.now }
-        ensures reach { IfOk result (λ reach. option_and_then (λ place. place_from (onward_at above.now.lower) place.now) reach
+        ensures reach { IfOk result
+            (λ reach. option_and_then
+            (λ place. place_from (onward_at above.now.lower) place.now) reach
             ≡ the_reach (merge_of stack.now) (child_path above.now.path _name.now)) }
-        ensures goes { IfOk result (λ reach. IfSome reach (λ _. the_reach (merge_of stack.now) (child_path above.now.path _name.now) ≢ None)) }
+        ensures goes { IfOk result
+            (λ reach. IfSome reach
+            (λ _. the_reach (merge_of stack.now) (child_path above.now.path _name.now) ≢ None)) }
     {
         let Some(place) = &self.lower.rest else {
             return Ok(None);
@@ -109,7 +117,8 @@ impl<'a> Passage<'a> {
 }
 
 impl<'a> Passed<'a> {
-    // How the walk of a name in the directory ends, of which that in the upper layer goes on like this.
+    // How the walk of a name in the directory ends, of which that in the upper layer goes on like
+    // this.
     fn of(
         alloc: Global,
         stack: &'a Stack,
@@ -120,7 +129,10 @@ impl<'a> Passed<'a> {
         requires several { 1 < length stack.now.layers }
         requires above { IsVisited stack.now above.now.path above.now }
         requires candidate { IsCandidate (merge_of stack.now) above.now candidate.now }
-        ensures { IfOk result (IsPassed (merge_of stack.now).lower (onward_to (upper_onward (merge_of stack.now) above.now.path) onward.entry) (onward_at above.now.lower)) }
+        ensures { IfOk result
+            (IsPassed (merge_of stack.now).lower
+            (onward_to (upper_onward (merge_of stack.now) above.now.path) onward.entry)
+            (onward_at above.now.lower)) }
     {
         match onward {
             Onward::Beside(own) => Passed::beside(alloc, stack, above, candidate, own),
@@ -140,7 +152,10 @@ impl<'a> Passed<'a> {
         requires several { 1 < length stack.now.layers }
         requires above { IsVisited stack.now above.now.path above.now }
         requires candidate { IsCandidate (merge_of stack.now) above.now candidate.now }
-        ensures { IfOk result (IsPassed (merge_of stack.now).lower (name_on (upper_onward (merge_of stack.now) above.now.path) name.now) (onward_at above.now.lower)) }
+        ensures { IfOk result
+            (IsPassed (merge_of stack.now).lower
+            (name_on (upper_onward (merge_of stack.now) above.now.path) name.now)
+            (onward_at above.now.lower)) }
     {
         let Some(lower) = &above.lower else {
             return Ok(Passed::nothing());
@@ -152,7 +167,8 @@ impl<'a> Passed<'a> {
 
     // That of a path from the root.
     fn at(alloc: Global, sheet: &'a Sheet, path: &'a Path) -> Result<Passed<'a>, AllocError>
-        ensures { (above : Option PathNames) → IfOk result (IsPassed sheet.now (Some path.now) above) }
+        ensures { (above : Option PathNames)
+            → IfOk result (IsPassed sheet.now (Some path.now) above) }
     {
         let trail = Trail::of(alloc, &path.names())?;
         let TrailStep {
@@ -176,7 +192,8 @@ impl<'a> Passed<'a> {
     }
 }
 
-// How the walk of a name in the directory in the lower layer ends: the row of the candidate's own name is known.
+// How the walk of a name in the directory in the lower layer ends: the row of the candidate's own
+// name is known.
 fn passing_by<'a>(
     lower: &Stand<'_>,
     sheet: &'a Sheet,
@@ -185,7 +202,8 @@ fn passing_by<'a>(
 ) -> Passing<'a>
     requires over { IsOver sheet.now lower.now }
     requires inside { IfSome candidate.now.lower (λ row. row < length sheet.now) }
-    ensures { (path : PathNames) → IsStand sheet.now path lower.now → IsRowAt sheet.now (child_path path candidate.now.name.now) candidate.now.lower
+    ensures { (path : PathNames) → IsStand sheet.now path lower.now
+        → IsRowAt sheet.now (child_path path candidate.now.name.now) candidate.now.lower
         → IsPassing sheet.now (child_path path name.now) lower.now.next result }
 {
     if *name == *candidate.name {
@@ -197,7 +215,8 @@ fn passing_by<'a>(
 
 // The place at which a walk goes on from the root, unless it is closed.
 fn rest_at<'a>(next: Trail<'a>, closed: bool) -> Option<Place<'a>>
-    ensures rest { (above : Option PathNames) → rest_from above result ≡ onward_on next.entry closed }
+    ensures rest { (above : Option PathNames)
+        → rest_from above result ≡ onward_on next.entry closed }
     ensures placed { (above : Option PathNames) → IsPlaced above result }
 {
     if closed {
@@ -212,7 +231,8 @@ fn place_of<'a>(
     stand: &Stand<'_>,
     onward: Onward<'a>,
 ) -> Result<Option<Place<'a>>, AllocError>
-    ensures rest { IfOk result (λ place. rest_from stand.now.next place ≡ onward_to stand.now.next onward.entry) }
+    ensures rest { IfOk result
+        (λ place. rest_from stand.now.next place ≡ onward_to stand.now.next onward.entry) }
     ensures placed { IfOk result (IsPlaced stand.now.next) }
 {
     match onward {
@@ -235,7 +255,9 @@ impl<'a> Place<'a> {
     ) -> Result<Sight, AllocError>
         requires several { 1 < length stack.now.layers }
         requires above { IsVisited stack.now above.now.path above.now }
-        ensures { IfOk result (λ sight. (path : PathNames) → place_from (onward_at above.now.lower) self.now ≡ Some path
+        ensures { IfOk result
+            (λ sight. (path : PathNames)
+            → place_from (onward_at above.now.lower) self.now ≡ Some path
             → sight ≡ sight_of (the_look (merge_of stack.now).rest path)) }
     {
         // Each layer of a stack is one.
@@ -260,7 +282,8 @@ fn goes_on(
     requires above { IsVisited stack.now above.now.path above.now }
     requires marked { found.now.mark.now ≡ the_mark found.now.inode.now }
     requires passed { IfSome passed.now (λ found. found.mark.now ≡ the_mark found.inode.now) }
-    ensures { IfOk result (λ answer. (path : PathNames) → place_from (onward_at above.now.lower) place.now ≡ Some path
+    ensures { IfOk result
+        (λ answer. (path : PathNames) → place_from (onward_at above.now.lower) place.now ≡ Some path
         → answer ≡ goes_on_at (merge_of stack.now) found.now.inode.now (told_in passed.now) path) }
 {
     if is_directory(found.inode) {

@@ -9,16 +9,17 @@ use ovl_lookup::{Arrival, Found, Onward, Trail};
 use ovl_names::Name;
 use std::alloc::{AllocError, Global};
 
-// Where the walk of a directory's path stands in a layer.
+/// Where the walk of a directory's path stands in a layer.
 #[derive(Drop)]
 pub(crate) struct Stand<'a> {
-    // The number of its row, if the layer has the directory; else nothing is found at any name in it.
+    // The number of its row, if the layer has the directory; else nothing is found at any name in
+    // it.
     pub(crate) row: Option<u32>,
     // The path by which the layer below knows the directory, unless it is hidden there.
     next: Option<Trail<'a>>,
 }
 
-// How the walk of a name in a directory ends in a layer, with nothing copied.
+/// How the walk of a name in a directory ends in a layer, with nothing copied.
 #[derive(Drop)]
 pub(crate) struct Passing<'a> {
     pub(crate) found: Option<Found<'a>>,
@@ -26,7 +27,7 @@ pub(crate) struct Passing<'a> {
 }
 
 impl<'a> Stand<'a> {
-    // That of a path.
+    /// That of a path.
     pub(crate) fn at(
         alloc: Global,
         sheet: &'a Sheet,
@@ -46,14 +47,14 @@ impl<'a> Stand<'a> {
         })
     }
 
-    // Whether the layer has the directory.
+    /// Whether the layer has the directory.
     pub(crate) fn is_inside(&self) -> bool
         ensures { result ≡ is_some self.now.row }
     {
         self.row.is_some()
     }
 
-    // The path by which the layer below knows the directory, unless it is hidden there.
+    /// The path by which the layer below knows the directory, unless it is hidden there.
     pub(crate) fn onward(&self) -> Option<&Trail<'a>>
         ensures { option_map (λ path. path.now) result ≡ self.now.next }
     {
@@ -61,7 +62,7 @@ impl<'a> Stand<'a> {
     }
 }
 
-// How the walk of a name ends in the directory of a row, if the layer has that.
+/// How the walk of a name ends in the directory of a row, if the layer has that.
 pub(crate) fn passing_in<'a>(
     sheet: &'a Sheet,
     directory: Option<u32>,
@@ -78,7 +79,8 @@ pub(crate) fn passing_in<'a>(
 fn row_in(sheet: &Sheet, directory: Option<u32>, name: &Name) -> Option<u32>
     requires { IfSome directory (λ row. row < length sheet.now) }
     ensures inside { IfSome result (λ row. row < length sheet.now) }
-    ensures row { (path : PathNames) (next : Option PathNames) → StandsAt sheet.now path directory next
+    ensures row { (path : PathNames) (next : Option PathNames)
+        → StandsAt sheet.now path directory next
         → IsRowAt sheet.now (child_path path name.now) result }
 {
     match directory {
@@ -87,7 +89,8 @@ fn row_in(sheet: &Sheet, directory: Option<u32>, name: &Name) -> Option<u32>
     }
 }
 
-// How the walk of a name in a directory ends, by the number of the row that the layer has by it there, if it has one.
+/// How the walk of a name in a directory ends, by the number of the row that the layer has by it
+/// there, if it has one.
 pub(crate) fn passing_at<'a>(sheet: &'a Sheet, name: &'a Name, row: Option<u32>) -> Passing<'a>
     requires { IfSome row (λ row. row < length sheet.now) }
     ensures { (path : PathNames) → IsRowAt sheet.now (child_path path name.now) row
@@ -103,7 +106,8 @@ pub(crate) fn passing_at<'a>(sheet: &'a Sheet, name: &'a Name, row: Option<u32>)
 // The walk's end at a name that the layer doesn't have.
 fn nothing_at(name: &Name) -> Passing<'_>
     ensures found { result.found ≡ None }
-    ensures onward { (next : Option PathNames) → onward_to next result.onward ≡ name_on next name.now }
+    ensures onward { (next : Option PathNames)
+        → onward_to next result.onward ≡ name_on next name.now }
 {
     Passing {
         found: None,

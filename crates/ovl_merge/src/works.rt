@@ -39,13 +39,15 @@ impl<'a> Model for MergeWork<'a> {
 }
 
 impl<'a> MergeWork<'a> {
-    /// The work of this stack, whose visits tell the new lower layer; refused exactly where it has one layer beside
-    /// data-only ones.
+    /// The work of this stack, whose visits tell the new lower layer; refused exactly where it has
+    /// one layer beside data-only ones.
     pub fn new(stack: &'a Stack) -> Result<MergeWork<'a>, MergeFault>
         ensures value { IfOk result (λ work. work ≡ stack.now) }
         ensures refused { (result ≡ Err NoLower) ↔ (length stack.now.layers ≡ 1) }
         ensures other { IfErr result (λ fault. fault ≡ NoLower) }
-        ensures tells { IfOk result (λ _. TellsLayer (merged_entry (merge_of stack.now)) (merge_kids stack.now) (merge_out stack.now)) }
+        ensures tells { IfOk result
+            (λ _. TellsLayer (merged_entry (merge_of stack.now)) (merge_kids stack.now)
+            (merge_out stack.now)) }
     {
         if stack.ordinary() == 1 {
             return Err(MergeFault::NoLower);
@@ -90,7 +92,8 @@ impl<'a> Work for MergeWork<'a> {
     }
 }
 
-// The names in a directory of the new layer, each with its inode; none where the two layers show no directory.
+// The names in a directory of the new layer, each with its inode; none where the two layers show no
+// directory.
 fn inodes_at(alloc: Global, stack: &Stack, dir: &Path) -> Result<Vec<(Name, Inode)>, AllocError>
     requires { 1 < length stack.now.layers }
     ensures { IfOk result (λ inodes. inodes.items ≡ entries_in (merge_of stack.now) dir.now) }
@@ -111,7 +114,8 @@ fn inodes_in(
 ) -> Result<Vec<(Name, Inode)>, AllocError>
     requires several { 1 < length stack.now.layers }
     requires visited { IsVisited stack.now directory.now.path directory.now }
-    ensures { IfOk result (λ inodes. inodes.items ≡ entries_in (merge_of stack.now) directory.now.path) }
+    ensures { IfOk result
+        (λ inodes. inodes.items ≡ entries_in (merge_of stack.now) directory.now.path) }
 {
     let hidden = hidden_names(alloc, stack, directory)?;
     let candidates = candidates_in(alloc, stack, directory, &hidden)?;

@@ -10,6 +10,7 @@ use ovl_names::Path;
 use std::alloc::Global;
 use std::test::Fail;
 
+/// The piece of this directory.
 pub(crate) fn piece(alloc: Global, text: &str) -> Result<Piece, Fail> {
     Ok(Piece {
         space: 0,
@@ -65,6 +66,7 @@ fn paths(alloc: Global, texts: &str) -> Result<Vec<Path>, Fail> {
     Ok(paths)
 }
 
+/// The tree of these paths.
 pub(crate) fn tree(alloc: Global, texts: &str) -> Result<Tree, Fail> {
     Ok(Tree::of(paths(alloc, texts)?)?)
 }
@@ -147,7 +149,8 @@ fn fault_told(alloc: Global, fault: &BoardFault) -> Result<String, Fail> {
     Ok(format!(in alloc; "{word} {path}")?)
 }
 
-// The order in which parcels of the tree of `/`, `/a` and `/b` are assembled, or the fault with its piece.
+// The order in which parcels of the tree of `/`, `/a` and `/b` are assembled, or the fault with its
+// piece.
 fn assembled(alloc: Global, parcels: Vec<Parcel<()>>) -> Result<String, Fail> {
     let lawful = checked(alloc, parcels)?;
     match assemble(alloc, &piece(alloc, "/")?, lawful) {

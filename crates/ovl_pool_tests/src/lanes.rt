@@ -8,6 +8,7 @@ use ovl_names::Path;
 use std::alloc::Global;
 use std::test::Fail;
 
+/// The seat of one lane alone.
 pub(crate) fn seat(alloc: Global) -> Result<Seat, Fail>
     ensures { IfOk result IsNew }
 {

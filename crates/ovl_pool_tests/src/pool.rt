@@ -20,14 +20,15 @@ const DEEP: &str =
 
 const LOOKS_OF_A_VISIT: u32 = 400_000_000;
 
-// How often it yields its processor where a worker is to see meanwhile that another one met a fault.
+// How often it yields its processor where a worker is to see meanwhile that another one met a
+// fault.
 const YIELDS: u32 = 50_000;
 
 // And how often where that one wasn't refused yet.
 const YIELDS_BEFORE: u32 = 10_000_000;
 
-// What a tally answers where pieces with so many kids are delivered one after another by one worker, and how many pieces
-// are known and delivered then.
+// What a tally answers where pieces with so many kids are delivered one after another by one
+// worker, and how many pieces are known and delivered then.
 fn deliver_by<K: Ledger, D: Ledger>(
     alloc: Global,
     kids: Blank,
@@ -70,7 +71,8 @@ fn a_tally_notes_each_known_piece_once_and_no_more_than_it_can_count(
     )
 }
 
-// Workers, and the parcels of a run over the small tree with its own numbers; or what is told of its fault.
+// Workers, and the parcels of a run over the small tree with its own numbers; or what is told of
+// its fault.
 const RUNS: &str = "\
 0 -> there are 1 to 64 workers
 1 -> 3 RunCount { known: 3, delivered: 3, taken: 3, left: 0 }

@@ -55,7 +55,8 @@ fn two_stealing<R: Threads + Sync>(
 ) -> Result<(Pass, Pass, Vec<Piece>), AllocError>
     requires first { IsPass (thief_id thief.now) first }
     requires second { IsPass (thief_id thief.now) second }
-    ensures { IfOk result (λ ended. IsPass (thief_id thief.now) ended.0 × IsPass (thief_id thief.now) ended.1) }
+    ensures { IfOk result
+        (λ ended. IsPass (thief_id thief.now) ended.0 × IsPass (thief_id thief.now) ended.1) }
 {
     let (one, other) = join(
         rt,
@@ -85,7 +86,8 @@ fn three_stealing<R: Threads + Sync>(
     requires first { IsPass (thief_id thief.now) first }
     requires second { IsPass (thief_id thief.now) second }
     requires third { IsPass (thief_id thief.now) third }
-    ensures { IfOk result (λ ended. IsPass (thief_id thief.now) ended.0 × IsPass (thief_id thief.now) ended.1
+    ensures { IfOk result
+        (λ ended. IsPass (thief_id thief.now) ended.0 × IsPass (thief_id thief.now) ended.1
         × IsPass (thief_id thief.now) ended.2) }
 {
     let (one, others) = join(
@@ -95,7 +97,8 @@ fn three_stealing<R: Threads + Sync>(
             ensures { IfOk result (λ ended. IsPass (thief_id thief.entry.now) ended.0) }
         { stealing(alloc, thief, first) },
         || -> Result<(Pass, Pass, Vec<Piece>), AllocError>
-            requires { IsSync R.row × IsPass (thief_id thief.now) second × IsPass (thief_id thief.now) third }
+            requires { IsSync R.row × IsPass (thief_id thief.now) second
+                × IsPass (thief_id thief.now) third }
             ensures { IfOk result (λ ended. IsPass (thief_id thief.entry.now) ended.0
                 × IsPass (thief_id thief.entry.now) ended.1) }
         { two_stealing(rt, alloc, thief, second, third) },
@@ -126,14 +129,17 @@ fn hammered<R: Threads + Sync>(
         rt,
         || -> Result<Lane, AllocError>
             ensures same { IfOk result (λ ended. IsSameLane lane ended) }
-            ensures passes { IfOk result (λ ended. ((account_of ended).split ≡ (account_of lane).split)
+            ensures passes { IfOk result
+                (λ ended. ((account_of ended).split ≡ (account_of lane).split)
                 × ((account_of ended).joined ≡ (account_of lane).joined)) }
         { pushing(alloc, lane) },
         || -> Result<(Pass, Pass, Pass, Vec<Piece>), AllocError>
-            requires { IsSync R.row × IsPass (thief_id thief.now) first × IsPass (thief_id thief.now) second
+            requires { IsSync R.row × IsPass (thief_id thief.now) first
+                × IsPass (thief_id thief.now) second
                 × IsPass (thief_id thief.now) third }
             ensures { IfOk result (λ ended. IsPass (thief_id thief.entry.now) ended.0
-                × IsPass (thief_id thief.entry.now) ended.1 × IsPass (thief_id thief.entry.now) ended.2) }
+                × IsPass (thief_id thief.entry.now) ended.1
+                × IsPass (thief_id thief.entry.now) ended.2) }
         { three_stealing(rt, alloc, thief, first, second, third) },
     );
     let mut lane = ended?;

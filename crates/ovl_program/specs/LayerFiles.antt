@@ -18,20 +18,25 @@ IsLayerFile folder count path = (index : ℕ) × ((index < count) × (path ≡ l
 
 -- the same in the folder for new layers, where there is one
 abbrev pub IsOutFile : Option (String Global) → ℕ → List ℕ → Type 0
-IsOutFile out count path = (folder : String Global) × ((out ≡ Some folder) × IsLayerFile (string_bytes folder) count path)
+IsOutFile out count path =
+    (folder : String Global) × ((out ≡ Some folder) × IsLayerFile (string_bytes folder) count path)
 
--- a part of an answer isn't written whole: the report, of whose bytes fewer are; or a new layer, and nothing of the report is
+-- a part of an answer isn't written whole: the report, of whose bytes fewer are; or a new layer,
+-- and nothing of the report is
 abbrev pub IsLeftOut : Answer → Option (List ℕ) → Option (List ℕ) → OutFault → Type 0
 IsLeftOut answer before after fault =
     ((fault.part ≡ length answer.layers.items)
-    × ((fault.written < length answer.report.items) × Appends before after (take fault.written answer.report.items)))
+    × ((fault.written < length answer.report.items)
+    × Appends before after (take fault.written answer.report.items)))
     ⊎ ((fault.part < length answer.layers.items) × Keeps before after)
 
--- the program's fault where an answer isn't written whole: fewer bytes of the report are; or nothing of it, where a new layer
--- isn't written whole, or memory runs out
-abbrev pub IsUnfinished : List ℕ → Answer → Option (List ℕ) → Option (List ℕ) → ProgramFault → Type 0
+-- the program's fault where an answer isn't written whole: fewer bytes of the report are; or
+-- nothing of it, where a new layer isn't written whole, or memory runs out
+abbrev pub IsUnfinished : List ℕ → Answer → Option (List ℕ) → Option (List ℕ) → ProgramFault
+    → Type 0
 IsUnfinished folder answer before after Output =
-    (count : ℕ) × ((count < length answer.report.items) × Appends before after (take count answer.report.items))
+    (count : ℕ)
+    × ((count < length answer.report.items) × Appends before after (take count answer.report.items))
 IsUnfinished folder answer before after (Unwritten path) =
     IsLayerFile folder (length answer.layers.items) (string_bytes path) × Keeps before after
 IsUnfinished folder answer before after (Engine fault) = IsMemory fault × Keeps before after

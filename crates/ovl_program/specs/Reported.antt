@@ -40,32 +40,37 @@ IsComingDown (Some left) request result = IsOutcomeDown left request refuses_not
 
 abbrev pub IsComingDownOver : Option ℕ → Request → Result Answer EngineFault → Type 0
 IsComingDownOver None request result = IsComingOver request result
-IsComingDownOver (Some left) request result = IsOutcomeDownTold left request anything refuses_nothing result
+IsComingDownOver (Some left) request result =
+    IsOutcomeDownTold left request anything refuses_nothing result
 
 -- the fault is told by a report
 abbrev pub has_report : EngineFault → Bool
 has_report (FaultyLayers report) = true
 has_report _ = false
 
--- what is told of a command of which this may come, and how the program ends: its answer's report; or where it is refused for
--- faults, theirs
+-- what is told of a command of which this may come, and how the program ends: its answer's report;
+-- or where it is refused for faults, theirs
 abbrev pub IsTold : (Result Answer EngineFault → Type 0) → List ℕ → Ending → Type 0
 IsTold may_come report ending =
-    ((answer : Answer) × (may_come (Ok answer) × ((report ≡ answer.report.items) × (ending ≡ ending_of answer.clean))))
+    ((answer : Answer)
+    × (may_come (Ok answer) × ((report ≡ answer.report.items) × (ending ≡ ending_of answer.clean))))
     ⊎ ((faults : Vec ℕ Global) × (may_come (Err (FaultyLayers faults))
     × ((report ≡ faults.items) × (ending ≡ Faulty))))
 
--- what comes of a command of which this may come, whose report goes to a writer, and whose new layers go to a folder if there
--- is one: the whole report is written; or where a write fails, fewer of its bytes; or nothing, where a new layer isn't written,
--- memory runs out or there is no answer
-abbrev pub IsReported : (Result Answer EngineFault → Type 0) → Option (String Global) → Option (List ℕ) → Option (List ℕ) → Result Ending ProgramFault → Type 0
+-- what comes of a command of which this may come, whose report goes to a writer, and whose new
+-- layers go to a folder if there is one: the whole report is written; or where a write fails, fewer
+-- of its bytes; or nothing, where a new layer isn't written, memory runs out or there is no answer
+abbrev pub IsReported : (Result Answer EngineFault → Type 0) → Option (String Global)
+    → Option (List ℕ) → Option (List ℕ) → Result Ending ProgramFault → Type 0
 IsReported may_come out before after (Ok ending) =
     (report : List ℕ) × (IsTold may_come report ending × Appends before after report)
 IsReported may_come out before after (Err Output) =
     (report : List ℕ) × (ending : Ending) × (count : ℕ) × (IsTold may_come report ending
     × ((count < length report) × Appends before after (take count report)))
 IsReported may_come out before after (Err (Unwritten path)) =
-    ((answer : Answer) × (may_come (Ok answer) × IsOutFile out (length answer.layers.items) (string_bytes path))) × Keeps before after
+    ((answer : Answer)
+    × (may_come (Ok answer) × IsOutFile out (length answer.layers.items) (string_bytes path)))
+    × Keeps before after
 IsReported may_come out before after (Err (Engine fault)) =
     (IsMemory fault ⊎ (may_come (Err fault) × (has_report fault ≡ false))) × Keeps before after
 IsReported may_come out before after (Err (Usage text)) = ⊥
@@ -75,4 +80,11 @@ IsReported may_come out before after (Err (Unread path)) = ⊥
 
 -- what is asked of one manifest alone: what its layer shows
 abbrev pub input_request : List ℕ → Request
-input_request manifest = record { what = Show; manifests = manifest ∷ []; bottom = 0; blobs = []; workers = default_workers }
+input_request manifest = record {
+  what = Show;
+  manifests = manifest
+      ∷ [];
+  bottom = 0;
+  blobs = [];
+  workers = default_workers;
+}

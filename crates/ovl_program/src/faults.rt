@@ -12,13 +12,15 @@ use thiserror::Error;
 /// Why the program ends without having printed its report.
 #[derive(Debug, PartialEq, Eq, Drop, Error)]
 pub enum ProgramFault {
-    /// The words are none of the program's; the text tells how they should be, and ends its last line itself.
+    /// The words are none of the program's; the text tells how they should be, and ends its last
+    /// line itself.
     #[error("{0}")]
     Usage(String),
     /// A word isn't UTF-8.
     #[error("words must be UTF-8")]
     Words,
-    /// Standard input can't be read, or has more than [`INPUT_LIMIT`](crate::files::reads::INPUT_LIMIT) bytes.
+    /// Standard input can't be read, or has more than
+    /// [`INPUT_LIMIT`](crate::files::reads::INPUT_LIMIT) bytes.
     #[error("cannot read standard input")]
     Input,
     /// The file or folder of this path can't be read.

@@ -1,4 +1,4 @@
-// The files that the program reads: manifests and blobs.
+/// The files that the program reads: manifests and blobs.
 pub mod blob_folder;
 pub mod blob_parts;
 pub mod folder_in_parts;

@@ -1,4 +1,5 @@
-//! The program over stacks of layers but for its `main`: words, manifests and blobs in, new layers and reports out.
+//! The program over stacks of layers but for its `main`: words, manifests and blobs in, new layers
+//! and reports out.
 #![tactic(auto)]
 
 mod faults;

@@ -1,4 +1,4 @@
-// What the program does: by the words, by a line of them, or by a manifest on standard input.
+/// What the program does: by the words, by a line of them, or by a manifest on standard input.
 pub mod arguments;
 pub mod command;
 pub mod in_parts;

@@ -2,12 +2,12 @@
 
 use std::test::Fail;
 
-// What a row asks, and what is wanted of it.
+/// What a row asks, and what is wanted of it.
 pub(crate) fn parts_of(row: &str) -> (&str, &str) {
     row.split_once(" -> ").unwrap_or((row, ""))
 }
 
-// A failure where something else was found than is wanted of a row.
+/// A failure where something else was found than is wanted of a row.
 pub(crate) fn same(row: &str, found: &str, wanted: &str) -> Result<(), Fail> {
     if found == wanted {
         return Ok(());

@@ -5,7 +5,8 @@ use ovl_program::{LineFault, line};
 use std::alloc::Global;
 use std::test::Fail;
 
-// Words with a space between them, and behind ` -> ` the line that they make, or what is told in its place.
+// Words with a space between them, and behind ` -> ` the line that they make, or what is told in
+// its place.
 const ROWS: &str = "\
 show a.json -> Line { what: Show, workers: 4, data_layers: 0, blobs: None, any_size: false, down_to: None, out: None, layers: [\"a.json\"] }
 fsck a.json -> usage

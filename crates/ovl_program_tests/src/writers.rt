@@ -1,4 +1,5 @@
-//! How an answer is handed out: its layers in order and then its report, up to the first write that fails.
+//! How an answer is handed out: its layers in order and then its report, up to the first write that
+//! fails.
 
 use crate::tables::{parts_of, same};
 use ovl_engine::{Answer, Command, command, named_blobs};
@@ -10,8 +11,9 @@ use std::sync::Wait;
 use std::test::Fail;
 use std::thread::Threads;
 
-// Whether an answer of the layers `ab` and `cd` and the report `ef` is clean, or that of a merge, and the bytes that two files
-// and the output have room for; behind ` -> ` how it is handed out, and how many bytes of their parts they took.
+// Whether an answer of the layers `ab` and `cd` and the report `ef` is clean, or that of a merge,
+// and the bytes that two files and the output have room for; behind ` -> ` how it is handed out,
+// and how many bytes of their parts they took.
 const ROWS: &str = "\
 clean 9 9 9 -> Ok(0) 2 2 2
 faulty 9 9 9 -> Ok(1) 2 2 2

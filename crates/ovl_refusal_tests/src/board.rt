@@ -27,6 +27,7 @@ const STEPS: [Event; 8] = [
     Event::Work(1),
 ];
 
+/// The root as a piece of this space.
 pub(crate) fn root_of(alloc: Global, space: u16) -> Piece
     ensures { result ≡ record { space = space; dir = [] } }
 {

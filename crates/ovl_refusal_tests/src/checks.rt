@@ -24,7 +24,9 @@ fn walks_of<'a>(
     count: u16,
 ) -> Result<Vec<Vec<Parcel<CheckOut<'a>>>>, AllocError>
     ensures count { IfOk result (λ layers. length layers.items ≡ count) }
-    ensures walks { IfOk result (λ layers. AreLayerWalks (check_view work.now) 0 (map (λ parcels. parcel_views check_seen parcels.items) layers.items)) }
+    ensures walks { IfOk result
+        (λ layers. AreLayerWalks (check_view work.now) 0
+        (map (λ parcels. parcel_views check_seen parcels.items) layers.items)) }
 {
     let mut layers = Vec::new(alloc);
     for i in 0..count {

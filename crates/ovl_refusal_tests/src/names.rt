@@ -4,7 +4,7 @@ use ovl_names::{Name, NameFault, Path, PathFault, escaped, push_escaped};
 use std::alloc::{AllocError, Global};
 use std::test::Fail;
 
-// A name that takes memory of its own.
+/// A name that takes memory of its own.
 pub(crate) const LONG: &str = "name-of-more-than-24-bytes";
 
 fn is_name_told(alloc: Global, name: &Name) -> Result<bool, AllocError> {

@@ -1,5 +1,5 @@
--- The directories of the merged tree as work: a piece is a directory, its kids are the directories in it, and its
--- output is all that is shown in it.
+-- The directories of the merged tree as work: a piece is a directory, its kids are the directories
+-- in it, and its output is all that is shown in it.
 use Rattle.std.specs.Prelude.{ℕ, ◌*◌, List, [], map, filter, length, Vec}
 use Rattle.std.specs.Global.{Global}
 use Rattle.std.specs.Coded.{Coded-set, codes}
@@ -26,14 +26,16 @@ looks_in stack dir = map (named_look stack dir) (kids_along stack dir)
 
 -- each directory's names are all those that the merged tree has in it
 abbrev pub HasAllNames : StackView → Type 0
-HasAllNames stack = (dir : PathNames) → AreKids stack dir (map (λ entry. entry.0) (looks_in stack dir))
+HasAllNames stack =
+    (dir : PathNames) → AreKids stack dir (map (λ entry. entry.0) (looks_in stack dir))
 
 -- an entry of a piece's directory as a piece, and all those that are directories
 abbrev pub piece_in : Piece → PathName → Piece
 piece_in piece name = record { space = piece.space; dir = child_path piece.dir name }
 
 abbrev pub directories_in : Piece → List NamedLook → List Piece
-directories_in piece looks = map (λ entry. piece_in piece entry.0) (filter (λ entry. is_shown_directory entry.1) looks)
+directories_in piece looks =
+    map (λ entry. piece_in piece entry.0) (filter (λ entry. is_shown_directory entry.1) looks)
 
 -- the kids of a directory are the directories in it, and its output is all that it shows
 abbrev pub show_kids : StackView → Piece → List Piece

@@ -1,4 +1,5 @@
--- The report of a new layer: a line for each entry below its root, in path order, and the number of its entries.
+-- The report of a new layer: a line for each entry below its root, in path order, and the number of
+-- its entries.
 use Rattle.std.specs.Prelude.{ℕ, Some, List, [], ◌++◌, if◌then◌else◌, length, decimal, codes}
 use Rattle.std.specs.List.{flat_map}
 use Rattle.ovl_names.specs.Paths.{is_root}
@@ -11,7 +12,8 @@ use Rattle.ovl_inode.specs.declared.marks.Redirect.TheVariants.{To, Beside}
 use Rattle.ovl_layer.specs.Layers.{Entry, Entries}
 use Rattle.ovl_reports.specs.Reports.{spaced}
 
--- the word of a mark; a malformed redirect, which no new layer has, counts as none that closes what is below
+-- the word of a mark; a malformed redirect, which no new layer has, counts as none that closes what
+-- is below
 abbrev pub mark_word : Mark → List ℕ
 mark_word Whiteout = codes "whiteout"
 mark_word DirOpaque = codes "opaque"
@@ -39,8 +41,10 @@ marked_line mark path = spaced (mark_word mark) ++ path ++ redirect_end mark ++ 
 
 -- the line of an entry; none for the root
 abbrev pub entry_line : Entry → List ℕ
-entry_line entry = if is_root entry.0 then [] else marked_line (mark_of entry.1) (shown_path entry.0)
+entry_line entry =
+    if is_root entry.0 then [] else marked_line (mark_of entry.1) (shown_path entry.0)
 
 -- the lines, and then `entries N`, the root counted
 abbrev pub layer_report : Entries → List ℕ
-layer_report entries = flat_map entry_line entries ++ codes "entries " ++ decimal (length entries) ++ codes "\n"
+layer_report entries =
+    flat_map entry_line entries ++ codes "entries " ++ decimal (length entries) ++ codes "\n"

@@ -23,7 +23,8 @@ pub record IsShowReport (stack : StackView) (report : List ℕ) : Type 0 where
   pub printed : report ≡ show_report looks
 
 -- this is what the stack shows at `/`, and these are the parcels of the walk over its merged tree
-pub record IsTreeOf (stack : StackView) (root : Look) (parcels : List (ParcelView (List NamedLook))) : Type 0 where
+pub record IsTreeOf (stack : StackView) (root : Look)
+    (parcels : List (ParcelView (List NamedLook))) : Type 0 where
   pub each : All IsLayer stack.layers
   pub some : 0 < length stack.layers
   pub root_is : root ≡ look stack []
@@ -33,9 +34,10 @@ pub record IsTreeOf (stack : StackView) (root : Look) (parcels : List (ParcelVie
 abbrev pub name_line : List ℕ → NamedLook → List ℕ
 name_line above entry = look_line (above ++ (codes "/" ++ escaped entry.0)) entry.1
 
--- of these entries of a directory the first ones are told, none of which is a directory, and the others are left; those
--- from number `first` on have their lines
-pub record TellsLeaves (first : ℕ) (above : List ℕ) (entries left : List NamedLook) (told told' : ℕ) (lines lines' : List ℕ) : Type 0 where
+-- of these entries of a directory the first ones are told, none of which is a directory, and the
+-- others are left; those from number `first` on have their lines
+pub record TellsLeaves (first : ℕ) (above : List ℕ) (entries left : List NamedLook) (told told' : ℕ)
+    (lines lines' : List ℕ) : Type 0 where
   pub leaves : List NamedLook
   pub all : entries ≡ leaves ++ left
   pub are : All (λ entry. is_shown_directory entry.1 ≡ false) leaves
@@ -44,4 +46,6 @@ pub record TellsLeaves (first : ℕ) (above : List ℕ) (entries left : List Nam
 
 -- the first of these entries, if there is one, is a directory
 abbrev pub StartsAtDirectory : List NamedLook → Type 0
-StartsAtDirectory entries = (entry : NamedLook) (others : List NamedLook) → entries ≡ entry ∷ others → is_shown_directory entry.1 ≡ true
+StartsAtDirectory entries =
+    (entry : NamedLook) (others : List NamedLook) → entries ≡ entry ∷ others
+    → is_shown_directory entry.1 ≡ true

@@ -18,7 +18,9 @@ abbrev pub octal_digit : ℕ → ℕ
 octal_digit number = 48 + number % 8
 
 abbrev pub octal : ℕ → List ℕ
-octal mode = octal_digit (mode / 512) ∷ octal_digit (mode / 64) ∷ octal_digit (mode / 8) ∷ octal_digit mode ∷ []
+octal mode =
+    octal_digit (mode / 512) ∷ octal_digit (mode / 64) ∷ octal_digit (mode / 8) ∷ octal_digit mode
+    ∷ []
 
 -- nine digits of a number, the first ones zeros where it has fewer
 abbrev pub nine_digits : ℕ → List ℕ
@@ -26,14 +28,16 @@ nine_digits number = replicate (9 - length (decimal number)) 48 ++ decimal numbe
 
 -- the seconds of a time, and where it has nanoseconds `+` and nine digits of them
 abbrev pub time_word : ℤ → ℕ → List ℕ
-time_word seconds nsec = signed_decimal seconds ++ (if nsec == 0 then [] else codes "+" ++ nine_digits nsec)
+time_word seconds nsec =
+    signed_decimal seconds ++ (if nsec == 0 then [] else codes "+" ++ nine_digits nsec)
 
 -- files alone have a size
 abbrev pub size_word : Kind → List ℕ
 size_word (File size blob) = decimal size
 size_word _ = codes "-"
 
--- the digest of a file's contents, `missing` where it is `broken`, a metacopy file without its data, and `-` where it is empty
+-- the digest of a file's contents, `missing` where it is `broken`, a metacopy file without its
+-- data, and `-` where it is empty
 abbrev pub blob_word : Bool → Option Digest → List ℕ
 blob_word true blob = codes "missing"
 blob_word false (Some blob) = encode_lower blob
@@ -63,11 +67,13 @@ shown_names dir = flat_map (λ own. codes "/" ++ escaped own) dir
 abbrev pub spaced : List ℕ → List ℕ
 spaced word = word ++ codes " "
 
--- `KIND MODE UID GID MTIME SIZE WHAT PATH`, and then ` NAME=HEX` for each attribute, by the text of the path
+-- `KIND MODE UID GID MTIME SIZE WHAT PATH`, and then ` NAME=HEX` for each attribute, by the text of
+-- the path
 abbrev pub line_of : Bool → List ℕ → Inode → List ℕ
 line_of broken path inode =
     spaced (kind_word inode.kind) ++ spaced (octal inode.mode)
-    ++ spaced (decimal inode.uid) ++ spaced (decimal inode.gid) ++ spaced (time_word inode.mtime inode.nsec)
+    ++ spaced (decimal inode.uid) ++ spaced (decimal inode.gid)
+    ++ spaced (time_word inode.mtime inode.nsec)
     ++ spaced (size_word inode.kind) ++ spaced (what_word broken inode.kind)
     ++ path ++ flat_map attribute_word inode.attrs ++ codes "\n"
 
@@ -86,4 +92,5 @@ show_line entry = look_line (shown_path entry.0) entry.1
 
 -- the lines, and then `entries N`
 abbrev pub show_report : List (PathNames × Look) → List ℕ
-show_report looks = flat_map show_line looks ++ codes "entries " ++ decimal (length looks) ++ codes "\n"
+show_report looks =
+    flat_map show_line looks ++ codes "entries " ++ decimal (length looks) ++ codes "\n"

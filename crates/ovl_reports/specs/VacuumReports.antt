@@ -1,4 +1,5 @@
--- The report of `vacuum`: a line for each path that is removed, in path order, and how many went and how many are left.
+-- The report of `vacuum`: a line for each path that is removed, in path order, and how many went
+-- and how many are left.
 use Rattle.std.specs.Prelude.{ℕ, List, ◌++◌, length, decimal, codes}
 use Rattle.std.specs.List.{flat_map}
 use Rattle.ovl_names.specs.Paths.{PathNames}

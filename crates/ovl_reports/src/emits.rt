@@ -12,8 +12,8 @@ pub struct EmitFault {
     pub written: usize,
 }
 
-/// Writes the bytes, all of them at Ok and those that the fault counts otherwise. A write that was interrupted is
-/// tried again. Nothing is flushed, and no memory is taken.
+/// Writes the bytes, all of them at Ok and those that the fault counts otherwise. A write that was
+/// interrupted is tried again. Nothing is flushed, and no memory is taken.
 pub fn emit<W: Write>(writer: &mut W, bytes: &[u8]) -> Result<(), EmitFault>
     ensures { MatchResult result
         (λ _. Appends (W.contents writer.old) (W.contents writer.new) bytes.now)

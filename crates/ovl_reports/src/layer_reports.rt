@@ -15,8 +15,8 @@ use ovl_layer::{Layer, Node};
 use ovl_names::push_escaped;
 use std::alloc::{AllocError, Global};
 
-/// The report of a new layer: a line for each entry below its root, in their order, by what it means to the overlay, and
-/// the number of all entries. Fails only when out of memory.
+/// The report of a new layer: a line for each entry below its root, in their order, by what it
+/// means to the overlay, and the number of all entries. Fails only when out of memory.
 pub fn layer_report_of(alloc: Global, layer: &Layer) -> Result<Vec<u8>, AllocError>
     ensures value { IfOk result (λ report. report.items ≡ layer_report layer.now) }
     ensures layer { OnOk result (IsLayer layer.now) }
@@ -29,15 +29,19 @@ pub fn layer_report_of(alloc: Global, layer: &Layer) -> Result<Vec<u8>, AllocErr
     Ok(report.into_bytes())
 }
 
-// Appends the lines of the entries at and under a node; `above` is the text of the path up to its name.
+// Appends the lines of the entries at and under a node; `above` is the text of the path up to its
+// name.
 fn push_under(
     alloc: Global,
     report: &mut String,
     above: &str,
     node: &Node,
 ) -> Result<(), AllocError>
-    ensures { OnOk result ((dir : PathNames) → above.now ≡ shown_names dir → string_bytes report.new ≡ string_bytes report.old
-        ++ flat_map entry_line (placed (child_path dir node.now.name) (entries_from node.now.inode node.now.below))) }
+    ensures { OnOk result
+        ((dir : PathNames) → above.now ≡ shown_names dir
+        → string_bytes report.new ≡ string_bytes report.old
+        ++ flat_map entry_line
+        (placed (child_path dir node.now.name) (entries_from node.now.inode node.now.below))) }
 {
     let name = node.name().as_str();
     push_entry(alloc, report, above, name, node.inode())?;
@@ -65,7 +69,8 @@ pub fn entry_count(layer: &Layer) -> Result<u64, AllocError>
 
 // Counts the entries at and under a node.
 fn count_under(node: &Node, entries: &mut u64) -> Result<(), AllocError>
-    ensures { OnOk result (entries.new ≡ entries.old + length (entries_from node.now.inode node.now.below)) }
+    ensures { OnOk result
+        (entries.new ≡ entries.old + length (entries_from node.now.inode node.now.below)) }
 {
     *entries = one_more(*entries)?;
     for child in node.children() {
@@ -107,7 +112,8 @@ fn mark_word(mark: &Mark) -> &'static str
 
 // Appends the redirect of a mark that has one, and a space before it.
 fn push_redirect_of(alloc: Global, report: &mut String, mark: &Mark) -> Result<(), AllocError>
-    ensures { OnOk result (string_bytes report.new ≡ string_bytes report.old ++ redirect_end mark.now) }
+    ensures { OnOk result
+        (string_bytes report.new ≡ string_bytes report.old ++ redirect_end mark.now) }
 {
     match mark {
         Mark::DirMoved(redirect) | Mark::Meta(Some(redirect)) => {
@@ -119,7 +125,8 @@ fn push_redirect_of(alloc: Global, report: &mut String, mark: &Mark) -> Result<(
 }
 
 fn push_redirect(alloc: Global, report: &mut String, redirect: &Redirect) -> Result<(), AllocError>
-    ensures { OnOk result (string_bytes report.new ≡ string_bytes report.old ++ redirect_word redirect.now) }
+    ensures { OnOk result
+        (string_bytes report.new ≡ string_bytes report.old ++ redirect_word redirect.now) }
 {
     match redirect {
         Redirect::To(path) => push_path(alloc, report, path),

@@ -20,11 +20,13 @@ use ovl_names::Name;
 use std::alloc::{AllocError, Global};
 use std::thread::{Threads, map_indices};
 
-// The room that is made for each line: most take less. A text that has to grow may lie in memory twice.
+// The room that is made for each line: most take less. A text that has to grow may lie in memory
+// twice.
 const LINE_ROOM: usize = 160;
 
-/// The report of `show` of the whole merged tree, with no list of its paths: see [`crate::report_of`].
-/// The parcels are the plain walk of the work from `/` of space 0. Fails only when out of memory.
+/// The report of `show` of the whole merged tree, with no list of its paths: see
+/// [`crate::report_of`]. The parcels are the plain walk of the work from `/` of space 0. Fails only
+/// when out of memory.
 pub fn report_of_walk(
     alloc: Global,
     work: &ShowWork<'_>,
@@ -44,7 +46,9 @@ fn report_of_tree(
     root: &Look,
     parcels: &[Parcel<Vec<(Name, Look)>>],
 ) -> Result<Vec<u8>, AllocError>
-    ensures { IfOk result (λ report. (stack : StackView) → IsTreeOf stack root.now (parcel_views (λ looks. looks.items) parcels.now)
+    ensures { IfOk result
+        (λ report. (stack : StackView)
+        → IsTreeOf stack root.now (parcel_views (λ looks. looks.items) parcels.now)
         → IsShowReport stack report.items) }
 {
     let entries = entries_of(parcels)?;
@@ -53,8 +57,9 @@ fn report_of_tree(
     Ok(report.into_bytes())
 }
 
-/// The report of `show` by what is shown at `/` and the parcels of the walk, written by at most as many threads as there
-/// are workers: each writes a share of the lines. The parcels are let go while these are put together.
+/// The report of `show` by what is shown at `/` and the parcels of the walk, written by at most as
+/// many threads as there are workers: each writes a share of the lines. The parcels are let go
+/// while these are put together.
 pub fn report_by<R: Threads + Sync>(
     rt: &R,
     alloc: Global,
@@ -63,7 +68,9 @@ pub fn report_by<R: Threads + Sync>(
     workers: usize,
 ) -> Result<Vec<u8>, AllocError>
     requires { 0 < workers }
-    ensures { IfOk result (λ report. (stack : StackView) → IsTreeOf stack root.now (parcel_views (λ looks. looks.items) parcels.items)
+    ensures { IfOk result
+        (λ report. (stack : StackView)
+        → IsTreeOf stack root.now (parcel_views (λ looks. looks.items) parcels.items)
         → IsShowReport stack report.items) }
 {
     let walk = parcels.as_slice();
@@ -82,9 +89,11 @@ pub fn report_by<R: Threads + Sync>(
     Ok(report.into_bytes())
 }
 
-// The number of all paths: `/`, and what stands in the directories. Memory can't hold as many as have none.
+// The number of all paths: `/`, and what stands in the directories. Memory can't hold as many as
+// have none.
 fn entries_of(parcels: &[Parcel<Vec<(Name, Look)>>]) -> Result<usize, AllocError>
-    ensures { IfOk result (λ entries. entries ≡ 1 + sum_by (λ parcel. length parcel.out.items) parcels.now) }
+    ensures { IfOk result
+        (λ entries. entries ≡ 1 + sum_by (λ parcel. length parcel.out.items) parcels.now) }
 {
     let mut entries: usize = 1;
     for parcel in parcels {
@@ -93,7 +102,8 @@ fn entries_of(parcels: &[Parcel<Vec<(Name, Look)>>]) -> Result<usize, AllocError
     Ok(entries)
 }
 
-// The lines of the first paths, in so many shares of `share` lines at most; each is written by a thread of its own.
+// The lines of the first paths, in so many shares of `share` lines at most; each is written by a
+// thread of its own.
 fn parts_by<R: Threads + Sync>(
     rt: &R,
     alloc: Global,
@@ -103,13 +113,19 @@ fn parts_by<R: Threads + Sync>(
     shares: usize,
 ) -> Result<Vec<Result<String, AllocError>>, AllocError>
     requires { 0 < share }
-    ensures { IfOk result (λ parts. (stack : StackView) → IsTreeOf stack root.now (parcel_views (λ looks. looks.items) parcels.now)
-        → (whole : List ℕ) → AreJoined string_bytes parts.items whole → whole ≡ flat_map show_line (take (shares * share) (merged_tree stack))) }
+    ensures { IfOk result
+        (λ parts. (stack : StackView)
+        → IsTreeOf stack root.now (parcel_views (λ looks. looks.items) parcels.now)
+        → (whole : List ℕ) → AreJoined string_bytes parts.items whole
+        → whole ≡ flat_map show_line (take (shares * share) (merged_tree stack))) }
 {
     let write = |index: usize| -> Result<String, AllocError>
         requires { 0 < share }
-        ensures { IfOk result (λ lines. (stack : StackView) → IsTreeOf stack root.entry.now (parcel_views (λ looks. looks.items) parcels.entry.now)
-            → string_bytes lines ≡ flat_map show_line (slice_chunk (merged_tree stack) share index)) }
+        ensures { IfOk result
+            (λ lines. (stack : StackView)
+            → IsTreeOf stack root.entry.now (parcel_views (λ looks. looks.items) parcels.entry.now)
+            → string_bytes lines
+            ≡ flat_map show_line (slice_chunk (merged_tree stack) share index)) }
     { lines_of_share(alloc, root, parcels, index, share) };
     let parts = map_indices(rt, alloc, shares, &write)?;
     Ok(parts)
@@ -124,14 +140,17 @@ fn lines_of_share(
     share: usize,
 ) -> Result<String, AllocError>
     requires { 0 < share }
-    ensures { IfOk result (λ lines. (stack : StackView) → IsTreeOf stack root.now (parcel_views (λ looks. looks.items) parcels.now)
+    ensures { IfOk result
+        (λ lines. (stack : StackView)
+        → IsTreeOf stack root.now (parcel_views (λ looks. looks.items) parcels.now)
         → string_bytes lines ≡ flat_map show_line (slice_chunk (merged_tree stack) share index)) }
 {
     let first = index.checked_mul(share).ok_or(AllocError)?;
     lines_from(alloc, root, parcels, first, share)
 }
 
-// The lines of the paths of the merged tree from number `first` on, `share` at most; `/` has number 0.
+// The lines of the paths of the merged tree from number `first` on, `share` at most; `/` has number
+// 0.
 fn lines_from(
     alloc: Global,
     root: &Look,
@@ -140,7 +159,9 @@ fn lines_from(
     share: usize,
 ) -> Result<String, AllocError>
     requires { 0 < share }
-    ensures { IfOk result (λ lines. (stack : StackView) → IsTreeOf stack root.now (parcel_views (λ looks. looks.items) parcels.now)
+    ensures { IfOk result
+        (λ lines. (stack : StackView)
+        → IsTreeOf stack root.now (parcel_views (λ looks. looks.items) parcels.now)
         → string_bytes lines ≡ flat_map show_line (take share (drop first (merged_tree stack)))) }
 {
     let end = first.checked_add(share).ok_or(AllocError)?;
@@ -168,8 +189,8 @@ fn lines_from(
     Ok(lines)
 }
 
-// A directory whose entries are being told: its parcel, how many of them are told, and what stands before each of
-// their names in a report.
+// A directory whose entries are being told: its parcel, how many of them are told, and what stands
+// before each of their names in a report.
 #[derive(Drop)]
 struct Open<'a> {
     parcel: &'a Parcel<Vec<(Name, Look)>>,
@@ -183,9 +204,11 @@ fn enter<'a>(
     parcels: &'a [Parcel<Vec<(Name, Look)>>],
     text: String,
 ) -> Result<&'a [Parcel<Vec<(Name, Look)>>], AllocError>
-    ensures next { IfOk result (λ rest. (parcel : ShowParcel) (others : List ShowParcel) → parcels.now ≡ parcel ∷ others
+    ensures next { IfOk result
+        (λ rest. (parcel : ShowParcel) (others : List ShowParcel) → parcels.now ≡ parcel ∷ others
         → (rest.now ≡ others) × ((last : Open) × ((opened.new.items ≡ opened.old.items ++ last ∷ [])
-        × (last.parcel.now ≡ parcel) × (last.told ≡ 0) × (string_bytes last.text ≡ string_bytes text)))) }
+        × (last.parcel.now ≡ parcel) × (last.told ≡ 0)
+        × (string_bytes last.text ≡ string_bytes text)))) }
     ensures few { IfOk result (λ _. length opened.new.items ≤ length opened.old.items + 1) }
 {
     let Some((parcel, rest)) = parcels.split_first() else {
@@ -199,8 +222,8 @@ fn enter<'a>(
     Ok(rest)
 }
 
-// Tells what isn't a directory in an open directory, up to what is one: appends the lines from number `first` on. So many
-// paths are told before; gives how many are told then, `end` at most.
+// Tells what isn't a directory in an open directory, up to what is one: appends the lines from
+// number `first` on. So many paths are told before; gives how many are told then, `end` at most.
 fn push_leaves(
     alloc: Global,
     lines: &mut String,
@@ -211,11 +234,16 @@ fn push_leaves(
 ) -> Result<usize, AllocError>
     requires { told ≤ end }
     ensures leaves { IfOk result (λ number. TellsLeaves first (string_bytes directory.old.text)
-        (drop directory.old.told directory.old.parcel.now.out.items) (drop directory.new.told directory.old.parcel.now.out.items)
+        (drop directory.old.told directory.old.parcel.now.out.items)
+        (drop directory.new.told directory.old.parcel.now.out.items)
         told number (string_bytes lines.old) (string_bytes lines.new)) }
     ensures within { IfOk result (λ number. number ≤ end) }
-    ensures next { IfOk result (λ number. number < end → StartsAtDirectory (drop directory.new.told directory.old.parcel.now.out.items)) }
-    ensures same { OnOk result ((directory.new.parcel ≡ directory.old.parcel) × (directory.new.text ≡ directory.old.text)) }
+    ensures next { IfOk result
+        (λ number. number < end
+        → StartsAtDirectory (drop directory.new.told directory.old.parcel.now.out.items)) }
+    ensures same { OnOk result
+        ((directory.new.parcel ≡ directory.old.parcel)
+        × (directory.new.text ≡ directory.old.text)) }
 {
     let mut number = told;
     while let Some((name, look)) = directory.parcel.out.get(directory.told) {
@@ -236,16 +264,17 @@ fn push_leaves(
     Ok(number)
 }
 
-// The next number: memory can't hold as many paths as have none.
+/// The next number: memory can't hold as many paths as have none.
 pub(crate) fn one_more(entries: u64) -> Result<u64, AllocError>
     ensures { IfOk result (λ more. more ≡ entries + 1) }
 {
     entries.checked_add(1).ok_or(AllocError)
 }
 
-// What stands before the names in a directory, by what stands before its own name.
+/// What stands before the names in a directory, by what stands before its own name.
 pub(crate) fn text_of(alloc: Global, above: &str, name: &str) -> Result<String, AllocError>
-    ensures { IfOk result (λ text. string_bytes text ≡ above.now ++ (codes "/" ++ escaped_text name.now)) }
+    ensures { IfOk result
+        (λ text. string_bytes text ≡ above.now ++ (codes "/" ++ escaped_text name.now)) }
 {
     // Few names have characters that are escaped.
     let room = above.len().saturating_add(1).saturating_add(name.len());
@@ -264,7 +293,8 @@ fn push_wanted(
     look: &Look,
 ) -> Result<(), AllocError>
     ensures { OnOk result (string_bytes report.new ≡ string_bytes report.old
-        ++ (if wanted then look_line (above.now ++ (codes "/" ++ escaped_text name.now)) look.now else [])) }
+        ++ (if wanted then look_line (above.now ++ (codes "/" ++ escaped_text name.now)) look.now
+        else [])) }
 {
     if !wanted {
         return Ok(());
@@ -280,7 +310,10 @@ fn push_look(
     name: &str,
     look: &Look,
 ) -> Result<(), AllocError>
-    ensures { OnOk result (string_bytes report.new ≡ string_bytes report.old ++ look_line (above.now ++ (codes "/" ++ escaped_text name.now)) look.now) }
+    ensures { OnOk result
+        (string_bytes report.new
+        ≡ string_bytes report.old
+        ++ look_line (above.now ++ (codes "/" ++ escaped_text name.now)) look.now) }
 {
     match look {
         Look::Shown(inode) => push_entry(alloc, report, above, name, inode, false),
@@ -297,7 +330,10 @@ fn push_entry(
     inode: &Inode,
     broken: bool,
 ) -> Result<(), AllocError>
-    ensures { OnOk result (string_bytes report.new ≡ string_bytes report.old ++ line_of broken (above.now ++ (codes "/" ++ escaped_text name.now)) inode.now) }
+    ensures { OnOk result
+        (string_bytes report.new
+        ≡ string_bytes report.old
+        ++ line_of broken (above.now ++ (codes "/" ++ escaped_text name.now)) inode.now) }
 {
     push_status(report, inode)?;
     push_contents(alloc, report, &inode.kind, broken)?;
@@ -306,14 +342,16 @@ fn push_entry(
     report.push_str("\n")
 }
 
-// Appends the text of a path, of which `above` is the text up to its last name.
+/// Appends the text of a path, of which `above` is the text up to its last name.
 pub(crate) fn push_place(
     alloc: Global,
     report: &mut String,
     above: &str,
     name: &str,
 ) -> Result<(), AllocError>
-    ensures { OnOk result (string_bytes report.new ≡ string_bytes report.old ++ (above.now ++ (codes "/" ++ escaped_text name.now))) }
+    ensures { OnOk result
+        (string_bytes report.new
+        ≡ string_bytes report.old ++ (above.now ++ (codes "/" ++ escaped_text name.now))) }
 {
     report.push_str(above)?;
     push_name(alloc, report, name)

@@ -26,16 +26,19 @@ pub fn report_of(alloc: Global, looks: &[(Path, Look)]) -> Result<Vec<u8>, Alloc
     Ok(report.into_bytes())
 }
 
-// Appends the last line, by the number of paths.
+/// Appends the last line, by the number of paths.
 pub(crate) fn push_count(report: &mut String, entries: u64) -> Result<(), AllocError>
-    ensures { OnOk result (string_bytes report.new ≡ string_bytes report.old ++ codes "entries " ++ decimal entries ++ codes "\n") }
+    ensures { OnOk result
+        (string_bytes report.new
+        ≡ string_bytes report.old ++ codes "entries " ++ decimal entries ++ codes "\n") }
 {
     report.push_str("entries ")?;
     push_number(report, entries)?;
     report.push_str("\n")
 }
 
-// Appends the line of a path with an inode, `broken` where that is a metacopy file without its data.
+// Appends the line of a path with an inode, `broken` where that is a metacopy file without its
+// data.
 fn push_line(
     alloc: Global,
     report: &mut String,
@@ -43,7 +46,9 @@ fn push_line(
     inode: &Inode,
     broken: bool,
 ) -> Result<(), AllocError>
-    ensures { OnOk result (string_bytes report.new ≡ string_bytes report.old ++ inode_line broken path.now inode.now) }
+    ensures { OnOk result
+        (string_bytes report.new
+        ≡ string_bytes report.old ++ inode_line broken path.now inode.now) }
 {
     push_status(report, inode)?;
     push_contents(alloc, report, &inode.kind, broken)?;
@@ -52,11 +57,12 @@ fn push_line(
     report.push_str("\n")
 }
 
-// The kind, the mode, the owner, the group and the time, with a space after each.
+/// The kind, the mode, the owner, the group and the time, with a space after each.
 pub(crate) fn push_status(report: &mut String, inode: &Inode) -> Result<(), AllocError>
     ensures { OnOk result (string_bytes report.new ≡ string_bytes report.old
         ++ (spaced (kind_word inode.now.kind) ++ spaced (octal inode.now.mode)
-        ++ spaced (decimal inode.now.uid) ++ spaced (decimal inode.now.gid) ++ spaced (time_word inode.now.mtime inode.now.nsec))) }
+        ++ spaced (decimal inode.now.uid) ++ spaced (decimal inode.now.gid)
+        ++ spaced (time_word inode.now.mtime inode.now.nsec))) }
 {
     push_word(report, inode.kind.word())?;
     push_mode(report, inode.mode)?;
@@ -75,7 +81,8 @@ pub fn push_word(report: &mut String, word: &str) -> Result<(), AllocError>
 
 // The seconds of a time, its nanoseconds where it has any, and a space after them.
 fn push_time(report: &mut String, seconds: i64, nsec: u32) -> Result<(), AllocError>
-    ensures { OnOk result (string_bytes report.new ≡ string_bytes report.old ++ spaced (time_word seconds nsec)) }
+    ensures { OnOk result
+        (string_bytes report.new ≡ string_bytes report.old ++ spaced (time_word seconds nsec)) }
 {
     report.push_str(itoa::Buffer::new().format(seconds))?;
     if nsec != 0 {
@@ -87,7 +94,8 @@ fn push_time(report: &mut String, seconds: i64, nsec: u32) -> Result<(), AllocEr
 
 // Nine digits of a number, the first ones zeros where it has fewer.
 fn push_nine_digits(report: &mut String, number: u32) -> Result<(), AllocError>
-    ensures { OnOk result (string_bytes report.new ≡ string_bytes report.old ++ nine_digits_of number) }
+    ensures { OnOk result
+        (string_bytes report.new ≡ string_bytes report.old ++ nine_digits_of number) }
 {
     let mut buffer = itoa::Buffer::new();
     let digits = buffer.format(number);
@@ -96,7 +104,8 @@ fn push_nine_digits(report: &mut String, number: u32) -> Result<(), AllocError>
 }
 
 fn push_zeros(report: &mut String, count: usize) -> Result<(), AllocError>
-    ensures { OnOk result (string_bytes report.new ≡ string_bytes report.old ++ replicate count 48) }
+    ensures { OnOk result
+        (string_bytes report.new ≡ string_bytes report.old ++ replicate count 48) }
 {
     for _ in 0..count {
         report.push_str("0")?;
@@ -106,7 +115,8 @@ fn push_zeros(report: &mut String, count: usize) -> Result<(), AllocError>
 
 // The mode, and a space after it.
 fn push_mode(report: &mut String, mode: u16) -> Result<(), AllocError>
-    ensures { OnOk result (string_bytes report.new ≡ string_bytes report.old ++ spaced (octal mode)) }
+    ensures { OnOk result
+        (string_bytes report.new ≡ string_bytes report.old ++ spaced (octal mode)) }
 {
     report.push(octal_digit(mode / 512))?;
     report.push(octal_digit(mode / 64))?;
@@ -122,7 +132,6 @@ fn octal_digit(number: u16) -> char
 }
 
 /// Appends a number in decimal digits. Fails only when out of memory.
-/// Appends a number in decimal digits. Fails only when out of memory.
 #[tactic(auto, using(std::proofs::lemmas::Fmt::decimal_digit, std::proofs::lemmas::Grind::common_steps))]
 pub fn push_number(report: &mut String, number: u64) -> Result<(), AllocError>
     ensures { OnOk result (string_bytes report.new ≡ string_bytes report.old ++ decimal number) }
@@ -136,13 +145,14 @@ pub fn push_number(report: &mut String, number: u64) -> Result<(), AllocError>
 
 /// Appends a number, and a space after it. Fails only when out of memory.
 pub fn push_number_word(report: &mut String, number: u64) -> Result<(), AllocError>
-    ensures { OnOk result (string_bytes report.new ≡ string_bytes report.old ++ spaced (decimal number)) }
+    ensures { OnOk result
+        (string_bytes report.new ≡ string_bytes report.old ++ spaced (decimal number)) }
 {
     push_number(report, number)?;
     report.push_str(" ")
 }
 
-// The size and what else the kind has, with a space after each.
+/// The size and what else the kind has, with a space after each.
 pub(crate) fn push_contents(
     alloc: Global,
     report: &mut String,
@@ -159,7 +169,8 @@ pub(crate) fn push_contents(
 
 // The size, and a space after it.
 fn push_size(report: &mut String, kind: &Kind) -> Result<(), AllocError>
-    ensures { OnOk result (string_bytes report.new ≡ string_bytes report.old ++ spaced (size_word kind.now)) }
+    ensures { OnOk result
+        (string_bytes report.new ≡ string_bytes report.old ++ spaced (size_word kind.now)) }
 {
     match kind {
         Kind::File { size, .. } => push_number_word(report, *size),
@@ -173,7 +184,8 @@ fn push_what(
     kind: &Kind,
     broken: bool,
 ) -> Result<(), AllocError>
-    ensures { OnOk result (string_bytes report.new ≡ string_bytes report.old ++ what_word broken kind.now) }
+    ensures { OnOk result
+        (string_bytes report.new ≡ string_bytes report.old ++ what_word broken kind.now) }
 {
     match kind {
         Kind::File { blob, .. } => push_blob(report, *blob, broken),
@@ -186,7 +198,8 @@ fn push_what(
 }
 
 fn push_blob(report: &mut String, blob: Option<Digest>, broken: bool) -> Result<(), AllocError>
-    ensures { OnOk result (string_bytes report.new ≡ string_bytes report.old ++ blob_word broken blob) }
+    ensures { OnOk result
+        (string_bytes report.new ≡ string_bytes report.old ++ blob_word broken blob) }
 {
     match blob {
         _ if broken => report.push_str("missing"),
@@ -196,15 +209,18 @@ fn push_blob(report: &mut String, blob: Option<Digest>, broken: bool) -> Result<
 }
 
 fn push_device(report: &mut String, major: u32, minor: u32) -> Result<(), AllocError>
-    ensures { OnOk result (string_bytes report.new ≡ string_bytes report.old ++ device_word major minor) }
+    ensures { OnOk result
+        (string_bytes report.new ≡ string_bytes report.old ++ device_word major minor) }
 {
     push_number(report, u64::from(major))?;
     report.push_str(":")?;
     push_number(report, u64::from(minor))
 }
 
+/// Appends a path, escaped as reports have it.
 pub(crate) fn push_path(alloc: Global, report: &mut String, path: &Path) -> Result<(), AllocError>
-    ensures { OnOk result (string_bytes report.new ≡ string_bytes report.old ++ shown_path path.now) }
+    ensures { OnOk result
+        (string_bytes report.new ≡ string_bytes report.old ++ shown_path path.now) }
 {
     if path.is_empty() {
         return report.push_str("/");
@@ -217,18 +233,22 @@ pub(crate) fn push_path(alloc: Global, report: &mut String, path: &Path) -> Resu
 
 /// Appends a name of a path, and `/` before it. Fails only when out of memory.
 pub fn push_name(alloc: Global, report: &mut String, name: &str) -> Result<(), AllocError>
-    ensures { OnOk result (string_bytes report.new ≡ string_bytes report.old ++ (codes "/" ++ escaped_text name.now)) }
+    ensures { OnOk result
+        (string_bytes report.new
+        ≡ string_bytes report.old ++ (codes "/" ++ escaped_text name.now)) }
 {
     report.push_str("/")?;
     push_escaped(alloc, report, name)
 }
 
+/// Appends the visible attributes, one after another, or `-` where there is none.
 pub(crate) fn push_attributes(
     alloc: Global,
     report: &mut String,
     attrs: &Attrs,
 ) -> Result<(), AllocError>
-    ensures { OnOk result (string_bytes report.new ≡ string_bytes report.old ++ flat_map attribute_word attrs.now) }
+    ensures { OnOk result
+        (string_bytes report.new ≡ string_bytes report.old ++ flat_map attribute_word attrs.now) }
 {
     for (name, value) in attrs.pairs() {
         push_attribute(alloc, report, name, value)?;
@@ -242,7 +262,9 @@ fn push_attribute(
     name: &str,
     value: &[u8],
 ) -> Result<(), AllocError>
-    ensures { OnOk result (string_bytes report.new ≡ string_bytes report.old ++ attribute_word (name.now, value.now)) }
+    ensures { OnOk result
+        (string_bytes report.new
+        ≡ string_bytes report.old ++ attribute_word (name.now, value.now)) }
 {
     report.push_str(" ")?;
     push_escaped(alloc, report, name)?;

@@ -1,4 +1,5 @@
-//! Texts of which several threads write a share each, and work of two parts that are done side by side.
+//! Texts of which several threads write a share each, and work of two parts that are done side by
+//! side.
 ghost use Rattle.std.specs.Prelude.{◌≡◌, ◌<◌, ◌≤◌, ◌*◌, ◌++◌, IfOk, Ok, map, string_bytes};
 ghost use Rattle.std.specs.List.{flat_map};
 ghost use Rattle.ovl_reports.specs.Shares.{AreJoined, least_share};
@@ -6,13 +7,14 @@ ghost use Rattle.ovl_reports.specs.Shares.{AreJoined, least_share};
 use std::alloc::{AllocError, Global};
 use std::thread::{Threads, join};
 
-// The fewest lines for which a thread is started, and the room that is kept for the line behind all shares.
+// The fewest lines for which a thread is started, and the room that is kept for the line behind all
+// shares.
 const LEAST_SHARE: usize = 1024;
 
 const LAST_LINE: usize = 64;
 
-/// How many lines a thread writes, where so many lines are shared by so many workers: no more threads are needed than there
-/// are workers, and none for few lines or one worker.
+/// How many lines a thread writes, where so many lines are shared by so many workers: no more
+/// threads are needed than there are workers, and none for few lines or one worker.
 pub fn share_of(lines: usize, workers: usize) -> usize
     requires { 0 < workers }
     ensures some { 0 < result }
@@ -22,7 +24,8 @@ pub fn share_of(lines: usize, workers: usize) -> usize
     lines.div_ceil(workers).max(LEAST_SHARE)
 }
 
-/// What two parts of work give: side by side where there are several workers, else one after the other.
+/// What two parts of work give: side by side where there are several workers, else one after the
+/// other.
 pub fn side_by_side<R: Threads, F: FnOnce() -> A + Send, G: FnOnce() -> B, A: Send, B>(
     rt: &R,
     workers: usize,
@@ -52,10 +55,11 @@ pub fn joined(alloc: Global, parts: Vec<Result<String, AllocError>>) -> Result<S
     with_others(first, texts)
 }
 
-// A text and the others behind it. It grows by all of them at once, in place where it can, and each is let go once it is
-// appended.
+// A text and the others behind it. It grows by all of them at once, in place where it can, and each
+// is let go once it is appended.
 fn with_others(mut text: String, others: Vec<String>) -> Result<String, AllocError>
-    ensures { IfOk result (λ whole. string_bytes whole ≡ string_bytes text ++ flat_map string_bytes others.items) }
+    ensures { IfOk result
+        (λ whole. string_bytes whole ≡ string_bytes text ++ flat_map string_bytes others.items) }
 {
     text.reserve_exact(room_for(&others))?;
     for other in others {

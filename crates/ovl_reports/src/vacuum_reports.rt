@@ -5,8 +5,8 @@ use crate::reports::{push_number, push_path, push_word};
 use ovl_names::Path;
 use std::alloc::{AllocError, Global};
 
-/// The report of `vacuum`: a line for each path that is removed, in their order, how many these are, and how many
-/// entries are kept. Fails only when out of memory.
+/// The report of `vacuum`: a line for each path that is removed, in their order, how many these
+/// are, and how many entries are kept. Fails only when out of memory.
 pub fn vacuum_report_of(alloc: Global, removed: &[Path], kept: u64) -> Result<Vec<u8>, AllocError>
     ensures { IfOk result (λ report. report.items ≡ vacuum_report removed.now kept) }
 {
@@ -24,7 +24,8 @@ pub fn vacuum_report_of(alloc: Global, removed: &[Path], kept: u64) -> Result<Ve
 
 // Appends the line of a removed path.
 fn push_removed(alloc: Global, report: &mut String, path: &Path) -> Result<(), AllocError>
-    ensures { OnOk result (string_bytes report.new ≡ string_bytes report.old ++ removed_line path.now) }
+    ensures { OnOk result
+        (string_bytes report.new ≡ string_bytes report.old ++ removed_line path.now) }
 {
     push_word(report, "removed")?;
     push_path(alloc, report, path)?;

@@ -14,9 +14,9 @@ use std::alloc::{AllocError, Global};
 use std::marker::Model;
 use std::vec::IntoIter;
 
-/// The merged tree of a stack as work, whose pieces are its directories, from `/` of space 0. The output of a
-/// directory is each name in it, in order, with what is shown there; its kids are those that are directories. A kid
-/// has the space of its piece. overlayfs.rst: "Directories", "readdir".
+/// The merged tree of a stack as work, whose pieces are its directories, from `/` of space 0. The
+/// output of a directory is each name in it, in order, with what is shown there; its kids are those
+/// that are directories. A kid has the space of its piece. overlayfs.rst: "Directories", "readdir".
 #[derive(Drop)]
 pub struct ShowWork<'a> {
     stack: &'a Stack,
@@ -84,7 +84,8 @@ impl<'a> Work for ShowWork<'a> {
     }
 }
 
-// What a directory of the merged tree shows: each name in it with what is shown there; none where no directory is shown.
+// What a directory of the merged tree shows: each name in it with what is shown there; none where
+// no directory is shown.
 fn looks_at(alloc: Global, stack: &Stack, dir: &Path) -> Result<Vec<(Name, Look)>, AllocError>
     ensures { IfOk result (λ looks. looks.items ≡ looks_in stack.now dir.now) }
 {
@@ -116,8 +117,9 @@ fn directories_in(
     Ok(kids)
 }
 
-/// The whole merged tree in path order: each path at which something is shown once, with what is shown there.
-/// The parcels are the plain walk of the work from `/` of space 0. Fails only when out of memory.
+/// The whole merged tree in path order: each path at which something is shown once, with what is
+/// shown there. The parcels are the plain walk of the work from `/` of space 0. Fails only when out
+/// of memory.
 pub fn finish_show(
     alloc: Global,
     work: &ShowWork<'_>,
@@ -176,8 +178,11 @@ fn open_next(
     opened: &mut Vec<OpenDirectory>,
     parcels: &mut IntoIter<Parcel<Vec<(Name, Look)>>>,
 ) -> Result<(), AllocError>
-    ensures next { OnOk result ((parcel : ShowParcel) (others : List ShowParcel) → into_iter_items parcels.old ≡ parcel ∷ others
-        → (into_iter_items parcels.new ≡ others) × ((last : OpenDirectory) × ((opened.new.items ≡ opened.old.items ++ last ∷ [])
+    ensures next { OnOk result
+        ((parcel : ShowParcel) (others : List ShowParcel)
+        → into_iter_items parcels.old ≡ parcel ∷ others
+        → (into_iter_items parcels.new ≡ others)
+        × ((last : OpenDirectory) × ((opened.new.items ≡ opened.old.items ++ last ∷ [])
         × (last.path ≡ parcel.piece.dir) × (into_iter_items last.entries ≡ parcel.out.items)))) }
     ensures few { OnOk result (length opened.new.items ≤ length opened.old.items + 1) }
 {

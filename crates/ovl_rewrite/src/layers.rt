@@ -69,8 +69,8 @@ fn refusal(fault: LayerFault) -> RewriteFault
     }
 }
 
-// The entries under the directory of the next parcel; its parcel and those of what lies under it are
-// taken. `LimitOut` comes only where no layer has these entries.
+// The entries under the directory of the next parcel; its parcel and those of what lies under it
+// are taken. `LimitOut` comes only where no layer has these entries.
 fn next_below(
     alloc: Global,
     rest: &mut IntoIter<Parcel<Vec<(Name, Inode)>>>,

@@ -19,19 +19,20 @@ use ovl_lookup::{DirView, Look, OwnDirectory, Stack, Trail};
 use ovl_names::{Name, Path};
 use std::alloc::{AllocError, Global};
 
-// A directory of the topmost layer, sought once for all that is in it.
+/// A directory of the topmost layer, sought once for all that is in it.
 #[derive(Drop)]
 pub(crate) struct Directory<'a> {
     stack: &'a Stack,
     path: &'a Path,
     // The number of its row.
     row: u32,
-    // The view of the layers below where its walk goes on; `None` where that is closed, or they show no directory there.
+    // The view of the layers below where its walk goes on; `None` where that is closed, or they
+    // show no directory there.
     below: Option<DirView<'a>>,
 }
 
 impl<'a> Directory<'a> {
-    // The directory that the topmost layer has at a path, and `None` where it has none.
+    /// The directory that the topmost layer has at a path, and `None` where it has none.
     pub(crate) fn of(
         alloc: Global,
         stack: &'a Stack,
@@ -58,7 +59,8 @@ impl<'a> Directory<'a> {
         }))
     }
 
-    // The pieces of the directories in it, and the names in it, each with whether its entry is idle.
+    /// The pieces of the directories in it, and the names in it, each with whether its entry is
+    /// idle.
     pub(crate) fn told(
         &self,
         alloc: Global,
@@ -68,7 +70,8 @@ impl<'a> Directory<'a> {
         ensures kids { IfOk result (λ told. told.0.items
             ≡ vacuum_kids self.now.stack.now (directory_piece space self.now.path.now)) }
         ensures names { IfOk result (λ told. told.1.items
-            ≡ map (idle_name self.now.stack.now self.now.path.now) (names_below (top_layer self.now.stack.now) self.now.path.now)) }
+            ≡ map (idle_name self.now.stack.now self.now.path.now)
+            (names_below (top_layer self.now.stack.now) self.now.path.now)) }
     {
         let kids = self.kids(alloc, space)?;
         let names = self.idle_names(alloc)?;
@@ -78,7 +81,9 @@ impl<'a> Directory<'a> {
     // The pieces of the directories in it.
     fn kids(&self, alloc: Global, space: u16) -> Result<Vec<Piece>, AllocError>
         requires { IsVisited self.now.stack.now self.now.path.now self.now }
-        ensures { IfOk result (λ kids. kids.items ≡ vacuum_kids self.now.stack.now (directory_piece space self.now.path.now)) }
+        ensures { IfOk result
+            (λ kids. kids.items
+            ≡ vacuum_kids self.now.stack.now (directory_piece space self.now.path.now)) }
     {
         let sheet = self.stack.top();
         let rows = sheet.kids(self.row);
@@ -96,7 +101,8 @@ impl<'a> Directory<'a> {
     fn idle_names(&self, alloc: Global) -> Result<Vec<(Name, bool)>, AllocError>
         requires { IsVisited self.now.stack.now self.now.path.now self.now }
         ensures { IfOk result (λ names. names.items
-            ≡ map (idle_name self.now.stack.now self.now.path.now) (names_below (top_layer self.now.stack.now) self.now.path.now)) }
+            ≡ map (idle_name self.now.stack.now self.now.path.now)
+            (names_below (top_layer self.now.stack.now) self.now.path.now)) }
     {
         let sheet = self.stack.top();
         let rows = sheet.kids(self.row);
@@ -123,8 +129,10 @@ impl<'a> Directory<'a> {
         requires visited { IsVisited self.now.stack.now self.now.path.now self.now }
         requires whole { IfSome whole.old (IsViewOf self.now.stack.now 0 self.now.path.now) }
         requires inside { row < length (top_layer self.now.stack.now) }
-        requires stands { path_at (top_layer self.now.stack.now) row ≡ child_path self.now.path.now name.now }
-        ensures idle { IfOk result (λ idle. idle ≡ is_idle_at self.now.stack.now (child_path self.now.path.now name.now)) }
+        requires stands { path_at (top_layer self.now.stack.now) row
+            ≡ child_path self.now.path.now name.now }
+        ensures idle { IfOk result
+            (λ idle. idle ≡ is_idle_at self.now.stack.now (child_path self.now.path.now name.now)) }
         ensures whole { IfSome whole.new (IsViewOf self.now.stack.now 0 self.now.path.now) }
     {
         let sheet = self.stack.top();
@@ -145,7 +153,8 @@ impl<'a> Directory<'a> {
     }
 }
 
-// The directory that the topmost layer has at a path, with how its walk goes on, and `None` where it has none.
+// The directory that the topmost layer has at a path, with how its walk goes on, and `None` where
+// it has none.
 fn own_directory<'a>(
     alloc: Global,
     stack: &'a Stack,
@@ -160,7 +169,8 @@ fn own_directory<'a>(
     stack.own_directory(alloc, 0, path)
 }
 
-// The view of the layers below the topmost one at a path, or where marks turn that to, unless they are hidden there.
+// The view of the layers below the topmost one at a path, or where marks turn that to, unless they
+// are hidden there.
 fn view_below<'a>(
     alloc: Global,
     stack: &'a Stack,

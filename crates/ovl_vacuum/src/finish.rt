@@ -27,16 +27,18 @@ pub struct VacuumDone {
     pub removed: Vec<Path>,
 }
 
-/// The topmost layer without each entry at and under which all are idle, and the paths of those. The parcels are the
-/// plain walk of the work from `/` of space 0. Fails only when out of memory.
+/// The topmost layer without each entry at and under which all are idle, and the paths of those.
+/// The parcels are the plain walk of the work from `/` of space 0. Fails only when out of memory.
 pub fn finish_vacuum(
     alloc: Global,
     work: &VacuumWork<'_>,
     parcels: Vec<Parcel<Vec<(Name, bool)>>>,
 ) -> Result<VacuumDone, AllocError>
     requires { IsVacuumWalk work.now (parcel_views names_seen parcels.items) }
-    ensures layer { IfOk result (λ done. done.layer ≡ vacuumed_layer (top_layer work.now) (lower_layers work.now)) }
-    ensures removed { IfOk result (λ done. done.removed.items ≡ removed_paths (top_layer work.now) (lower_layers work.now)) }
+    ensures layer { IfOk result
+        (λ done. done.layer ≡ vacuumed_layer (top_layer work.now) (lower_layers work.now)) }
+    ensures removed { IfOk result
+        (λ done. done.removed.items ≡ removed_paths (top_layer work.now) (lower_layers work.now)) }
 {
     let stack = work.stack;
     let idle = idle_rows(alloc, stack, &parcels)?;
@@ -69,7 +71,8 @@ fn idle_rows(
     Ok(idle)
 }
 
-// Tells of the rows directly below a directory's whether their entries are idle, by what the directory put out.
+// Tells of the rows directly below a directory's whether their entries are idle, by what the
+// directory put out.
 fn tell_below(stack: &Stack, directory: u32, names: &[(Name, bool)], idle: &mut Vec<bool>)
     requires inside { directory < length (top_layer stack.now) }
     requires names { names.now ≡ names_told stack.now directory }
@@ -82,7 +85,8 @@ fn tell_below(stack: &Stack, directory: u32, names: &[(Name, bool)], idle: &mut 
     }
 }
 
-// Whether all at and under each row are idle. From the last row to the first, one that stays keeps its directory.
+// Whether all at and under each row are idle. From the last row to the first, one that stays keeps
+// its directory.
 fn gone_rows(stack: &Stack, idle: Vec<bool>) -> Vec<bool>
     requires { idle.items ≡ idle_flags stack.now }
     ensures { result.items ≡ gone_flags stack.now }
@@ -103,7 +107,8 @@ fn gone_rows(stack: &Stack, idle: Vec<bool>) -> Vec<bool>
 // The layer of the rows that stay.
 fn layer_left(alloc: Global, stack: &Stack, gone: &[bool]) -> Result<Layer, AllocError>
     requires { gone.now ≡ gone_flags stack.now }
-    ensures { IfOk result (λ layer. layer ≡ vacuumed_layer (top_layer stack.now) (lower_layers stack.now)) }
+    ensures { IfOk result
+        (λ layer. layer ≡ vacuumed_layer (top_layer stack.now) (lower_layers stack.now)) }
 {
     let sheet = stack.top();
     let root = sheet.inode(0).copy(alloc)?;
@@ -128,9 +133,12 @@ fn layer_left(alloc: Global, stack: &Stack, gone: &[bool]) -> Result<Layer, Allo
     draft.finish()
 }
 
-// The layer of a root alone. What vacuum leaves is a layer, so that nothing but memory can stand in the way.
+// The layer of a root alone. What vacuum leaves is a layer, so that nothing but memory can stand in
+// the way.
 fn begun(alloc: Global, root: Inode) -> Result<Draft, AllocError>
-    ensures { IfOk result (λ draft. (entry_after [] (stated_pair ([], root)) ≡ Ok (draft_entries draft)) × IsDraft draft) }
+    ensures { IfOk result
+        (λ draft. (entry_after [] (stated_pair ([], root)) ≡ Ok (draft_entries draft))
+        × IsDraft draft) }
 {
     match start_root(alloc, root) {
         Ok(draft) => Ok(draft),
@@ -138,7 +146,8 @@ fn begun(alloc: Global, root: Inode) -> Result<Draft, AllocError>
     }
 }
 
-// Enters the entry `name` of a directory, after so many others. Here too nothing but memory can stand in the way.
+// Enters the entry `name` of a directory, after so many others. Here too nothing but memory can
+// stand in the way.
 fn enter(
     alloc: Global,
     draft: &mut Draft,
@@ -151,7 +160,9 @@ fn enter(
     requires count { count ≡ length (draft_entries draft.old) }
     requires room { count < entry_limit }
     ensures { IfOk result
-        (λ _. (entry_after (draft_entries draft.old) (stated_pair (child_path directory.now name, inode)) ≡ Ok (draft_entries draft.new))
+        (λ _.
+        (entry_after (draft_entries draft.old) (stated_pair (child_path directory.now name, inode))
+        ≡ Ok (draft_entries draft.new))
         × IsDraft draft.new) }
 {
     match add_child(alloc, draft, count, directory, name, inode) {
@@ -163,7 +174,8 @@ fn enter(
 // The paths of the rows that go.
 fn paths_gone(alloc: Global, stack: &Stack, gone: &[bool]) -> Result<Vec<Path>, AllocError>
     requires { gone.now ≡ gone_flags stack.now }
-    ensures { IfOk result (λ paths. paths.items ≡ removed_paths (top_layer stack.now) (lower_layers stack.now)) }
+    ensures { IfOk result
+        (λ paths. paths.items ≡ removed_paths (top_layer stack.now) (lower_layers stack.now)) }
 {
     let sheet = stack.top();
     let mut paths = Vec::new(alloc);

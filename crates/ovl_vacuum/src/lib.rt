@@ -1,4 +1,5 @@
-//! What changes nothing in the topmost layer of a stack, as work in pieces, and the layer without it.
+//! What changes nothing in the topmost layer of a stack, as work in pieces, and the layer without
+//! it.
 #![tactic(auto)]
 
 mod directories;

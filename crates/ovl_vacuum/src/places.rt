@@ -6,7 +6,7 @@ use ovl_layer::Sheet;
 use ovl_names::Path;
 use std::alloc::{AllocError, Global};
 
-// The number of the row of the directory that holds the entry of a row; the root's is its own.
+/// The number of the row of the directory that holds the entry of a row; the root's is its own.
 pub(crate) fn directory_of(sheet: &Sheet, number: u32) -> u32
     requires { number < length sheet.now }
     ensures inside { result < length sheet.now }
@@ -15,7 +15,7 @@ pub(crate) fn directory_of(sheet: &Sheet, number: u32) -> u32
     sheet.row(number).unwrap().parent
 }
 
-// The path of the entry of a row, by that of its directory.
+/// The path of the entry of a row, by that of its directory.
 pub(crate) fn path_in(
     alloc: Global,
     sheet: &Sheet,
@@ -32,7 +32,7 @@ pub(crate) fn path_in(
     }
 }
 
-// The path of the entry of a row.
+/// The path of the entry of a row.
 pub(crate) fn path_of(alloc: Global, sheet: &Sheet, number: u32) -> Result<Path, AllocError>
     requires { number < length sheet.now }
     ensures { IfOk result (λ path. path ≡ path_at sheet.now number) }

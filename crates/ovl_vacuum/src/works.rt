@@ -8,9 +8,10 @@ use ovl_names::{DEPTH_LIMIT, Name};
 use std::alloc::{AllocError, Global};
 use std::marker::Model;
 
-/// A stack as work of vacuum, whose pieces are the directories of its topmost layer, from `/` of space 0. The output
-/// of a directory is each name in it, in order, with whether its entry is idle: whether it changes nothing in the
-/// merged tree. Its kids are those that are directories. A kid has the space of its piece.
+/// A stack as work of vacuum, whose pieces are the directories of its topmost layer, from `/` of
+/// space 0. The output of a directory is each name in it, in order, with whether its entry is idle:
+/// whether it changes nothing in the merged tree. Its kids are those that are directories. A kid
+/// has the space of its piece.
 #[derive(Drop)]
 pub struct VacuumWork<'a> {
     pub(crate) stack: &'a Stack,

@@ -23,20 +23,24 @@ use std::fs::DirEntry;
 use std::rt::Files;
 use std::thread::{Threads, map_chunks};
 
-/// The blobs of a folder, ascending by name, each name once: its regular files whose names are digests. Other names are
-/// passed over, and so is what isn't a regular file itself, a link too. A folder whose listing fails can't be read, nor
-/// one with a name that isn't UTF-8. A blob has at most [`INPUT_LIMIT`] bytes. Where all have more than [`BLOB_LIMIT`],
-/// so that no command takes them, each is read, but those after the first that goes over it are given without bytes.
-/// At most as many threads read them as there are workers, a single one where all are said to have more than the limit.
+/// The blobs of a folder, ascending by name, each name once: its regular files whose names are
+/// digests. Other names are passed over, and so is what isn't a regular file itself, a link too. A
+/// folder whose listing fails can't be read, nor one with a name that isn't UTF-8. A blob has at
+/// most [`INPUT_LIMIT`] bytes. Where all have more than [`BLOB_LIMIT`], so that no command takes
+/// them, each is read, but those after the first that goes over it are given without bytes. At most
+/// as many threads read them as there are workers, a single one where all are said to have more
+/// than the limit.
 pub fn read_blobs<R: Files + SharedFiles + AllocGlobal + Clone + Drop + Threads + Sync>(
     rt: &R,
     folder: &str,
     workers: usize,
 ) -> Result<Vec<Blob>, ProgramFault>
     ensures ordered { IfOk result (λ blobs. are_in_order (blob_views blobs.items) ≡ true) }
-    ensures within { IfOk result (λ blobs. All (λ blob. vec_len blob.bytes ≤ INPUT_LIMIT) blobs.items) }
+    ensures within { IfOk result
+        (λ blobs. All (λ blob. vec_len blob.bytes ≤ INPUT_LIMIT) blobs.items) }
     ensures spelt { IfOk result (λ blobs. All (λ blob. IsSpelt blob.name) blobs.items) }
-    ensures held { IfOk result (λ blobs. blob_bytes (blob_views blobs.items) ≤ blob_limit + INPUT_LIMIT) }
+    ensures held { IfOk result
+        (λ blobs. blob_bytes (blob_views blobs.items) ≤ blob_limit + INPUT_LIMIT) }
     ensures fault { IfErr result (λ fault. IsUnread (IsInFolder folder.now) fault) }
 {
     let alloc = rt.alloc();
@@ -54,7 +58,8 @@ pub fn read_blobs<R: Files + SharedFiles + AllocGlobal + Clone + Drop + Threads 
     Ok(held.into_blobs())
 }
 
-// The blobs of these files of a folder, in their order, read by at most so many threads, each a share of them.
+// The blobs of these files of a folder, in their order, read by at most so many threads, each a
+// share of them.
 fn blobs_of<R: SharedFiles + Threads + Sync>(
     rt: &R,
     alloc: Global,
@@ -62,7 +67,8 @@ fn blobs_of<R: SharedFiles + Threads + Sync>(
     files: &[BlobFile],
     threads: usize,
 ) -> Result<HeldBlobs, ProgramFault>
-    ensures same { IfOk result (λ held. map (λ blob. blob.name) held.blobs.items ≡ map (λ file. file.name) files.now) }
+    ensures same { IfOk result
+        (λ held. map (λ blob. blob.name) held.blobs.items ≡ map (λ file. file.name) files.now) }
     ensures fault { IfErr result (λ fault. IsUnread (IsInFolder folder.now) fault) }
 {
     let size = share_of(files.len(), threads);
@@ -86,7 +92,8 @@ fn read_share<R: SharedFiles>(
     folder: &str,
     files: &[BlobFile],
 ) -> Result<HeldBlobs, ProgramFault>
-    ensures same { IfOk result (λ held. map (λ blob. blob.name) held.blobs.items ≡ map (λ file. file.name) files.now) }
+    ensures same { IfOk result
+        (λ held. map (λ blob. blob.name) held.blobs.items ≡ map (λ file. file.name) files.now) }
     ensures fault { IfErr result (λ fault. IsUnread (IsInFolder folder.now) fault) }
 {
     let mut held = HeldBlobs::new(alloc);
@@ -109,7 +116,8 @@ fn in_order(alloc: Global, lengths: BTreeMap<Digest, u64>) -> Result<Vec<BlobFil
     Ok(files)
 }
 
-// The length that is told of each blob of a folder, under its name, and how many bytes they come to.
+// The length that is told of each blob of a folder, under its name, and how many bytes they come
+// to.
 #[derive(Drop)]
 struct Listing {
     lengths: BTreeMap<Digest, u64>,
@@ -144,7 +152,8 @@ struct BlobFile {
 
 // An entry as such a file, where it is one. Only where its name is a digest is it asked what it is.
 fn blob_file<R: Files>(entry: &DirEntry<R>) -> Result<Option<BlobFile>, ReadFault>
-    ensures named { IfOk result (λ file. IfSome file (λ blob. digest_of_text (dir_entry_name entry.now) ≡ Some blob.name)) }
+    ensures named { IfOk result
+        (λ file. IfSome file (λ blob. digest_of_text (dir_entry_name entry.now) ≡ Some blob.name)) }
     ensures passed_over { digest_of_text (dir_entry_name entry.now) ≡ None → result ≡ Ok None }
     ensures fault { IfErr result (λ fault. fault ≢ TooLong) }
 {

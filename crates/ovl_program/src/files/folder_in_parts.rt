@@ -22,10 +22,11 @@ use std::rt::Files;
 use std::sync::atomic::{AtomicUsize, Ordering};
 use std::thread::{Threads, map_indices};
 
-/// The contents of the blobs of these names in a folder, in their order. What a name leads to there is its blob where it is
-/// a regular file itself, and is read in parts to its end; where it isn't, a link too, or nothing is there, the name has
-/// none. Other names of the folder aren't looked at. At most as many threads read as there are workers, each the file of the
-/// next name that none has taken. The first blob, in the order of names, that can't be read is told.
+/// The contents of the blobs of these names in a folder, in their order. What a name leads to there
+/// is its blob where it is a regular file itself, and is read in parts to its end; where it isn't,
+/// a link too, or nothing is there, the name has none. Other names of the folder aren't looked at.
+/// At most as many threads read as there are workers, each the file of the next name that none has
+/// taken. The first blob, in the order of names, that can't be read is told.
 pub fn tell_blobs<R: Files + SharedFiles + AllocGlobal + Threads + Sync>(
     rt: &R,
     folder: &str,
@@ -54,8 +55,8 @@ fn find_folder(files: &impl Files, path: &str) -> Result<(), ReadFault> {
     }
 }
 
-// What the workers tell of these names, each of those that it takes; no more of them than there are names. Each has a share,
-// in a thread of its own where it isn't the last.
+// What the workers tell of these names, each of those that it takes; no more of them than there are
+// names. Each has a share, in a thread of its own where it isn't the last.
 fn shares_of<R: SharedFiles + Threads + Sync>(
     rt: &R,
     alloc: Global,
@@ -74,8 +75,8 @@ fn shares_of<R: SharedFiles + Threads + Sync>(
     map_indices(rt, alloc, workers.min(names.len()), &share)
 }
 
-// What one worker tells: again and again of the next name that none has taken. Where it stops, no further name is taken;
-// all before that one are by then.
+// What one worker tells: again and again of the next name that none has taken. Where it stops, no
+// further name is taken; all before that one are by then.
 fn tell_share<R: SharedFiles>(
     rt: &R,
     alloc: Global,
@@ -109,7 +110,8 @@ fn tell_next<R: SharedFiles>(
     told: &mut Vec<Told>,
 ) -> Result<(), ProgramFault>
     ensures told { OnOk result ((held : Option Held)
-        × ((told.new.items ≡ told.old.items ++ record { number = number; held = held } ∷ []) × IsHeldUnder name held)) }
+        × ((told.new.items ≡ told.old.items ++ record { number = number; held = held } ∷ [])
+        × IsHeldUnder name held)) }
     ensures fault { IfErr result (λ fault. IsUnread (IsInFolder folder.now) fault) }
 {
     let held = tell_blob(rt, alloc, folder, name)?;

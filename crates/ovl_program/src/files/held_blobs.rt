@@ -10,7 +10,8 @@ use ovl_engine::{BLOB_LIMIT, Blob};
 use ovl_inode::Digest;
 use std::alloc::{AllocError, Global};
 
-/// Blobs of a folder in some order, and how many bytes they hold together: at most [`BLOB_LIMIT`] and those of one more.
+/// Blobs of a folder in some order, and how many bytes they hold together: at most [`BLOB_LIMIT`]
+/// and those of one more.
 #[derive(Drop)]
 pub struct HeldBlobs {
     alloc: Global,
@@ -34,8 +35,8 @@ impl HeldBlobs {
         }
     }
 
-    /// Adds a blob behind the others; without its bytes where theirs are over [`BLOB_LIMIT`] already. Where memory runs out
-    /// nothing changes.
+    /// Adds a blob behind the others; without its bytes where theirs are over [`BLOB_LIMIT`]
+    /// already. Where memory runs out nothing changes.
     pub fn push(&mut self, name: Digest, bytes: Vec<u8>) -> Result<(), AllocError>
         requires within { vec_len bytes ≤ INPUT_LIMIT }
         requires spelt { IsSpelt name }
@@ -53,10 +54,12 @@ impl HeldBlobs {
         Ok(())
     }
 
-    /// Adds other blobs behind these, each as [`HeldBlobs::push`] does. Where memory runs out nothing changes.
+    /// Adds other blobs behind these, each as [`HeldBlobs::push`] does. Where memory runs out
+    /// nothing changes.
     pub fn append(&mut self, others: HeldBlobs) -> Result<(), AllocError>
         ensures added { OnOk result (map (λ blob. blob.name) self.new.blobs.items
-            ≡ map (λ blob. blob.name) self.old.blobs.items ++ map (λ blob. blob.name) others.blobs.items) }
+            ≡ map (λ blob. blob.name) self.old.blobs.items
+            ++ map (λ blob. blob.name) others.blobs.items) }
         ensures kept { OnErr result (self.new.blobs.items ≡ self.old.blobs.items) }
     {
         self.blobs.reserve(others.blobs.len())?;
@@ -79,7 +82,8 @@ impl HeldBlobs {
     }
 }
 
-// What is kept of a blob's bytes behind blobs of so many: nothing where those are over the limit of all blobs already.
+// What is kept of a blob's bytes behind blobs of so many: nothing where those are over the limit of
+// all blobs already.
 fn kept(alloc: Global, held: usize, bytes: Vec<u8>) -> Vec<u8>
     ensures { result.items ≡ (if nat_lt blob_limit held then [] else bytes.items) }
 {

@@ -13,8 +13,9 @@ use std::fs::{self, OpenFile};
 use std::rt::Files;
 use std::thread::{Threads, map_chunks};
 
-/// The bytes of a file, at most [`INPUT_LIMIT`]. Links are followed. A folder can't be read. Room is made for the length
-/// that is expected, and where none is, for the one that the open file tells; there may be fewer bytes or more.
+/// The bytes of a file, at most [`INPUT_LIMIT`]. Links are followed. A folder can't be read. Room
+/// is made for the length that is expected, and where none is, for the one that the open file
+/// tells; there may be fewer bytes or more.
 pub fn read_file<R: Files + AllocGlobal>(
     rt: &R,
     path: &str,
@@ -78,9 +79,9 @@ pub fn share_of(files: usize, threads: usize) -> usize
     files.div_ceil(threads.max(1)).max(1)
 }
 
-/// The bytes of each of these files, in their order, read by at most as many threads as there are workers. Where one is
-/// no regular file they are read one after another, since what a pipe gives goes to whoever reads it first. The first that
-/// can't be read is told.
+/// The bytes of each of these files, in their order, read by at most as many threads as there are
+/// workers. Where one is no regular file they are read one after another, since what a pipe gives
+/// goes to whoever reads it first. The first that can't be read is told.
 pub fn read_files<R: Files + SharedFiles + AllocGlobal + Threads + Sync>(
     rt: &R,
     paths: &[String],
@@ -116,8 +117,10 @@ fn read_by<R: SharedFiles + Threads + Sync>(
     let read = |_first: usize, share: &[String]| -> Result<Vec<Vec<u8>>, ProgramFault>
         requires { IsSync R.row }
         ensures each { IfOk result (λ files. vec_len files ≡ length share.entry.now) }
-        ensures within { IfOk result (λ files. All (λ bytes. vec_len bytes ≤ INPUT_LIMIT) files.items) }
-        ensures fault { IfErr result (λ fault. IsUnread (Contains (map string_bytes share.entry.now)) fault) }
+        ensures within { IfOk result
+            (λ files. All (λ bytes. vec_len bytes ≤ INPUT_LIMIT) files.items) }
+        ensures fault { IfErr result
+            (λ fault. IsUnread (Contains (map string_bytes share.entry.now)) fault) }
     { read_share(rt, alloc, share) };
     let mut files = Vec::new(alloc);
     for read in map_chunks(rt, alloc, paths, size, &read)? {

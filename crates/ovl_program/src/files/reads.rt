@@ -9,11 +9,13 @@ use ovl_engine::BLOB_LIMIT;
 use std::alloc::{AllocError, AllocFailed, Global};
 use std::io::{Error, ErrorKind, Read};
 
-/// The most bytes that are held of one input, be it a manifest or a blob. A command takes no blob of more, since all its
-/// blobs together have at most so many; blobs that are read in parts aren't held.
+/// The most bytes that are held of one input, be it a manifest or a blob. A command takes no blob
+/// of more, since all its blobs together have at most so many; blobs that are read in parts aren't
+/// held.
 pub const INPUT_LIMIT: usize = BLOB_LIMIT;
 
-// How many bytes one read may give, and where so few are expected that a small room does. Each room is cleared first.
+// How many bytes one read may give, and where so few are expected that a small room does. Each room
+// is cleared first.
 const ROOM: usize = 16384;
 
 const SMALL_ROOM: usize = 1024;
@@ -29,19 +31,22 @@ pub enum ReadFault {
     Memory,
 }
 
-/// All that a reader gives up to its end, where that is no more than `limit` bytes. No read is tried again, not even one
-/// that was interrupted, so there are at most `limit + 1` of them. The first fault that is met is told.
+/// All that a reader gives up to its end, where that is no more than `limit` bytes. No read is
+/// tried again, not even one that was interrupted, so there are at most `limit + 1` of them. The
+/// first fault that is met is told.
 pub fn read_all<R: Read>(alloc: Global, reader: &mut R, limit: usize) -> Result<Vec<u8>, ReadFault>
     ensures within { IfOk result (λ bytes. vec_len bytes ≤ limit) }
-    ensures whole { IfOk result (λ bytes. Consumes (R.remaining reader.old) (R.remaining reader.new) bytes.items) }
+    ensures whole { IfOk result
+        (λ bytes. Consumes (R.remaining reader.old) (R.remaining reader.new) bytes.items) }
     ensures end { OnOk result (IsAtEnd (R.remaining reader.new)) }
-    ensures too_long { result ≡ Err TooLong → IfSome (R.remaining reader.old) (λ left. limit < length left) }
+    ensures too_long { result ≡ Err TooLong
+        → IfSome (R.remaining reader.old) (λ left. limit < length left) }
 {
     read_expected(alloc, reader, limit, 0)
 }
 
-/// The same, with room made at once for the bytes that are expected, so that they aren't copied as more come; there may be
-/// fewer or more.
+/// The same, with room made at once for the bytes that are expected, so that they aren't copied as
+/// more come; there may be fewer or more.
 pub fn read_expected<R: Read>(
     alloc: Global,
     reader: &mut R,
@@ -49,9 +54,11 @@ pub fn read_expected<R: Read>(
     expected: u64,
 ) -> Result<Vec<u8>, ReadFault>
     ensures within { IfOk result (λ bytes. vec_len bytes ≤ limit) }
-    ensures whole { IfOk result (λ bytes. Consumes (R.remaining reader.old) (R.remaining reader.new) bytes.items) }
+    ensures whole { IfOk result
+        (λ bytes. Consumes (R.remaining reader.old) (R.remaining reader.new) bytes.items) }
     ensures end { OnOk result (IsAtEnd (R.remaining reader.new)) }
-    ensures too_long { result ≡ Err TooLong → IfSome (R.remaining reader.old) (λ left. limit < length left) }
+    ensures too_long { result ≡ Err TooLong
+        → IfSome (R.remaining reader.old) (λ left. limit < length left) }
 {
     let bytes = room_for(alloc, expected.min(limit as u64) as usize);
     if 0 < expected && expected <= SMALL_ROOM as u64 {
@@ -70,9 +77,11 @@ fn read_through<R: Read>(
     requires room { 0 < length room.old }
     requires none { bytes.items ≡ [] }
     ensures within { IfOk result (λ bytes. vec_len bytes ≤ limit) }
-    ensures whole { IfOk result (λ bytes. Consumes (R.remaining reader.old) (R.remaining reader.new) bytes.items) }
+    ensures whole { IfOk result
+        (λ bytes. Consumes (R.remaining reader.old) (R.remaining reader.new) bytes.items) }
     ensures end { OnOk result (IsAtEnd (R.remaining reader.new)) }
-    ensures too_long { result ≡ Err TooLong → IfSome (R.remaining reader.old) (λ left. limit < length left) }
+    ensures too_long { result ≡ Err TooLong
+        → IfSome (R.remaining reader.old) (λ left. limit < length left) }
 {
     let mut bytes = bytes;
     // Each read but the last gives a byte at least.

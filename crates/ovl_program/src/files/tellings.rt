@@ -1,4 +1,5 @@
-//! What several workers tell of the blobs of a list of names, each name by one of them, and how that is put in order.
+//! What several workers tell of the blobs of a list of names, each name by one of them, and how
+//! that is put in order.
 ghost use Rattle.std.specs.Prelude.{◌≡◌, ◌≤◌, ◌⊎◌, ℕ, List, IfOk, IfSome, MatchResult, All, Some, None, length, slice_get, unwrap_or};
 ghost use Rattle.ovl_engine.specs.declared.faults.EngineFault.TheVariants.{Memory};
 ghost use Rattle.ovl_program.specs.declared.faults.ProgramFault.TheVariants.{Engine};
@@ -58,7 +59,8 @@ pub struct Stop {
     pub fault: ProgramFault,
 }
 
-/// What is told of names, each in the slot of its number. The slot of a name that nobody told of is empty.
+/// What is told of names, each in the slot of its number. The slot of a name that nobody told of is
+/// empty.
 #[derive(Drop)]
 pub struct Slots {
     held: Vec<Option<Option<Held>>>,
@@ -99,8 +101,8 @@ impl Slots {
     }
 }
 
-/// What workers tell of these names, each its share of them, put in order; or where any stopped, the fault at the least
-/// number.
+/// What workers tell of these names, each its share of them, put in order; or where any stopped,
+/// the fault at the least number.
 pub fn joined(
     alloc: Global,
     folder: &str,
@@ -110,7 +112,8 @@ pub fn joined(
     requires { All (IsShareOf folder.now names.now) shares.items }
     ensures { MatchResult result
         (AreSlotsOf names.now)
-        (λ fault. (fault ≡ Engine Memory) ⊎ ((stop : Stop) × (IsFirstStop shares.items stop × (fault ≡ stop.fault)))) }
+        (λ fault. (fault ≡ Engine Memory)
+        ⊎ ((stop : Stop) × (IsFirstStop shares.items stop × (fault ≡ stop.fault)))) }
 {
     let mut slots = Slots::new(alloc, names)?;
     let mut first: Option<Stop> = None;
@@ -129,7 +132,8 @@ pub fn joined(
 // The stop at the lesser number.
 fn earlier(first: Option<Stop>, stop: Stop) -> Stop
     ensures one { (result ≡ stop) ⊎ (first ≡ Some result) }
-    ensures least { (result.number ≤ stop.number) × IfSome first (λ one. result.number ≤ one.number) }
+    ensures least { (result.number ≤ stop.number)
+        × IfSome first (λ one. result.number ≤ one.number) }
 {
     match first {
         Some(first) if first.number < stop.number => first,

@@ -11,15 +11,16 @@ use std::io::Write;
 /// Where an answer isn't written whole.
 #[derive(Clone, Copy, Debug, PartialEq, Eq)]
 pub struct OutFault {
-    /// The first part that isn't, by its number: those of the layers from 0 on, and then the report's.
+    /// The first part that isn't, by its number: those of the layers from 0 on, and then the
+    /// report's.
     pub part: u8,
     /// How many of its bytes went out, from the first on; fewer than all.
     pub written: usize,
 }
 
-/// Writes an answer's layers in their order, each to the writer in its place, and then the report, and gives the status
-/// that the program ends with. The first part that isn't written whole is told, and nothing is written behind it. No memory
-/// is taken.
+/// Writes an answer's layers in their order, each to the writer in its place, and then the report,
+/// and gives the status that the program ends with. The first part that isn't written whole is
+/// told, and nothing is written behind it. No memory is taken.
 pub fn hand_out<W: Write, O: Write>(
     answer: &Answer,
     files: &mut [W],
@@ -32,7 +33,8 @@ pub fn hand_out<W: Write, O: Write>(
         × AreWhole (map W.contents files.old ++ O.contents output.old ∷ [])
         (map W.contents files.new ++ O.contents output.new ∷ [])
         (new_manifests answer.now ++ answer.now.report.items ∷ []))
-        (λ fault. IsCutAt fault.part fault.written (map W.contents files.old ++ O.contents output.old ∷ [])
+        (λ fault. IsCutAt fault.part fault.written
+        (map W.contents files.old ++ O.contents output.old ∷ [])
         (map W.contents files.new ++ O.contents output.new ∷ [])
         (new_manifests answer.now ++ answer.now.report.items ∷ [])) }
 {
@@ -53,7 +55,8 @@ fn hand_on<W: Write, O: Write>(
         (λ _. AreWhole (map W.contents files.old ++ O.contents output.old ∷ [])
         (map W.contents files.new ++ O.contents output.new ∷ [])
         (map (λ layer. layer.items) layers.now ++ report.now ∷ []))
-        (λ fault. IsCutAt fault.part fault.written (map W.contents files.old ++ O.contents output.old ∷ [])
+        (λ fault. IsCutAt fault.part fault.written
+        (map W.contents files.old ++ O.contents output.old ∷ [])
         (map W.contents files.new ++ O.contents output.new ∷ [])
         (map (λ layer. layer.items) layers.now ++ report.now ∷ [])) }
     ensures within { IfErr result (λ fault. fault.part ≤ length files.old) }

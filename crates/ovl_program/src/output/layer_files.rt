@@ -16,10 +16,11 @@ use std::io::{self, Write};
 use std::os::unix::fs::MetadataExt;
 use std::rt::Files;
 
-/// Writes an answer's new layers into a folder, the topmost as `layer-0.json`, the next as `layer-1.json` and so on, and
-/// then its report. All memory that this takes is had before the first file is opened. All files are opened, and made where
-/// they aren't there, before one of them is emptied, and all are emptied before the first byte is written. Two that lead to
-/// one file can't be written.
+/// Writes an answer's new layers into a folder, the topmost as `layer-0.json`, the next as
+/// `layer-1.json` and so on, and then its report. All memory that this takes is had before the
+/// first file is opened. All files are opened, and made where they aren't there, before one of them
+/// is emptied, and all are emptied before the first byte is written. Two that lead to one file
+/// can't be written.
 pub fn write_answer<R: Files + AllocGlobal, W: Write>(
     rt: &R,
     folder: &str,
@@ -30,7 +31,8 @@ pub fn write_answer<R: Files + AllocGlobal, W: Write>(
     ensures { MatchResult result
         (λ ending. (ending ≡ ending_of answer.now.clean)
         × Appends (W.contents writer.old) (W.contents writer.new) answer.now.report.items)
-        (λ fault. IsUnfinished folder.now answer.now (W.contents writer.old) (W.contents writer.new) fault) }
+        (λ fault. IsUnfinished folder.now answer.now (W.contents writer.old)
+        (W.contents writer.new) fault) }
 {
     let alloc = rt.alloc();
     let paths = layer_paths(alloc, folder, answer.layers.len())?;
@@ -44,7 +46,8 @@ pub fn write_answer<R: Files + AllocGlobal, W: Write>(
 // The paths of so many new layers in a folder.
 fn layer_paths(alloc: Global, folder: &str, count: usize) -> Result<Vec<String>, AllocError>
     ensures each { IfOk result (λ paths. vec_len paths ≡ count) }
-    ensures named { IfOk result (λ paths. All (λ path. IsLayerFile folder.now count (string_bytes path)) paths.items) }
+    ensures named { IfOk result
+        (λ paths. All (λ path. IsLayerFile folder.now count (string_bytes path)) paths.items) }
 {
     let mut paths = Vec::with_capacity(alloc, count)?;
     for index in 0..count {
@@ -85,7 +88,8 @@ fn put_out<R: Files, W: Write>(
     hand_out(answer, files.as_mut_slice(), writer)
 }
 
-// Opens the files of these paths, in their order, and makes those that aren't there. What is in them stays.
+// Opens the files of these paths, in their order, and makes those that aren't there. What is in
+// them stays.
 fn open_all<R: Files>(rt: &R, paths: &[String], files: &mut Vec<R::File>) -> Result<(), OutFault>
     requires none { files.old.items ≡ [] }
     requires room { length paths.now ≤ vec_capacity files.old }
@@ -108,8 +112,9 @@ fn open_all<R: Files>(rt: &R, paths: &[String], files: &mut Vec<R::File>) -> Res
     Ok(())
 }
 
-// Opens a file for writing, where it is none of the others, of which there are few. Where standard output is closed, a file
-// that is opened gets its descriptor, and the report with it; a copy of a descriptor is none of the standard ones.
+// Opens a file for writing, where it is none of the others, of which there are few. Where standard
+// output is closed, a file that is opened gets its descriptor, and the report with it; a copy of a
+// descriptor is none of the standard ones.
 fn open_apart<R: Files>(rt: &R, path: &str, others: &[R::File]) -> Option<R::File> {
     let mut options = OpenOptions::new();
     options.write(true).create(true);
@@ -150,7 +155,8 @@ fn empty(file: &impl OpenFile) -> io::Result<()> {
     Ok(())
 }
 
-// The fault where a part isn't written whole: the file that was to have these bytes, or standard output.
+// The fault where a part isn't written whole: the file that was to have these bytes, or standard
+// output.
 fn unwritten(mut paths: Vec<String>, fault: OutFault) -> ProgramFault
     ensures layer { fault.part < vec_len paths
         → (path : String Global) × ((result ≡ Unwritten path) × Contains paths.items path) }

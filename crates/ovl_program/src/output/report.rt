@@ -10,9 +10,9 @@ use ovl_engine::{Answer, EngineFault, emit};
 use std::io::Write;
 use std::rt::Files;
 
-/// Writes what a command gives: first its new layers into the folder `out`, if there is one, and then its report. Where the
-/// command is refused for faults, their report is written and no layer. Nothing is written to the writer where the command
-/// gives no answer, or a layer can't be written.
+/// Writes what a command gives: first its new layers into the folder `out`, if there is one, and
+/// then its report. Where the command is refused for faults, their report is written and no layer.
+/// Nothing is written to the writer where the command gives no answer, or a layer can't be written.
 pub fn write_report<H: Files + AllocGlobal, W: Write>(
     rt: &H,
     answered: Result<Answer, EngineFault>,
@@ -36,7 +36,8 @@ pub fn write_report<H: Files + AllocGlobal, W: Write>(
 // Writes a report, with which the program ends so.
 fn write<W: Write>(writer: &mut W, report: &[u8], ending: Ending) -> Result<Ending, ProgramFault>
     ensures { MatchResult result
-        (λ ended. (ended ≡ ending) × Appends (W.contents writer.old) (W.contents writer.new) report.now)
+        (λ ended. (ended ≡ ending)
+        × Appends (W.contents writer.old) (W.contents writer.new) report.now)
         (λ fault. (fault ≡ Output) × ((count : ℕ) × ((count < length report.now)
         × Appends (W.contents writer.old) (W.contents writer.new) (take count report.now)))) }
 {

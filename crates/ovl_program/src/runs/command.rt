@@ -20,10 +20,12 @@ use std::rt::Files;
 use std::sync::Wait;
 use std::thread::Threads;
 
-/// Does what a line asks for: reads its layers and then its blobs, and writes the new layers and then the report. Where it asks
-/// for blobs of any size, those that the layers name are read in parts once all else is tested that is before any work.
-/// Nothing is written where a file or a folder isn't read, or the command gives no answer; where it is refused for faults,
-/// their report is written alone. What files hold is what their reads give; of a file that changes nothing more is said.
+/// Does what a line asks for: reads its layers and then its blobs, and writes the new layers and
+/// then the report. Where it asks for blobs of any size, those that the layers name are read in
+/// parts once all else is tested that is before any work. Nothing is written where a file or a
+/// folder isn't read, or the command gives no answer; where it is refused for faults, their report
+/// is written alone. What files hold is what their reads give; of a file that changes nothing more
+/// is said.
 pub fn perform<
     R: Files + SharedFiles + AllocGlobal + Clone + Drop + Threads + Wait + Sync,
     W: Write,
@@ -47,7 +49,8 @@ fn answer_held<R: AllocGlobal + Threads + Wait + Sync>(
     blobs: &[Blob],
 ) -> Result<Answer, EngineFault>
     ensures { IsComingDown (the_left_of line.now.what line.now.down_to)
-        (request_of line.now.what manifests.items line.now.data_layers blobs.now line.now.workers) result }
+        (request_of line.now.what manifests.items line.now.data_layers blobs.now
+        line.now.workers) result }
 {
     let data_layers = line.data_layers;
     match left_of(line) {

@@ -19,8 +19,8 @@ use std::rt::Files;
 use std::sync::Wait;
 use std::thread::Threads;
 
-/// Does what a line asks for with its manifests and the blobs of this folder of it, which are read in parts once nothing
-/// refuses the command before its work.
+/// Does what a line asks for with its manifests and the blobs of this folder of it, which are read
+/// in parts once nothing refuses the command before its work.
 pub fn perform_in_parts<R: Files + SharedFiles + AllocGlobal + Threads + Wait + Sync, W: Write>(
     rt: &R,
     line: &Line,
@@ -36,7 +36,8 @@ pub fn perform_in_parts<R: Files + SharedFiles + AllocGlobal + Threads + Wait + 
     write_report(rt, answered, &line.out, writer)
 }
 
-// What the line's command gives of these manifests and the blobs of this folder, where it can be told what these are.
+// What the line's command gives of these manifests and the blobs of this folder, where it can be
+// told what these are.
 fn answer_in_parts<R: Files + SharedFiles + AllocGlobal + Threads + Wait + Sync>(
     rt: &R,
     line: &Line,

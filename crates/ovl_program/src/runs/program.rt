@@ -11,8 +11,9 @@ use std::rt::{Env, Files};
 use std::sync::Wait;
 use std::thread::Threads;
 
-/// Does what the words ask for, or without any word what standard input asks for, and gives the status that the program
-/// ends with. A fault is told on standard error; where that can't be written either, the status says it.
+/// Does what the words ask for, or without any word what standard input asks for, and gives the
+/// status that the program ends with. A fault is told on standard error; where that can't be
+/// written either, the status says it.
 pub fn run<
     R: Env
         + Files

@@ -16,16 +16,19 @@ use std::rt::Files;
 use std::sync::Wait;
 use std::thread::Threads;
 
-/// Writes the report of `show` over the one layer that a reader's manifest states, by [`DEFAULT_WORKERS`].
-/// Nothing is written where the input isn't read or the layer has no report.
+/// Writes the report of `show` over the one layer that a reader's manifest states, by
+/// [`DEFAULT_WORKERS`]. Nothing is written where the input isn't read or the layer has no report.
 pub fn show_input<H: Threads + Wait + Sync + Files + AllocGlobal, R: Read, W: Write>(
     rt: &H,
     reader: &mut R,
     writer: &mut W,
 ) -> Result<Ending, ProgramFault>
-    ensures shown { IfSome (R.remaining reader.old) (λ manifest. (result ≡ Err Input) ⊎ ((result ≡ Err (Engine Memory))
-        ⊎ IsReported (IsComing (input_request manifest)) None (W.contents writer.old) (W.contents writer.new) result)) }
-    ensures silent { IfErr result (λ fault. fault ≢ Output → Keeps (W.contents writer.old) (W.contents writer.new)) }
+    ensures shown { IfSome (R.remaining reader.old)
+        (λ manifest. (result ≡ Err Input) ⊎ ((result ≡ Err (Engine Memory))
+        ⊎ IsReported (IsComing (input_request manifest)) None (W.contents writer.old)
+        (W.contents writer.new) result)) }
+    ensures silent { IfErr result
+        (λ fault. fault ≢ Output → Keeps (W.contents writer.old) (W.contents writer.new)) }
 {
     let manifest = read_all(rt.alloc(), reader, INPUT_LIMIT)?;
     show_manifest(rt, manifest, writer)
@@ -37,7 +40,8 @@ fn show_manifest<H: Threads + Wait + Sync + Files + AllocGlobal, W: Write>(
     manifest: Vec<u8>,
     writer: &mut W,
 ) -> Result<Ending, ProgramFault>
-    ensures { IsReported (IsComing (input_request manifest.items)) None (W.contents writer.old) (W.contents writer.new) result }
+    ensures { IsReported (IsComing (input_request manifest.items)) None (W.contents writer.old)
+        (W.contents writer.new) result }
 {
     let mut manifests = Vec::new(rt.alloc());
     manifests.push(manifest)?;
