@@ -1,10 +1,10 @@
-use Rattle.std.proofs.Common.{◌≡◌, ◌∙◌, ◌<◌, ℕ, [], Some, length, sym, ap, subst, arith}
+use Rattle.std.proofs.Common.{◌≡◌, ◌∙◌, ◌<◌, ℕ, [], Some, length, sym, ap, subst, arith, leb-true}
 use Rattle.std.proofs.lemmas.Result.{IfOk-weaker}
 use Rattle.std.specs.Option.{option_map}
 use Rattle.ovl_names.specs.Names.{PathName}
 use Rattle.ovl_names.specs.Paths.{parent_path, child_path}
 use Rattle.ovl_inode.specs.declared.inodes.Inode.{Inode}
-use Rattle.ovl_layer.specs.Layers.{Entries, entry_at}
+use Rattle.ovl_layer.specs.Layers.{Entries, entry_at, entry_limit}
 use Rattle.ovl_layer.specs.Sheets.{path_at, last_name}
 use Rattle.ovl_layer.specs.Entries.{stated_pair}
 use Rattle.ovl_layer.specs.Drafts.{draft_entries, IsDraft}
@@ -12,7 +12,7 @@ use Rattle.ovl_layer.proofs.EntryLemmas.{one_more}
 use Rattle.ovl_lookup.specs.Stacks.{StackView}
 use Rattle.ovl_lookup.specs.Words.{top_layer}
 use Rattle.ovl_lookup.proofs.LawsOfLooks.{top-layer}
-use Rattle.ovl_vacuum.proofs.RowLemmas.{left-first, left-child, left-passed, left-all, root-first, named-row}
+use Rattle.ovl_vacuum.proofs.RowLemmas.{left-first, left-count, left-child, left-passed, left-all, root-first, named-row}
 use Rattle.ovl_vacuum.proofs.finish.layer_left.Goals as goal
 use Rattle.ovl_vacuum.proofs.finish.layer_left.Goals.{then-not-gone-number+in_ok-name+in_ok-inode+in_ok-enter, then-own-directory+in_ok-above, else-own-directory, else-not-gone-number}
 
@@ -22,6 +22,13 @@ unwrap-requires c =
     let inside : c.loop-number.number < length (top_layer c.args.stack.now) = omega (arith, c.loop-number-test.true, c.len-number-end.ensures.value, ap length same) in
     named-row (top_layer c.args.stack.now) (top-layer c.args.stack.now c.top-sheet.ensures.some c.top-sheet.ensures.each) c.loop-number.number c.loop-number.invariant.some inside
     c.name.result (c.name.ensures ∙ (λ j. last_name (path_at (same j) c.loop-number.number)))
+
+pub enter-requires-clause-room : goal.enter-requires-clause-room
+enter-requires-clause-room c =
+    let stack : StackView = c.args.stack.now in
+    let is = top-layer stack c.top-sheet.ensures.some c.top-sheet.ensures.each in
+    let inside : c.loop-number.number < length (top_layer stack) = omega (arith, c.loop-number-test.true, c.len-number-end.ensures.value, ap length c.top-sheet.ensures.value) in
+    omega (arith, c.loop-number.invariant.count, ap length c.loop-number.invariant.left, left-count stack c.loop-number.number, inside, leb-true (length (top_layer stack)) entry_limit is.counted)
 
 pub loop-number-init : goal.loop-number-init
 loop-number-init c =
