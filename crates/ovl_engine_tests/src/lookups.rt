@@ -7,7 +7,7 @@ use crate::samples::{layer_of, stack_of};
 use crate::tables::{parts_of, same};
 use ovl_inode::Kind;
 use ovl_layer::Layer;
-use ovl_lookup::{DirView, Look, Stack, StackFault, Step, Trail, follow, walk};
+use ovl_lookup::{DirView, Look, Stack, StackFault, Step, Trail, walk};
 use ovl_names::{Name, Path};
 use std::alloc::{AllocError, Global};
 use std::test::Fail;
@@ -119,8 +119,7 @@ fn walked(alloc: Global, stack: &Stack, path: &Path) -> Result<String, Fail>
     requires { 0 < length (all_layers stack.now) }
 {
     let trail = Trail::of(alloc, &path.names())?;
-    let step = follow(alloc, stack.any_sheet(0), trail)?.copied(alloc)?;
-    let line = step_line(alloc, &step)?;
+    let line = step_line(alloc, &stack.own_walk(alloc, 0, trail)?.copied(alloc)?)?;
     if step_line(alloc, &walk(alloc, stack.any_sheet(0), path)?)? != line {
         return Err(Fail::new("the walks differ"));
     }

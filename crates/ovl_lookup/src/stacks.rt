@@ -2,14 +2,14 @@ ghost use Rattle.std.specs.Prelude.{◌≡◌, ◌≢◌, ◌<◌, ◌≤◌, �
 ghost use Rattle.std.specs.Option.{option_map};
 ghost use Rattle.std.specs.List.{All};
 ghost use Rattle.ovl_layer.specs.Layers.{IsLayer, entry_at, is_directory_at, names_below};
-ghost use Rattle.ovl_lookup.specs.Passes.{IsOwnMarked, IsOwnDirectory, own_step_of};
+ghost use Rattle.ovl_lookup.specs.Passes.{IsMarked, IsOwnMarked, IsOwnDirectory, step_of, own_step_of};
 ghost use Rattle.ovl_lookup.specs.Walk.{walk as the_walk};
 ghost use Rattle.ovl_lookup.specs.declared.stacks.StackFault.TheVariants.{Layers, Memory, DataCount};
 ghost use Rattle.ovl_lookup.specs.Stacks.{layer_limit, all_layers, stack_with};
 ghost use Rattle.ovl_lookup.specs.Words.{top_layer};
 
 use crate::steps::directory_in;
-use crate::{OwnDirectory, OwnStep, Trail};
+use crate::{OwnDirectory, OwnStep, Trail, TrailStep, follow};
 use ovl_inode::Inode;
 use ovl_layer::{Layer, Sheet};
 use ovl_names::{Name, Path};
@@ -205,8 +205,23 @@ impl Stack {
         self.any_sheet(i).children(alloc, path)
     }
 
-    /// The walk of a trail in layer `i`, see [`OwnStep::at`]; `i` is below the number of layers.
-    /// Fails only when out of memory.
+    /// The walk of a trail in layer `i`, see [`follow`]; `i` is below the number of layers. Fails
+    /// only when out of memory.
+    pub fn own_walk<'a>(
+        &'a self,
+        alloc: Global,
+        i: usize,
+        trail: Trail<'a>,
+    ) -> Result<TrailStep<'a>, AllocError>
+        requires { i < length (all_layers self.now) }
+        ensures value { IfSome (slice_get (all_layers self.now) i)
+            (λ layer. IfOk result (λ step. step_of step ≡ the_walk layer trail.entry)) }
+        ensures marked { IfOk result IsMarked }
+    {
+        follow(alloc, self.any_sheet(i), trail)
+    }
+
+    /// The same, with the path for the layer below only where marks turn it, see [`OwnStep::at`].
     pub fn own_step<'a>(
         &'a self,
         alloc: Global,
