@@ -6,7 +6,7 @@ use Rattle.ovl_board.proofs.LawsOfMembers.{In}
 use Rattle.ovl_check.specs.declared.findings.Finding.{Finding}
 use Rattle.ovl_check.specs.declared.findings.Code.TheVariants.{RedirectDouble}
 use Rattle.ovl_check.specs.Findings.{finding}
-use Rattle.ovl_check.specs.Walks.{View, is_among, double_at, places_with, moved_places, if_among, doubles_after, doubles_among}
+use Rattle.ovl_check.specs.Walks.{View, is_among, double_at, places_with, moved_places, if_sought, doubles_after, doubles_among}
 use Rattle.ovl_check.proofs.DoubleLemmas.{among-In, In-among, with-cases, with-old, with-new}
 
 -- ---- the places where moved directories go on
@@ -34,7 +34,7 @@ module _ (wanted : List PathNames) where
   abbrev Agree : List PathNames → List PathNames → Type 0
   Agree places kept = (q : PathNames) → In q wanted → (In q places → In q kept) × (In q kept → In q places)
 
-  agree-with : (places kept : List PathNames) (o : Option PathNames) → Agree places kept → Agree (places_with places o) (places_with kept (if_among wanted o))
+  agree-with : (places kept : List PathNames) (o : Option PathNames) → Agree places kept → Agree (places_with places o) (places_with kept (if_sought wanted o))
   agree-with places kept None agree = agree
   agree-with places kept (Some p) agree = by (is_among wanted p) refl
     where
@@ -63,7 +63,7 @@ module _ (wanted : List PathNames) where
       by true e false f = sym (In-among kept q ((agree q h).0 (among-In places q e))) ∙ f
       by false e true f = sym e ∙ In-among places q ((agree q h).1 (among-In kept q f))
 
-  double-same : (places kept : List PathNames) → Agree places kept → (v : View) (o : Option PathNames) → (v.seen.moved ≡ true → (q : PathNames) → o ≡ Some q → In q wanted) → double_at kept v (if_among wanted o) ≡ double_at places v o
+  double-same : (places kept : List PathNames) → Agree places kept → (v : View) (o : Option PathNames) → (v.seen.moved ≡ true → (q : PathNames) → o ≡ Some q → In q wanted) → double_at kept v (if_sought wanted o) ≡ double_at places v o
   double-same places kept agree v None moved = refl
   double-same places kept agree v (Some p) moved = by v.seen.moved refl
     where
@@ -74,7 +74,7 @@ module _ (wanted : List PathNames) where
       of_other true m = ap (λ c. cond (c && is_among kept p) one []) m
       of_other false m = refl
 
-      by : (m : Bool) → v.seen.moved ≡ m → double_at kept v (if_among wanted (Some p)) ≡ double_at places v (Some p)
+      by : (m : Bool) → v.seen.moved ≡ m → double_at kept v (if_sought wanted (Some p)) ≡ double_at places v (Some p)
       by true m =
           let h = moved m p refl in
           ap (λ b. double_at kept v (cond b (Some p) None)) (In-among wanted p h)
@@ -85,7 +85,7 @@ module _ (wanted : List PathNames) where
   among-after places kept agree [] moved = refl
   among-after places kept agree (v ∷ views) moved =
       let here = double-same places kept agree v v.seen.place (moved v (inl refl)) in
-      let later = among-after (places_with places v.seen.place) (places_with kept (if_among wanted v.seen.place)) (agree-with places kept v.seen.place agree) views (λ w k. moved w (inr k)) in
+      let later = among-after (places_with places v.seen.place) (places_with kept (if_sought wanted v.seen.place)) (agree-with places kept v.seen.place agree) views (λ w k. moved w (inr k)) in
       λ j. here j ++ later j
 
 pub doubles-among_moved : (views : List View) → doubles_among (moved_places [] views) [] views ≡ doubles_after [] views
