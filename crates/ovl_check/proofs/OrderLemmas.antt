@@ -1,8 +1,8 @@
 -- The order of findings: by layer, then by path, then by code.
-use Rattle.std.proofs.Common.{◌≡◌, ℕ, ◌+◌, ◌<◌, ◌≤◌, inl, inr, Bool, true, List, [], ◌∷◌, ◌++◌, map, refl, sym, ap, ◌∙◌, subst, arith}
-use Rattle.std.specs.Prelude.{◌&&◌, filter}
-use Rattle.std.specs.List.{All}
-use Rattle.std.specs.Ordering.{nat_cmp, ordering_then, ordering_reverse, MatchOrdering, eq_by_cmp}
+use Rattle.std.proofs.Common.{◌≡◌, ℕ, zero, suc, ◌+◌, ◌<◌, ◌≤◌, inl, inr, Bool, true, Option, Some, List, [], ◌∷◌, ◌++◌, map, refl, sym, ap, ◌∙◌, subst, arith}
+use Rattle.std.specs.Prelude.{◌&&◌, filter, length, unwrap_or}
+use Rattle.std.specs.List.{All, slice_get}
+use Rattle.std.specs.Ordering.{is_lt, nat_cmp, ordering_then, ordering_reverse, MatchOrdering, eq_by_cmp}
 use Rattle.std.specs.Cmp.{IsTotalOrder, IsEquivalence}
 use Rattle.std.specs.Cmp.Lexicographic.{nat_list_cmp_total, lists_total}
 use Rattle.std.specs.FinMap.{nat_cmp-IsAntisymmetric}
@@ -16,7 +16,7 @@ use Rattle.ovl_lookup.proofs.LawsOfPaths.{all-first, all-rest}
 use Rattle.ovl_board.proofs.LawsOfMembers.{In, Rises, Rises-append, Rises-flat_map, In-cases, In-map-cases, In-flat_map-cases, Rises-filter}
 use Rattle.ovl_check.specs.declared.findings.Finding.{Finding}
 use Rattle.ovl_check.specs.declared.findings.Code.{Code}
-use Rattle.ovl_check.specs.declared.findings.Code.TheVariants.{RedirectForm, RedirectLost, RedirectKind, RedirectDouble, RedirectOpen, DataMissing, DataSize, BlobMissing, BlobSize, BlobDigest, OrphanWhiteout, WhiteoutInOpaque, WhiteoutUnmarked, ImpureMissing, MarkIgnored}
+use Rattle.ovl_check.specs.declared.findings.Code.TheVariants.{RedirectForm}
 use Rattle.ovl_check.specs.contracts.findings.FindingOrd.TheImpl as finding_ord
 use Rattle.ovl_check.specs.contracts.findings.CodeOrd.TheImpl as code_ord
 use Rattle.ovl_check.specs.contracts.findings.FindingOrd.TheImpl.Laws as finding_laws
@@ -41,22 +41,21 @@ finding_total = finding_laws.total-law
 
 -- ---- findings that compare alike are one
 
+-- how many codes come before it
+abbrev place_of : Code → ℕ
+place_of code = length (filter (λ c. is_lt (code_cmp c code)) all_codes)
+
+at_its_place : (code : Code) → slice_get all_codes (place_of code) ≡ Some code
+at_its_place RedirectForm = refl
+at_its_place _ = refl
+
+placed : (x : Code) (xs : List Code) (i : ℕ) → slice_get xs i ≡ Some x → In x xs
+placed x [] i e = absurd (cc)
+placed x (y ∷ xs) zero e = inl (ap (λ o. unwrap_or o x) (sym e))
+placed x (y ∷ xs) (suc i) e = inr (placed x xs i e)
+
 listed : (code : Code) → In code all_codes
-listed RedirectForm = inl refl
-listed RedirectLost = inr (inl refl)
-listed RedirectKind = inr (inr (inl refl))
-listed RedirectDouble = inr (inr (inr (inl refl)))
-listed RedirectOpen = inr (inr (inr (inr (inl refl))))
-listed DataMissing = inr (inr (inr (inr (inr (inl refl)))))
-listed DataSize = inr (inr (inr (inr (inr (inr (inl refl))))))
-listed BlobMissing = inr (inr (inr (inr (inr (inr (inr (inl refl)))))))
-listed BlobSize = inr (inr (inr (inr (inr (inr (inr (inr (inl refl))))))))
-listed BlobDigest = inr (inr (inr (inr (inr (inr (inr (inr (inr (inl refl)))))))))
-listed OrphanWhiteout = inr (inr (inr (inr (inr (inr (inr (inr (inr (inr (inl refl))))))))))
-listed WhiteoutInOpaque = inr (inr (inr (inr (inr (inr (inr (inr (inr (inr (inr (inl refl)))))))))))
-listed WhiteoutUnmarked = inr (inr (inr (inr (inr (inr (inr (inr (inr (inr (inr (inr (inl refl))))))))))))
-listed ImpureMissing = inr (inr (inr (inr (inr (inr (inr (inr (inr (inr (inr (inr (inr (inl refl)))))))))))))
-listed MarkIgnored = inr (inr (inr (inr (inr (inr (inr (inr (inr (inr (inr (inr (inr (inr (inl refl))))))))))))))
+listed code = placed code all_codes (place_of code) (at_its_place code)
 
 codes-rise : Rises (λ a b. code_cmp a b ≡ Less) all_codes
 codes-rise = Rises-ascends code_cmp all_codes refl

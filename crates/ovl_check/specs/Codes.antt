@@ -1,5 +1,5 @@
 -- The codes of findings.
-use Rattle.std.specs.Prelude.{Bool, true, false, ◌||◌, List, [], ◌∷◌}
+use Rattle.std.specs.Prelude.{ℕ, Bool, true, false, ◌||◌, List, [], ◌∷◌, codes}
 use Rattle.ovl_check.specs.declared.findings.Code.{Code}
 use Rattle.ovl_check.specs.declared.findings.Code.TheVariants.{RedirectForm, RedirectLost, RedirectKind, RedirectDouble, RedirectOpen, DataMissing, DataSize, BlobMissing, BlobSize, BlobDigest, OrphanWhiteout, WhiteoutInOpaque, WhiteoutUnmarked, ImpureMissing, MarkIgnored}
 
@@ -10,6 +10,24 @@ all_codes =
     ∷ DataSize
     ∷ BlobMissing ∷ BlobSize ∷ BlobDigest
     ∷ OrphanWhiteout ∷ WhiteoutInOpaque ∷ WhiteoutUnmarked ∷ ImpureMissing ∷ MarkIgnored ∷ []
+
+-- the word of a code
+abbrev pub code_word : Code → List ℕ
+code_word RedirectForm = codes "redirect-form"
+code_word RedirectLost = codes "redirect-lost"
+code_word RedirectKind = codes "redirect-kind"
+code_word RedirectDouble = codes "redirect-double"
+code_word RedirectOpen = codes "redirect-open"
+code_word DataMissing = codes "data-missing"
+code_word DataSize = codes "data-size"
+code_word BlobMissing = codes "blob-missing"
+code_word BlobSize = codes "blob-size"
+code_word BlobDigest = codes "blob-digest"
+code_word OrphanWhiteout = codes "orphan-whiteout"
+code_word WhiteoutInOpaque = codes "whiteout-in-opaque"
+code_word WhiteoutUnmarked = codes "whiteout-unmarked"
+code_word ImpureMissing = codes "impure-missing"
+code_word MarkIgnored = codes "mark-ignored"
 
 -- those on blobs
 abbrev pub blob_codes : List Code

@@ -1,5 +1,5 @@
 ghost use Rattle.std.specs.Prelude.{◌≡◌};
-ghost use Rattle.ovl_check.specs.Codes.{is_fault as fault_test};
+ghost use Rattle.ovl_check.specs.Codes.{is_fault as fault_test, code_word};
 
 use ovl_names::Path;
 
@@ -45,6 +45,29 @@ impl Code {
         ensures { result ≡ fault_test self }
     {
         self < Code::OrphanWhiteout
+    }
+
+    /// Its word in a report.
+    pub fn word(self) -> &'static str
+        ensures { result.now ≡ code_word self }
+    {
+        match self {
+            Code::RedirectForm => "redirect-form",
+            Code::RedirectLost => "redirect-lost",
+            Code::RedirectKind => "redirect-kind",
+            Code::RedirectDouble => "redirect-double",
+            Code::RedirectOpen => "redirect-open",
+            Code::DataMissing => "data-missing",
+            Code::DataSize => "data-size",
+            Code::BlobMissing => "blob-missing",
+            Code::BlobSize => "blob-size",
+            Code::BlobDigest => "blob-digest",
+            Code::OrphanWhiteout => "orphan-whiteout",
+            Code::WhiteoutInOpaque => "whiteout-in-opaque",
+            Code::WhiteoutUnmarked => "whiteout-unmarked",
+            Code::ImpureMissing => "impure-missing",
+            Code::MarkIgnored => "mark-ignored",
+        }
     }
 }
 

@@ -4,28 +4,9 @@ use Rattle.std.specs.Prelude.{ℕ, Bool, ◌==◌, not, List, ◌++◌, if◌the
 use Rattle.std.specs.List.{flat_map, count_by}
 use Rattle.ovl_names.specs.Escapes.{shown_path}
 use Rattle.ovl_check.specs.declared.findings.Code.{Code}
-use Rattle.ovl_check.specs.declared.findings.Code.TheVariants.{RedirectForm, RedirectLost, RedirectKind, RedirectDouble, RedirectOpen, DataMissing, DataSize, BlobMissing, BlobSize, BlobDigest, OrphanWhiteout, WhiteoutInOpaque, WhiteoutUnmarked, ImpureMissing, MarkIgnored}
 use Rattle.ovl_check.specs.declared.findings.Finding.{Finding}
-use Rattle.ovl_check.specs.Codes.{is_fault}
+use Rattle.ovl_check.specs.Codes.{is_fault, code_word}
 use Rattle.ovl_reports.specs.Reports.{spaced}
-
--- the word of a code
-abbrev pub code_word : Code → List ℕ
-code_word RedirectForm = codes "redirect-form"
-code_word RedirectLost = codes "redirect-lost"
-code_word RedirectKind = codes "redirect-kind"
-code_word RedirectDouble = codes "redirect-double"
-code_word RedirectOpen = codes "redirect-open"
-code_word DataMissing = codes "data-missing"
-code_word DataSize = codes "data-size"
-code_word BlobMissing = codes "blob-missing"
-code_word BlobSize = codes "blob-size"
-code_word BlobDigest = codes "blob-digest"
-code_word OrphanWhiteout = codes "orphan-whiteout"
-code_word WhiteoutInOpaque = codes "whiteout-in-opaque"
-code_word WhiteoutUnmarked = codes "whiteout-unmarked"
-code_word ImpureMissing = codes "impure-missing"
-code_word MarkIgnored = codes "mark-ignored"
 
 -- `fault` or `note`
 abbrev pub weight_word : Code → List ℕ

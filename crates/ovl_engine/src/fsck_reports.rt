@@ -1,7 +1,7 @@
 ghost use Rattle.std.specs.Prelude.{◌≡◌, ◌<◌, ◌++◌, [], IfOk, OnOk, codes, decimal, string_bytes};
 ghost use Rattle.std.specs.List.{flat_map};
 ghost use Rattle.ovl_names.specs.Escapes.{shown_path};
-ghost use Rattle.ovl_engine.specs.FsckReports.{code_word as the_code_word, weight_word as the_weight_word, finding_line, fault_count, note_count, is_clean as clean_test, fsck_report};
+ghost use Rattle.ovl_engine.specs.FsckReports.{weight_word as the_weight_word, finding_line, fault_count, note_count, is_clean as clean_test, fsck_report};
 
 use ovl_check::{Code, Finding};
 use ovl_names::{Names, Path};
@@ -152,7 +152,7 @@ fn push_finding<'a>(
         (string_bytes report.new ≡ string_bytes report.old ++ finding_line finding.now) }
 {
     push_word(report, weight_word(finding.code))?;
-    push_word(report, code_word(finding.code))?;
+    push_word(report, finding.code.word())?;
     push_number_word(report, u64::from(finding.layer))?;
     above.push_path(alloc, report, &finding.path)?;
     report.push_str("\n")
@@ -162,28 +162,6 @@ fn weight_word(code: Code) -> &'static str
     ensures { result.now ≡ the_weight_word code }
 {
     if code.is_fault() { "fault" } else { "note" }
-}
-
-fn code_word(code: Code) -> &'static str
-    ensures { result.now ≡ the_code_word code }
-{
-    match code {
-        Code::RedirectForm => "redirect-form",
-        Code::RedirectLost => "redirect-lost",
-        Code::RedirectKind => "redirect-kind",
-        Code::RedirectDouble => "redirect-double",
-        Code::RedirectOpen => "redirect-open",
-        Code::DataMissing => "data-missing",
-        Code::DataSize => "data-size",
-        Code::BlobMissing => "blob-missing",
-        Code::BlobSize => "blob-size",
-        Code::BlobDigest => "blob-digest",
-        Code::OrphanWhiteout => "orphan-whiteout",
-        Code::WhiteoutInOpaque => "whiteout-in-opaque",
-        Code::WhiteoutUnmarked => "whiteout-unmarked",
-        Code::ImpureMissing => "impure-missing",
-        Code::MarkIgnored => "mark-ignored",
-    }
 }
 
 fn count_of_faults(found: &[Finding]) -> u64
