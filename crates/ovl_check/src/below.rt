@@ -4,7 +4,8 @@ ghost use Rattle.ovl_lookup.specs.Stacks.{all_layers};
 ghost use Rattle.ovl_names.specs.Paths.{child_path};
 ghost use Rattle.ovl_lookup.specs.Merged.{shows};
 ghost use Rattle.ovl_check.specs.Checks.{layers_below};
-ghost use Rattle.ovl_check.specs.Facts.{IsBelow, asks as asks_test, data_size, next_of};
+ghost use Rattle.ovl_check.specs.Facts.{IsBelow, data_size, next_of};
+ghost use Rattle.ovl_check.specs.Facts as facts;
 
 use crate::directories::{Child, Directory};
 use crate::places::{first_below, size_in};
@@ -26,7 +27,7 @@ pub(crate) fn below_children<'p, 'a: 'p>(
 ) -> Result<Option<DirView<'p>>, AllocError>
     requires { i < length (all_layers stack.now) }
     ensures { IfOk result
-        (λ below. closed ≡ false → list_any (λ child. asks_test child.mark.now) children.now ≡ true
+        (λ below. closed ≡ false → list_any (λ child. facts.asks child.mark.now) children.now ≡ true
         → IsBelow stack.now i (unwrap_or turned.now path.now) below) }
 {
     if closed {
@@ -43,14 +44,14 @@ pub(crate) fn below_children<'p, 'a: 'p>(
 }
 
 fn any_asks(children: &[Child<'_>]) -> bool
-    ensures { result ≡ list_any (λ child. asks_test child.mark.now) children.now }
+    ensures { result ≡ list_any (λ child. facts.asks child.mark.now) children.now }
 {
     children.iter().any(|child| asks(child.mark))
 }
 
 // Whether an entry of this mark asks what the layers below have at its name.
 fn asks(mark: &Mark) -> bool
-    ensures { result ≡ asks_test mark.now }
+    ensures { result ≡ facts.asks mark.now }
 {
     matches!(mark, Mark::Whiteout | Mark::Meta(_))
 }

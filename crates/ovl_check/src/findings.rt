@@ -1,5 +1,5 @@
 ghost use Rattle.std.specs.Prelude.{◌≡◌};
-ghost use Rattle.ovl_check.specs.Codes.{is_fault as fault_test};
+ghost use Rattle.ovl_check.specs.Codes as codes;
 
 use ovl_names::Path;
 
@@ -42,7 +42,7 @@ pub enum Code {
 impl Code {
     /// Whether it is a fault; the others are notes.
     pub fn is_fault(self) -> bool
-        ensures { result ≡ fault_test self }
+        ensures { result ≡ codes.is_fault self }
     {
         self < Code::OrphanWhiteout
     }

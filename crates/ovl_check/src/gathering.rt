@@ -3,7 +3,7 @@ ghost use Rattle.std.specs.List.{list_any};
 ghost use Rattle.ovl_lookup.specs.Stacks.{all_layers};
 ghost use Rattle.ovl_names.specs.Paths.{child_path};
 ghost use Rattle.ovl_inode.specs.Attributes.{origin_name};
-ghost use Rattle.ovl_inode.specs.Marks.{has_attribute as attribute_test, is_directory as the_directory};
+ghost use Rattle.ovl_inode.specs.Marks as marks;
 ghost use Rattle.ovl_inode.specs.declared.marks.Mark.TheVariants.{Meta};
 ghost use Rattle.ovl_layer.specs.Layers.{entry_at};
 ghost use Rattle.ovl_lookup.specs.declared.looks.Look.{Look};
@@ -14,7 +14,8 @@ ghost use Rattle.ovl_lookup.specs.Merged.{place_of_data};
 ghost use Rattle.ovl_lookup.specs.Sound.{is_seen_there};
 ghost use Rattle.ovl_check.specs.Checks.{layer_at, layers_below};
 ghost use Rattle.ovl_check.specs.CheckViews.{check_view};
-ghost use Rattle.ovl_check.specs.Facts.{IsGathered, IsBelow, IsMarked, AreFacts, asks, old_place as the_old_place, thing_shown as the_thing, whiteout_in as the_whiteout, data_size_on, blob_named as the_blob_named, next_of};
+ghost use Rattle.ovl_check.specs.Facts.{IsGathered, IsBelow, IsMarked, AreFacts, asks, data_size_on, next_of};
+ghost use Rattle.ovl_check.specs.Facts as facts;
 
 use crate::below::{data_size_in, show_in};
 use crate::directories::{Child, Directory};
@@ -39,7 +40,7 @@ pub(crate) fn facts_of_directory<'a>(
     requires gathered { IsGathered (layer_at work.now.stack.now i) directory.now }
     requires origin { holds_origin
         ≡ list_any
-        (λ child. attribute_test child.inode.now origin_name) directory.now.children.items }
+        (λ child. marks.has_attribute child.inode.now origin_name) directory.now.children.items }
     ensures { IfOk result
         (λ facts. (facts.inode.now ≡ directory.now.inode.now)
         × AreFacts (check_view work.now) i directory.now.path.now facts) }
@@ -72,11 +73,11 @@ pub(crate) fn facts_of_child<'a>(
     requires gathered { IsGathered (layer_at work.now.stack.now i) directory.now }
     requires entry { entry_at (layer_at work.now.stack.now i)
         (child_path directory.now.path.now child.now.name.now) ≡ Some child.now.inode.now }
-    requires none { the_directory child.now.inode.now ≡ false }
+    requires none { marks.is_directory child.now.inode.now ≡ false }
     requires marked { IsMarked child.now }
     requires below { directory.now.closed ≡ false → asks child.now.mark.now ≡ true
         → IsBelow work.now.stack.now i (next_of directory.now) directory.now.below }
-    requires blob { blob ≡ the_blob_named (check_view work.now).contents child.now.inode.now }
+    requires blob { blob ≡ facts.blob_named (check_view work.now).contents child.now.inode.now }
     ensures { IfOk result
         (λ facts. (facts.inode.now ≡ child.now.inode.now)
         × AreFacts (check_view work.now) i
@@ -115,7 +116,7 @@ fn old_place(
     requires { i < length (all_layers stack.now) }
     ensures { IfOk result
         (λ place. place
-        ≡ the_old_place (layer_at stack.now i) (layers_below stack.now i)
+        ≡ facts.old_place (layer_at stack.now i) (layers_below stack.now i)
         (next_of directory.now) directory.now.closed) }
 {
     if directory.closed {
@@ -150,7 +151,7 @@ fn open_place<'a>(
     requires { i < length (all_layers stack.now) }
     ensures { IfOk result
         (λ old. old
-        ≡ the_old_place (layer_at stack.now i) (layers_below stack.now i) place.entry false) }
+        ≡ facts.old_place (layer_at stack.now i) (layers_below stack.now i) place.entry false) }
 {
     let thing = thing_shown(sight_below(alloc, stack, i, place.copy(alloc)?)?);
     let is_seen = is_seen(alloc, stack, i, &place)?;
@@ -158,7 +159,7 @@ fn open_place<'a>(
 }
 
 fn thing_shown(sight: Sight) -> ThingShown
-    ensures { (look : Look) → sight ≡ sight_of look → result ≡ the_thing look }
+    ensures { (look : Look) → sight ≡ sight_of look → result ≡ facts.thing_shown look }
 {
     match sight {
         Sight::Nothing => ThingShown::Nothing,
@@ -212,7 +213,7 @@ fn whiteout_in(stack: &Stack, i: usize, directory: &Directory<'_, '_>, name: &Na
     requires inside { i < length (all_layers stack.now) }
     requires below { directory.now.closed ≡ false
         → IsBelow stack.now i (next_of directory.now) directory.now.below }
-    ensures { result ≡ the_whiteout (layers_below stack.now i) directory.now name.now }
+    ensures { result ≡ facts.whiteout_in (layers_below stack.now i) directory.now name.now }
 {
     if matches!(directory.mark, Mark::DirOpaque) {
         return KindFacts::WhiteoutInOpaque;
