@@ -19,14 +19,13 @@ use crate::directories::{Child, Directory, directory_at, hold_origin, kids_of};
 use crate::facts::{BLOB_CODES, CODES, Facts, NamedBlob, is_silent};
 use crate::findings::{Code, Finding};
 use crate::gathering::{facts_of_child, facts_of_directory};
-use crate::marks::is_moved;
 use crate::named::ByName;
 use crate::next_places::Place;
 use crate::sources::HeldBlobs;
 use crate::subjects::{CheckOut, CheckWork, ToldBlobs};
 use ovl_board::{Piece, Work};
 use ovl_inode::{Digest, Mark, is_directory};
-use ovl_lookup::{Stack, Trail};
+use ovl_lookup::{Stack, Trail, is_moved};
 use ovl_names::{DEPTH_LIMIT, Name, Path};
 use std::alloc::{AllocError, Global};
 

@@ -1,12 +1,14 @@
-ghost use Rattle.std.specs.Prelude.{◌≡◌, ◌<◌, not, true, false, Some, length, unwrap_or, IfOk};
+ghost use Rattle.std.specs.Prelude.{◌≡◌, ◌<◌, ℕ, not, true, false, Some, length, unwrap_or, IfOk, IfSome};
 ghost use Rattle.std.specs.List.{list_any};
 ghost use Rattle.ovl_lookup.specs.Stacks.{all_layers};
 ghost use Rattle.ovl_names.specs.Paths.{child_path};
 ghost use Rattle.ovl_inode.specs.Attributes.{origin_name};
+ghost use Rattle.ovl_inode.specs.declared.inodes.Inode.{Inode};
 ghost use Rattle.ovl_inode.specs.Marks as marks;
 ghost use Rattle.ovl_inode.specs.declared.marks.Mark.TheVariants.{Meta};
 ghost use Rattle.ovl_layer.specs.Layers.{entry_at};
 ghost use Rattle.ovl_lookup.specs.declared.looks.Look.{Look};
+ghost use Rattle.ovl_lookup.specs.DirViews.{IsViewOver};
 ghost use Rattle.ovl_lookup.specs.Walk.{walk_to_file};
 ghost use Rattle.ovl_lookup.specs.Sights.{sight_of};
 ghost use Rattle.ovl_lookup.specs.Trails.{trail_eq};
@@ -23,7 +25,7 @@ use crate::facts::{Facts, KindFacts, NamedBlob, OldPlace, ThingShown};
 use crate::marks::is_plain;
 use crate::places::{data_size_below, sight_below, step_of};
 use crate::subjects::CheckWork;
-use ovl_inode::{Inode, Mark, Redirect};
+use ovl_inode::{Mark, Redirect};
 use ovl_lookup::{OwnStep, Sight, Stack, Trail};
 use ovl_names::{Name, Path};
 use std::alloc::{AllocError, Global};
@@ -84,15 +86,9 @@ pub(crate) fn facts_of_child<'a>(
         (child_path directory.now.path.now child.now.name.now) facts) }
 {
     let kind = match child.mark {
-        Mark::Whiteout => whiteout_in(work.stack, i, directory, child.name),
+        Mark::Whiteout => whiteout_in(work.stack, directory, child.name),
         Mark::Meta(redirect) => KindFacts::Metacopy(data_size(
-            alloc,
-            work.stack,
-            i,
-            directory,
-            child.name,
-            redirect,
-            child.inode,
+            alloc, work.stack, i, directory, child.name, redirect,
         )?),
         _ => KindFacts::Other,
     };
@@ -208,12 +204,13 @@ fn is_elsewhere(turned: &Option<Trail<'_>>, place: &Trail<'_>) -> bool
     }
 }
 
-// A whiteout in a directory of layer `i`.
-fn whiteout_in(stack: &Stack, i: usize, directory: &Directory<'_, '_>, name: &Name) -> KindFacts
-    requires inside { i < length (all_layers stack.now) }
-    requires below { directory.now.closed ≡ false
-        → IsBelow stack.now i (next_of directory.now) directory.now.below }
-    ensures { result ≡ facts.whiteout_in (layers_below stack.now i) directory.now name.now }
+// A whiteout in a directory.
+fn whiteout_in(stack: &Stack, directory: &Directory<'_, '_>, name: &Name) -> KindFacts
+    requires { directory.now.closed ≡ false → IfSome directory.now.below (IsViewOver stack.now) }
+    ensures { (i : ℕ)
+        → (directory.now.closed ≡ false
+        → IsBelow stack.now i (next_of directory.now) directory.now.below)
+        → result ≡ facts.whiteout_in (layers_below stack.now i) directory.now name.now }
 {
     if matches!(directory.mark, Mark::DirOpaque) {
         return KindFacts::WhiteoutInOpaque;
@@ -227,7 +224,7 @@ fn whiteout_in(stack: &Stack, i: usize, directory: &Directory<'_, '_>, name: &Na
     }
     KindFacts::Whiteout {
         is_marked,
-        hides: show_in(stack, i, directory, name),
+        hides: show_in(stack, directory, name),
     }
 }
 
@@ -240,14 +237,13 @@ fn data_size(
     directory: &Directory<'_, '_>,
     name: &Name,
     redirect: &Option<Redirect>,
-    _inode: &Inode,
 ) -> Result<Option<u64>, AllocError>
     requires inside { i < length (all_layers stack.now) }
     requires below { directory.now.closed ≡ false
         → IsBelow stack.now i (next_of directory.now) directory.now.below }
-    ensures { IfOk result (λ size. size
+    ensures { IfOk result (λ size. (inode : Inode) → size
         ≡ data_size_on (layers_below stack.now i) (place_of_data (Meta redirect.now))
-        (walk_to_file _inode.now (Meta redirect.now)
+        (walk_to_file inode (Meta redirect.now)
         (next_of directory.now) directory.now.closed name.now)) }
 {
     let own = match redirect {
@@ -258,5 +254,5 @@ fn data_size(
     if directory.closed {
         return Ok(None);
     }
-    data_size_in(alloc, stack, i, directory, own)
+    data_size_in(alloc, stack, directory, own)
 }

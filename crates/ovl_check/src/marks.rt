@@ -23,13 +23,6 @@ pub(crate) fn attribute_is(inode: &Inode, name: &str, value: &[u8]) -> bool
     }
 }
 
-/// Whether the mark is that of a moved directory.
-pub(crate) fn is_moved(mark: &Mark) -> bool
-    ensures { result ≡ sound.is_moved (Some mark.now) }
-{
-    matches!(mark, Mark::DirMoved(_))
-}
-
 /// Whether the mark is that of a directory that hides nothing.
 pub(crate) fn is_plain(mark: &Mark) -> bool
     ensures { result ≡ sound.is_plain (Some mark.now) }
