@@ -5,7 +5,6 @@ ghost use Rattle.ovl_inode.specs.Marks as marks;
 ghost use Rattle.ovl_layer.specs.Layers.{entry_at};
 ghost use Rattle.ovl_layer.specs.Sheets.{path_at};
 ghost use Rattle.ovl_lookup.specs.DirViews.{IsViewOf};
-ghost use Rattle.ovl_lookup.specs.Sound as sound;
 ghost use Rattle.ovl_lookup.specs.Words.{top_layer, lower_layers};
 ghost use Rattle.ovl_deref.specs.declared.directories.OwnPlace.TheVariants.{Row};
 ghost use Rattle.ovl_deref.specs.Deref.{dereferenced_inode};
@@ -14,7 +13,7 @@ ghost use Rattle.ovl_deref.specs.Visits.{IsOwnPlace, IsKid, named_at};
 
 use crate::inodes::{filled, unfolded};
 use ovl_inode::{Inode, Mark};
-use ovl_lookup::{DirView, Found, Stack, shown_inodes};
+use ovl_lookup::{DirView, Found, Stack, is_moved, shown_inodes};
 use ovl_names::{Name, Path};
 use std::alloc::{AllocError, Global};
 
@@ -63,13 +62,6 @@ fn own_place(stack: &Stack, dir: &Path) -> OwnPlace
         row = child;
     }
     OwnPlace::Row(row)
-}
-
-// Whether this is the mark of a moved directory.
-fn is_moved(mark: &Mark) -> bool
-    ensures { result ≡ sound.is_moved (Some mark.now) }
-{
-    matches!(mark, Mark::DirMoved(_))
 }
 
 // The topmost layer's own names in the directory of a row, where neither it nor one above it is
