@@ -166,3 +166,11 @@ module _ {X : Type 0} (name : X → List ℕ) where
         subst (λ x. NameBefore x (get_or (part xs start end) (k + 1) d)) (sym at)
         (subst (λ y. NameBefore (get_or xs (start + k) d) y) (sym next)
         (in_order-pairs xs up (start + k) (start + (k + 1)) d (omega arith) (omega (arith, inside, long, bounds.0, bounds.1)))))
+
+    -- what a search in it finds, and what it doesn't find
+    module _ (up : names_ascend name xs ≡ true) (own : List ℕ) (is : byte ≡ slice_index own 0) (spot : ℕ) where
+      pub part-found : (x : X) → spot < length (part xs start end) → IsBinarySearchResult (λ x. digest_cmp (name x) own) (part xs start end) (Ok spot) → x ≡ get_or (part xs start end) spot x → Some x ≡ element_named name xs own
+      part-found x inside answer same = found (part xs start end) spot own x (part-ascends up) inside answer same ∙ part-named own is
+
+      pub part-missing : IsBinarySearchResult (λ x. digest_cmp (name x) own) (part xs start end) (Err spot) → None ≡ element_named name xs own
+      part-missing answer = missing (part xs start end) spot own (part-ascends up) answer ∙ part-named own is

@@ -1,10 +1,12 @@
-ghost use Rattle.std.specs.Prelude.{◌≡◌, ◌<◌, true, false, None, length, unwrap_or, IfOk};
+ghost use Rattle.std.specs.Prelude.{◌≡◌, ◌<◌, ℕ, true, false, None, length, unwrap_or, IfOk, IfSome};
 ghost use Rattle.std.specs.List.{list_any};
 ghost use Rattle.ovl_lookup.specs.Stacks.{all_layers};
 ghost use Rattle.ovl_names.specs.Paths.{child_path};
+ghost use Rattle.ovl_lookup.specs.DirViews.{IsViewOver};
 ghost use Rattle.ovl_lookup.specs.Merged.{shows};
 ghost use Rattle.ovl_check.specs.Checks.{layers_below};
-ghost use Rattle.ovl_check.specs.Facts.{IsBelow, asks as asks_test, data_size, next_of};
+ghost use Rattle.ovl_check.specs.Facts.{IsBelow, data_size, next_of};
+ghost use Rattle.ovl_check.specs.Facts as facts;
 
 use crate::directories::{Child, Directory};
 use crate::places::{first_below, size_in};
@@ -26,7 +28,7 @@ pub(crate) fn below_children<'p, 'a: 'p>(
 ) -> Result<Option<DirView<'p>>, AllocError>
     requires { i < length (all_layers stack.now) }
     ensures { IfOk result
-        (λ below. closed ≡ false → list_any (λ child. asks_test child.mark.now) children.now ≡ true
+        (λ below. closed ≡ false → list_any (λ child. facts.asks child.mark.now) children.now ≡ true
         → IsBelow stack.now i (unwrap_or turned.now path.now) below) }
 {
     if closed {
@@ -43,23 +45,23 @@ pub(crate) fn below_children<'p, 'a: 'p>(
 }
 
 fn any_asks(children: &[Child<'_>]) -> bool
-    ensures { result ≡ list_any (λ child. asks_test child.mark.now) children.now }
+    ensures { result ≡ list_any (λ child. facts.asks child.mark.now) children.now }
 {
     children.iter().any(|child| asks(child.mark))
 }
 
 // Whether an entry of this mark asks what the layers below have at its name.
 fn asks(mark: &Mark) -> bool
-    ensures { result ≡ asks_test mark.now }
+    ensures { result ≡ facts.asks mark.now }
 {
     matches!(mark, Mark::Whiteout | Mark::Meta(_))
 }
 
-/// Whether the layers below layer `i` show something under a name in the place of a directory.
-pub(crate) fn show_in(stack: &Stack, _i: usize, directory: &Directory<'_, '_>, name: &Name) -> bool
-    requires { IsBelow stack.now _i (next_of directory.now) directory.now.below }
-    ensures { result
-        ≡ shows (layers_below stack.now _i) (child_path (next_of directory.now) name.now) }
+/// Whether the layers below that of a directory show something under a name in its place.
+pub(crate) fn show_in(stack: &Stack, directory: &Directory<'_, '_>, name: &Name) -> bool
+    requires { IfSome directory.now.below (IsViewOver stack.now) }
+    ensures { (i : ℕ) → IsBelow stack.now i (next_of directory.now) directory.now.below
+        → result ≡ shows (layers_below stack.now i) (child_path (next_of directory.now) name.now) }
 {
     // Each of them is a layer.
     let _layers = stack.ordinary();
@@ -73,14 +75,13 @@ pub(crate) fn show_in(stack: &Stack, _i: usize, directory: &Directory<'_, '_>, n
 pub(crate) fn data_size_in(
     alloc: Global,
     stack: &Stack,
-    _i: usize,
     directory: &Directory<'_, '_>,
     name: &Name,
 ) -> Result<Option<u64>, AllocError>
-    requires { IsBelow stack.now _i (next_of directory.now) directory.now.below }
+    requires { IfSome directory.now.below (IsViewOver stack.now) }
     ensures { IfOk result
-        (λ size. size
-        ≡ data_size (layers_below stack.now _i) None
+        (λ size. (i : ℕ) → IsBelow stack.now i (next_of directory.now) directory.now.below
+        → size ≡ data_size (layers_below stack.now i) None
         (child_path (next_of directory.now) name.now)) }
 {
     // Each of them is a layer.

@@ -3,7 +3,8 @@ ghost use Rattle.std.specs.List.{flat_map};
 ghost use Rattle.ovl_names.specs.Names.{name_eq};
 ghost use Rattle.ovl_board.specs.declared.pieces.Piece.{Piece};
 ghost use Rattle.ovl_board.specs.Parcels.{IsPlain, parcel_views};
-ghost use Rattle.ovl_check.specs.Blobs.{blob_view, blob_views, first_digits as the_digits, is_wrong as wrong_test, are_in_order, AreNamedByDigests, wrong_names, wrong_names_under as the_names_under, digits_of_names as the_digits_of_names, digits_piece, blob_kids, blob_out, blob_root};
+ghost use Rattle.ovl_check.specs.Blobs.{blob_view, blob_views, are_in_order, AreNamedByDigests, wrong_names, digits_piece, blob_kids, blob_out, blob_root};
+ghost use Rattle.ovl_check.specs.Blobs as the_blobs;
 
 use crate::named::{in_order, start_in};
 use ovl_board::{Parcel, Piece, Work};
@@ -78,7 +79,8 @@ impl<'a> BlobWork<'a> {
 
     // The names of the blobs with wrong bytes whose names begin with these digits.
     fn wrong_names(&self, alloc: Global, digits: &str) -> Result<Vec<Digest>, AllocError>
-        ensures { IfOk result (λ names. names.items ≡ the_names_under digits.now self.now) }
+        ensures { IfOk result
+            (λ names. names.items ≡ the_blobs.wrong_names_under digits.now self.now) }
     {
         if self.in_order {
             return wrong_names_under(alloc, blobs_under(self.blobs, digits), digits);
@@ -157,7 +159,8 @@ fn outputs(alloc: Global, parcels: Vec<Parcel<Vec<Digest>>>) -> Result<Vec<Diges
 
 // The first two digits of the blobs' names, each once, in order.
 fn digits_of_names(alloc: Global, blobs: &[Blob]) -> Result<BTreeSet<Name>, AllocError>
-    ensures { IfOk result (λ digits. digits.keys ≡ the_digits_of_names (blob_views blobs.now)) }
+    ensures { IfOk result
+        (λ digits. digits.keys ≡ the_blobs.digits_of_names (blob_views blobs.now)) }
 {
     let mut digits = BTreeSet::new(alloc);
     for blob in blobs {
@@ -183,7 +186,7 @@ fn digits_pieces(alloc: Global, digits: BTreeSet<Name>) -> Result<Vec<Piece>, Al
 // The names of the blobs with wrong bytes whose names begin with these digits.
 fn wrong_names_under(alloc: Global, blobs: &[Blob], digits: &str) -> Result<Vec<Digest>, AllocError>
     ensures { IfOk result
-        (λ names. names.items ≡ the_names_under digits.now (blob_views blobs.now)) }
+        (λ names. names.items ≡ the_blobs.wrong_names_under digits.now (blob_views blobs.now)) }
 {
     let mut names = Vec::new(alloc);
     for blob in blobs {
@@ -207,8 +210,8 @@ fn keep_digests(blobs: &[Blob])
 fn blobs_under<'a>(blobs: &'a [Blob], digits: &str) -> &'a [Blob]
     requires in_order { are_in_order (blob_views blobs.now) ≡ true }
     requires digests { AreNamedByDigests blobs.now }
-    ensures { the_names_under digits.now (blob_views result.now)
-        ≡ the_names_under digits.now (blob_views blobs.now) }
+    ensures { the_blobs.wrong_names_under digits.now (blob_views result.now)
+        ≡ the_blobs.wrong_names_under digits.now (blob_views blobs.now) }
 {
     let mut byte = [0; 1];
     if hex::decode_to_slice(digits, &mut byte).is_err() {
@@ -221,7 +224,7 @@ fn blobs_under<'a>(blobs: &'a [Blob], digits: &str) -> &'a [Blob]
 }
 
 fn first_digits(name: &Digest) -> [u8; 2]
-    ensures { result ≡ the_digits name.now }
+    ensures { result ≡ the_blobs.first_digits name.now }
 {
     let mut digits = [0; 2];
     let _ = hex::encode_to_slice(&name.as_bytes()[..1], &mut digits);
@@ -230,7 +233,7 @@ fn first_digits(name: &Digest) -> [u8; 2]
 
 // The first two digits of a digest, as a name.
 fn digits_name(alloc: Global, name: &Digest) -> Result<Name, AllocError>
-    ensures { IfOk result (λ digits. digits ≡ the_digits name.now) }
+    ensures { IfOk result (λ digits. digits ≡ the_blobs.first_digits name.now) }
 {
     let text = hex::encode(alloc, &name.as_bytes()[..1])?;
     match Name::of(alloc, text.as_str()) {
@@ -241,14 +244,14 @@ fn digits_name(alloc: Global, name: &Digest) -> Result<Name, AllocError>
 }
 
 fn begins_with(name: &Digest, digits: &str) -> bool
-    ensures { result ≡ name_eq digits.now (the_digits name.now) }
+    ensures { result ≡ name_eq digits.now (the_blobs.first_digits name.now) }
 {
     digits.as_bytes() == first_digits(name).as_slice()
 }
 
 // Whether the blob's bytes have another digest than its name.
 fn is_wrong(blob: &Blob) -> bool
-    ensures { result ≡ wrong_test (blob_view blob.now) }
+    ensures { result ≡ the_blobs.is_wrong (blob_view blob.now) }
 {
     <Sha256 as sha2::Digest>::digest(blob.bytes.as_slice()).as_slice()
         != blob.name.as_bytes().as_slice()

@@ -3,12 +3,13 @@ ghost use Rattle.std.specs.List.{flat_map};
 ghost use Rattle.ovl_lookup.specs.Stacks.{all_layers};
 ghost use Rattle.ovl_names.specs.Paths.{child_path};
 ghost use Rattle.ovl_layer.specs.Layers.{entry_at};
-ghost use Rattle.ovl_lookup.specs.Sound.{is_moved as moved_test};
+ghost use Rattle.ovl_lookup.specs.Sound as sound;
 ghost use Rattle.ovl_check.specs.Codes.{all_codes, is_blob_fault};
 ghost use Rattle.ovl_check.specs.Findings.{finding, any_code};
 ghost use Rattle.ovl_check.specs.Blobs.{blob_views, are_in_order, wrong_names};
 ghost use Rattle.ovl_check.specs.Contents.{contents_of, contents_ascend};
-ghost use Rattle.ovl_check.specs.Checks.{check_seen, no_seen, is_ordinary as ordinary_test, sought_in, layer_at, directory_piece, findings_at_path, check_out};
+ghost use Rattle.ovl_check.specs.Checks.{check_seen, no_seen, sought_in, layer_at, directory_piece, findings_at_path, check_out};
+ghost use Rattle.ovl_check.specs.Checks as checks;
 ghost use Rattle.ovl_check.specs.CheckViews.{check_view};
 ghost use Rattle.ovl_check.specs.Facts.{IsGathered, IsBelow, IsBelowOf, IsMarked, asks, child_seen, entry_path, found_at_child, next_of, tells};
 
@@ -18,14 +19,13 @@ use crate::directories::{Child, Directory, directory_at, hold_origin, kids_of};
 use crate::facts::{BLOB_CODES, CODES, Facts, NamedBlob, is_silent};
 use crate::findings::{Code, Finding};
 use crate::gathering::{facts_of_child, facts_of_directory};
-use crate::marks::is_moved;
 use crate::named::ByName;
 use crate::next_places::Place;
 use crate::sources::HeldBlobs;
 use crate::subjects::{CheckOut, CheckWork, ToldBlobs};
 use ovl_board::{Piece, Work};
 use ovl_inode::{Digest, Mark, is_directory};
-use ovl_lookup::{Stack, Trail};
+use ovl_lookup::{Stack, Trail, is_moved};
 use ovl_names::{DEPTH_LIMIT, Name, Path};
 use std::alloc::{AllocError, Global};
 
@@ -65,12 +65,13 @@ impl<'a> Work for CheckWork<'a> {
     type Out = CheckOut<'a>;
 
     ghost use Rattle.ovl_names.specs.Paths.{depth_limit};
-    ghost use Rattle.ovl_check.specs.Checks.{CheckSeen, check_seen, check_kids, check_out, seen_set as checks_set};
+    ghost use Rattle.ovl_check.specs.Checks.{CheckSeen, check_seen, check_kids, check_out};
+    ghost use Rattle.ovl_check.specs.Checks as checks;
     ghost use Rattle.ovl_check.specs.CheckViews.{check_view};
 
     ghost Seen = { CheckSeen };
 
-    ghost seen_set = { checks_set };
+    ghost seen_set = { checks.seen_set };
 
     ghost seen = { check_seen };
 
@@ -141,7 +142,7 @@ fn directory_out<'a>(
 // Whether a directory of this mark is moved, and where its walk doesn't go on: in a data-only layer
 // nothing is followed.
 fn is_moved_in(ordinary: bool, mark: &Mark) -> bool
-    ensures { result ≡ (ordinary && moved_test (Some mark.now)) }
+    ensures { result ≡ (ordinary && sound.is_moved (Some mark.now)) }
 {
     ordinary && is_moved(mark)
 }
@@ -154,7 +155,7 @@ fn is_hidden(ordinary: bool, closed: bool) -> bool
 
 // Whether a layer isn't data-only.
 fn is_ordinary(stack: &Stack, layer: u16) -> bool
-    ensures { result ≡ ordinary_test stack.now layer }
+    ensures { result ≡ checks.is_ordinary stack.now layer }
 {
     usize::from(layer) < stack.ordinary()
 }

@@ -2,7 +2,7 @@ ghost use Rattle.std.specs.Prelude.{◌≡◌, ◌↔◌, true, IfOk, IsTrue, Co
 ghost use Rattle.ovl_names.specs.Order.{ascends};
 ghost use Rattle.ovl_check.specs.Blobs.{are_in_order, blob_views, digest_cmp, wrong_names};
 ghost use Rattle.ovl_check.specs.Contents.{contents_ascend, contents_of};
-ghost use Rattle.ovl_check.specs.Facts.{blob_named as the_blob_named};
+ghost use Rattle.ovl_check.specs.Facts as facts;
 
 use crate::blobs::Blob;
 use crate::facts::NamedBlob;
@@ -14,7 +14,7 @@ use std::alloc::{AllocError, Global};
 /// What is told of the blob that an inode names, sought once.
 pub(crate) fn blob_named(held: &HeldBlobs<'_>, inode: &Inode) -> NamedBlob
     ensures { result
-        ≡ the_blob_named (contents_of (blob_views held.now.blobs.elements.now)) inode.now }
+        ≡ facts.blob_named (contents_of (blob_views held.now.blobs.elements.now)) inode.now }
 {
     let Some(name) = blob_of(inode) else {
         return NamedBlob::Unnamed;
@@ -50,7 +50,7 @@ pub struct Content {
 
 /// The same by contents that are told.
 pub(crate) fn content_named(contents: &ByName<'_, Content>, inode: &Inode) -> NamedBlob
-    ensures { result ≡ the_blob_named contents.now.elements.now inode.now }
+    ensures { result ≡ facts.blob_named contents.now.elements.now inode.now }
 {
     let Some(name) = blob_of(inode) else {
         return NamedBlob::Unnamed;

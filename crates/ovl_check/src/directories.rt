@@ -4,7 +4,7 @@ ghost use Rattle.ovl_lookup.specs.Stacks.{all_layers};
 ghost use Rattle.ovl_names.specs.Paths.{child_path};
 ghost use Rattle.ovl_inode.specs.declared.marks.Mark.TheVariants.{DirPlain};
 ghost use Rattle.ovl_inode.specs.Attributes.{origin_name};
-ghost use Rattle.ovl_inode.specs.Marks.{has_attribute as attribute_test, is_directory as the_directory};
+ghost use Rattle.ovl_inode.specs.Marks as marks;
 ghost use Rattle.ovl_layer.specs.Layers.{is_directory_at};
 ghost use Rattle.ovl_layer.specs.Sheets.{path_at};
 ghost use Rattle.ovl_check.specs.Checks.{layer_at, directory_piece};
@@ -127,7 +127,8 @@ fn push_child<'a>(
 
 /// Whether one of these has `origin`.
 pub(crate) fn hold_origin(children: &[Child<'_>]) -> bool
-    ensures { result ≡ list_any (λ child. attribute_test child.inode.now origin_name) children.now }
+    ensures { result
+        ≡ list_any (λ child. marks.has_attribute child.inode.now origin_name) children.now }
 {
     children
         .iter()
@@ -143,7 +144,7 @@ pub(crate) fn kids_of(
 ) -> Result<Vec<Piece>, AllocError>
     ensures { IfOk result (λ kids. kids.items
         ≡ map (λ child. directory_piece space (child_path dir.now child.name.now))
-        (filter (λ child. the_directory child.inode.now) children.now)) }
+        (filter (λ child. marks.is_directory child.inode.now) children.now)) }
 {
     let count = children
         .iter()

@@ -1,5 +1,5 @@
 ghost use Rattle.std.specs.Prelude.{◌≡◌};
-ghost use Rattle.ovl_check.specs.Facts.{tells as the_tells, is_lost as lost_test, is_of_wrong_kind as wrong_kind_test, is_open as open_test, lacks_data as no_data_test, has_data_of_other_size as data_size_test, is_missing as missing_test, is_of_other_length as length_test, is_wrong as wrong_test, is_orphan as orphan_test, is_in_opaque as in_opaque_test, is_unmarked as unmarked_test, impure_is_missing as the_impure, is_right as right_test, is_other as other_test, is_bare as bare_test, is_silent as silent_test, has_quiet_mark as quiet_test};
+ghost use Rattle.ovl_check.specs.Facts as facts;
 
 use crate::findings::Code;
 use crate::marks::{attribute_is, is_malformed, is_quiet, mark_is_ignored};
@@ -86,14 +86,14 @@ pub(crate) struct Facts<'a> {
 /// Whether no code can be told of an entry of this inode, mark and blob that holds none with
 /// `origin`: it has no attributes, and the blob, if it names one, is right.
 pub(crate) fn is_silent(inode: &Inode, mark: &Mark, blob: &NamedBlob) -> bool
-    ensures { result ≡ silent_test inode.now mark.now blob.now }
+    ensures { result ≡ facts.is_silent inode.now mark.now blob.now }
 {
     has_quiet_mark(inode, mark) && is_right(blob, file_size(inode))
 }
 
 // Whether it has no attributes, and a mark of such entries.
 fn has_quiet_mark(inode: &Inode, mark: &Mark) -> bool
-    ensures { result ≡ quiet_test inode.now mark.now }
+    ensures { result ≡ facts.has_quiet_mark inode.now mark.now }
 {
     inode.attrs.pairs().is_empty() && is_quiet(mark)
 }
@@ -102,14 +102,14 @@ impl<'a> Facts<'a> {
     /// Whether no code can be told but those on blobs: of an entry without attributes of which its
     /// kind asks nothing.
     pub(crate) fn is_bare(&self) -> bool
-        ensures { result ≡ bare_test self.now }
+        ensures { result ≡ facts.is_bare self.now }
     {
         has_quiet_mark(self.inode, self.mark) && is_other(&self.kind) && !self.holds_origin
     }
 
     /// Whether the condition of a code other than redirect-double holds.
     pub(crate) fn tells(&self, code: Code) -> bool
-        ensures { result ≡ the_tells self.now code }
+        ensures { result ≡ facts.tells self.now code }
     {
         match code {
             Code::RedirectForm => is_malformed(self.mark),
@@ -133,7 +133,7 @@ impl<'a> Facts<'a> {
 
 // Whether it is a moved directory that is hidden, or whose old place shows nothing.
 fn is_lost(kind: &KindFacts) -> bool
-    ensures { result ≡ lost_test kind.now }
+    ensures { result ≡ facts.is_lost kind.now }
 {
     matches!(
         kind,
@@ -149,7 +149,7 @@ fn is_lost(kind: &KindFacts) -> bool
 
 // Whether it is a moved directory whose old place shows something else than a directory.
 fn is_of_wrong_kind(kind: &KindFacts) -> bool
-    ensures { result ≡ wrong_kind_test kind.now }
+    ensures { result ≡ facts.is_of_wrong_kind kind.now }
 {
     matches!(
         kind,
@@ -162,21 +162,21 @@ fn is_of_wrong_kind(kind: &KindFacts) -> bool
 
 // Whether it is a moved directory whose old place the layer doesn't hide.
 fn is_open(kind: &KindFacts) -> bool
-    ensures { result ≡ open_test kind.now }
+    ensures { result ≡ facts.is_open kind.now }
 {
     matches!(kind, KindFacts::Moved(OldPlace::Open { is_seen: true, .. }))
 }
 
 // Whether it is a metacopy file without data.
 fn lacks_data(kind: &KindFacts) -> bool
-    ensures { result ≡ no_data_test kind.now }
+    ensures { result ≡ facts.lacks_data kind.now }
 {
     matches!(kind, KindFacts::Metacopy(None))
 }
 
 // Whether it is a metacopy file whose data has another size than this.
 fn has_data_of_other_size(kind: &KindFacts, size: u64) -> bool
-    ensures { result ≡ data_size_test kind.now size }
+    ensures { result ≡ facts.has_data_of_other_size kind.now size }
 {
     match kind {
         KindFacts::Metacopy(Some(own)) => *own != size,
@@ -186,14 +186,14 @@ fn has_data_of_other_size(kind: &KindFacts, size: u64) -> bool
 
 // Whether the blob isn't there.
 fn is_missing(blob: &NamedBlob) -> bool
-    ensures { result ≡ missing_test blob.now }
+    ensures { result ≡ facts.is_missing blob.now }
 {
     matches!(blob, NamedBlob::Missing)
 }
 
 // Whether it is there and has another length than this.
 fn is_of_other_length(blob: &NamedBlob, size: u64) -> bool
-    ensures { result ≡ length_test blob.now size }
+    ensures { result ≡ facts.is_of_other_length blob.now size }
 {
     match blob {
         NamedBlob::Found { length, .. } => *length != size,
@@ -203,21 +203,21 @@ fn is_of_other_length(blob: &NamedBlob, size: u64) -> bool
 
 // Whether it is there and its bytes have another digest.
 fn is_wrong(blob: &NamedBlob) -> bool
-    ensures { result ≡ wrong_test blob.now }
+    ensures { result ≡ facts.is_wrong blob.now }
 {
     matches!(blob, NamedBlob::Found { is_wrong: true, .. })
 }
 
 // Whether it is a whiteout outside an opaque directory that hides nothing.
 fn is_orphan(kind: &KindFacts) -> bool
-    ensures { result ≡ orphan_test kind.now }
+    ensures { result ≡ facts.is_orphan kind.now }
 {
     matches!(kind, KindFacts::Whiteout { hides: false, .. })
 }
 
 // Whether it is a whiteout in an opaque directory.
 fn is_in_opaque(kind: &KindFacts) -> bool
-    ensures { result ≡ in_opaque_test kind.now }
+    ensures { result ≡ facts.is_in_opaque kind.now }
 {
     matches!(kind, KindFacts::WhiteoutInOpaque)
 }
@@ -225,7 +225,7 @@ fn is_in_opaque(kind: &KindFacts) -> bool
 // Whether it is a whiteout by attribute in a directory that is neither opaque nor marked as holding
 // such.
 fn is_unmarked(kind: &KindFacts, inode: &Inode) -> bool
-    ensures { result ≡ unmarked_test kind.now inode.now }
+    ensures { result ≡ facts.is_unmarked kind.now inode.now }
 {
     matches!(&inode.kind, Kind::File { .. })
         && matches!(
@@ -239,21 +239,21 @@ fn is_unmarked(kind: &KindFacts, inode: &Inode) -> bool
 
 // Whether it is a directory that holds an entry with `origin` and isn't marked as impure.
 fn impure_is_missing(inode: &Inode, holds_origin: bool) -> bool
-    ensures { result ≡ the_impure inode.now holds_origin }
+    ensures { result ≡ facts.impure_is_missing inode.now holds_origin }
 {
     is_directory(inode) && !attribute_is(inode, overlay::IMPURE, b"y") && holds_origin
 }
 
 // Whether the conditions ask nothing of an entry of its kind.
 fn is_other(kind: &KindFacts) -> bool
-    ensures { result ≡ other_test kind.now }
+    ensures { result ≡ facts.is_other kind.now }
 {
     matches!(kind, KindFacts::Other)
 }
 
 // Whether the blob, if one is named, is there, has this length and the bytes of its name.
 fn is_right(blob: &NamedBlob, size: u64) -> bool
-    ensures { result ≡ right_test blob.now size }
+    ensures { result ≡ facts.is_right blob.now size }
 {
     match blob {
         NamedBlob::Unnamed => true,

@@ -1,5 +1,5 @@
 ghost use Rattle.std.specs.Prelude.{◌≡◌};
-ghost use Rattle.ovl_check.specs.Codes.{is_fault as fault_test, code_word};
+ghost use Rattle.ovl_check.specs.Codes as codes;
 
 use ovl_names::Path;
 
@@ -42,14 +42,14 @@ pub enum Code {
 impl Code {
     /// Whether it is a fault; the others are notes.
     pub fn is_fault(self) -> bool
-        ensures { result ≡ fault_test self }
+        ensures { result ≡ codes.is_fault self }
     {
         self < Code::OrphanWhiteout
     }
 
     /// Its word in a report.
     pub fn word(self) -> &'static str
-        ensures { result.now ≡ code_word self }
+        ensures { result.now ≡ codes.code_word self }
     {
         match self {
             Code::RedirectForm => "redirect-form",

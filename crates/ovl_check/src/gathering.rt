@@ -1,12 +1,14 @@
-ghost use Rattle.std.specs.Prelude.{◌≡◌, ◌<◌, not, true, false, Some, length, unwrap_or, IfOk};
+ghost use Rattle.std.specs.Prelude.{◌≡◌, ◌<◌, ℕ, not, true, false, Some, length, unwrap_or, IfOk, IfSome};
 ghost use Rattle.std.specs.List.{list_any};
 ghost use Rattle.ovl_lookup.specs.Stacks.{all_layers};
 ghost use Rattle.ovl_names.specs.Paths.{child_path};
 ghost use Rattle.ovl_inode.specs.Attributes.{origin_name};
-ghost use Rattle.ovl_inode.specs.Marks.{has_attribute as attribute_test, is_directory as the_directory};
+ghost use Rattle.ovl_inode.specs.declared.inodes.Inode.{Inode};
+ghost use Rattle.ovl_inode.specs.Marks as marks;
 ghost use Rattle.ovl_inode.specs.declared.marks.Mark.TheVariants.{Meta};
 ghost use Rattle.ovl_layer.specs.Layers.{entry_at};
 ghost use Rattle.ovl_lookup.specs.declared.looks.Look.{Look};
+ghost use Rattle.ovl_lookup.specs.DirViews.{IsViewOver};
 ghost use Rattle.ovl_lookup.specs.Walk.{walk_to_file};
 ghost use Rattle.ovl_lookup.specs.Sights.{sight_of};
 ghost use Rattle.ovl_lookup.specs.Trails.{trail_eq};
@@ -14,7 +16,8 @@ ghost use Rattle.ovl_lookup.specs.Merged.{place_of_data};
 ghost use Rattle.ovl_lookup.specs.Sound.{is_seen_there};
 ghost use Rattle.ovl_check.specs.Checks.{layer_at, layers_below};
 ghost use Rattle.ovl_check.specs.CheckViews.{check_view};
-ghost use Rattle.ovl_check.specs.Facts.{IsGathered, IsBelow, IsMarked, AreFacts, asks, old_place as the_old_place, thing_shown as the_thing, whiteout_in as the_whiteout, data_size_on, blob_named as the_blob_named, next_of};
+ghost use Rattle.ovl_check.specs.Facts.{IsGathered, IsBelow, IsMarked, AreFacts, asks, data_size_on, next_of};
+ghost use Rattle.ovl_check.specs.Facts as facts;
 
 use crate::below::{data_size_in, show_in};
 use crate::directories::{Child, Directory};
@@ -22,7 +25,7 @@ use crate::facts::{Facts, KindFacts, NamedBlob, OldPlace, ThingShown};
 use crate::marks::is_plain;
 use crate::places::{data_size_below, sight_below, step_of};
 use crate::subjects::CheckWork;
-use ovl_inode::{Inode, Mark, Redirect};
+use ovl_inode::{Mark, Redirect};
 use ovl_lookup::{OwnStep, Sight, Stack, Trail};
 use ovl_names::{Name, Path};
 use std::alloc::{AllocError, Global};
@@ -39,7 +42,7 @@ pub(crate) fn facts_of_directory<'a>(
     requires gathered { IsGathered (layer_at work.now.stack.now i) directory.now }
     requires origin { holds_origin
         ≡ list_any
-        (λ child. attribute_test child.inode.now origin_name) directory.now.children.items }
+        (λ child. marks.has_attribute child.inode.now origin_name) directory.now.children.items }
     ensures { IfOk result
         (λ facts. (facts.inode.now ≡ directory.now.inode.now)
         × AreFacts (check_view work.now) i directory.now.path.now facts) }
@@ -72,26 +75,20 @@ pub(crate) fn facts_of_child<'a>(
     requires gathered { IsGathered (layer_at work.now.stack.now i) directory.now }
     requires entry { entry_at (layer_at work.now.stack.now i)
         (child_path directory.now.path.now child.now.name.now) ≡ Some child.now.inode.now }
-    requires none { the_directory child.now.inode.now ≡ false }
+    requires none { marks.is_directory child.now.inode.now ≡ false }
     requires marked { IsMarked child.now }
     requires below { directory.now.closed ≡ false → asks child.now.mark.now ≡ true
         → IsBelow work.now.stack.now i (next_of directory.now) directory.now.below }
-    requires blob { blob ≡ the_blob_named (check_view work.now).contents child.now.inode.now }
+    requires blob { blob ≡ facts.blob_named (check_view work.now).contents child.now.inode.now }
     ensures { IfOk result
         (λ facts. (facts.inode.now ≡ child.now.inode.now)
         × AreFacts (check_view work.now) i
         (child_path directory.now.path.now child.now.name.now) facts) }
 {
     let kind = match child.mark {
-        Mark::Whiteout => whiteout_in(work.stack, i, directory, child.name),
+        Mark::Whiteout => whiteout_in(work.stack, directory, child.name),
         Mark::Meta(redirect) => KindFacts::Metacopy(data_size(
-            alloc,
-            work.stack,
-            i,
-            directory,
-            child.name,
-            redirect,
-            child.inode,
+            alloc, work.stack, i, directory, child.name, redirect,
         )?),
         _ => KindFacts::Other,
     };
@@ -115,7 +112,7 @@ fn old_place(
     requires { i < length (all_layers stack.now) }
     ensures { IfOk result
         (λ place. place
-        ≡ the_old_place (layer_at stack.now i) (layers_below stack.now i)
+        ≡ facts.old_place (layer_at stack.now i) (layers_below stack.now i)
         (next_of directory.now) directory.now.closed) }
 {
     if directory.closed {
@@ -150,7 +147,7 @@ fn open_place<'a>(
     requires { i < length (all_layers stack.now) }
     ensures { IfOk result
         (λ old. old
-        ≡ the_old_place (layer_at stack.now i) (layers_below stack.now i) place.entry false) }
+        ≡ facts.old_place (layer_at stack.now i) (layers_below stack.now i) place.entry false) }
 {
     let thing = thing_shown(sight_below(alloc, stack, i, place.copy(alloc)?)?);
     let is_seen = is_seen(alloc, stack, i, &place)?;
@@ -158,7 +155,7 @@ fn open_place<'a>(
 }
 
 fn thing_shown(sight: Sight) -> ThingShown
-    ensures { (look : Look) → sight ≡ sight_of look → result ≡ the_thing look }
+    ensures { (look : Look) → sight ≡ sight_of look → result ≡ facts.thing_shown look }
 {
     match sight {
         Sight::Nothing => ThingShown::Nothing,
@@ -207,12 +204,13 @@ fn is_elsewhere(turned: &Option<Trail<'_>>, place: &Trail<'_>) -> bool
     }
 }
 
-// A whiteout in a directory of layer `i`.
-fn whiteout_in(stack: &Stack, i: usize, directory: &Directory<'_, '_>, name: &Name) -> KindFacts
-    requires inside { i < length (all_layers stack.now) }
-    requires below { directory.now.closed ≡ false
-        → IsBelow stack.now i (next_of directory.now) directory.now.below }
-    ensures { result ≡ the_whiteout (layers_below stack.now i) directory.now name.now }
+// A whiteout in a directory.
+fn whiteout_in(stack: &Stack, directory: &Directory<'_, '_>, name: &Name) -> KindFacts
+    requires { directory.now.closed ≡ false → IfSome directory.now.below (IsViewOver stack.now) }
+    ensures { (i : ℕ)
+        → (directory.now.closed ≡ false
+        → IsBelow stack.now i (next_of directory.now) directory.now.below)
+        → result ≡ facts.whiteout_in (layers_below stack.now i) directory.now name.now }
 {
     if matches!(directory.mark, Mark::DirOpaque) {
         return KindFacts::WhiteoutInOpaque;
@@ -226,7 +224,7 @@ fn whiteout_in(stack: &Stack, i: usize, directory: &Directory<'_, '_>, name: &Na
     }
     KindFacts::Whiteout {
         is_marked,
-        hides: show_in(stack, i, directory, name),
+        hides: show_in(stack, directory, name),
     }
 }
 
@@ -239,14 +237,13 @@ fn data_size(
     directory: &Directory<'_, '_>,
     name: &Name,
     redirect: &Option<Redirect>,
-    _inode: &Inode,
 ) -> Result<Option<u64>, AllocError>
     requires inside { i < length (all_layers stack.now) }
     requires below { directory.now.closed ≡ false
         → IsBelow stack.now i (next_of directory.now) directory.now.below }
-    ensures { IfOk result (λ size. size
+    ensures { IfOk result (λ size. (inode : Inode) → size
         ≡ data_size_on (layers_below stack.now i) (place_of_data (Meta redirect.now))
-        (walk_to_file _inode.now (Meta redirect.now)
+        (walk_to_file inode (Meta redirect.now)
         (next_of directory.now) directory.now.closed name.now)) }
 {
     let own = match redirect {
@@ -257,5 +254,5 @@ fn data_size(
     if directory.closed {
         return Ok(None);
     }
-    data_size_in(alloc, stack, i, directory, own)
+    data_size_in(alloc, stack, directory, own)
 }

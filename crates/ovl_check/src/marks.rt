@@ -1,21 +1,21 @@
 ghost use Rattle.std.specs.Prelude.{◌≡◌, ◌||◌, Some};
-ghost use Rattle.ovl_inode.specs.Marks.{has_attribute as attribute_test, attribute_is as attribute_value_test};
-ghost use Rattle.ovl_lookup.specs.Sound.{is_moved as moved_test, is_malformed as malformed_test, is_plain as plain_test};
-ghost use Rattle.ovl_check.specs.Conditions.{is_any_meta as any_meta_test, is_empty_file as empty_file_test, metacopy_is_ignored as metacopy_ignored, whiteout_is_ignored as whiteout_ignored};
+ghost use Rattle.ovl_inode.specs.Marks as marks;
+ghost use Rattle.ovl_lookup.specs.Sound as sound;
+ghost use Rattle.ovl_check.specs.Conditions as conditions;
 ghost use Rattle.ovl_check.specs.Facts.{is_quiet_mark, opaque_says_nothing, redirect_says_nothing, mark_says_nothing};
 
 use ovl_inode::{Inode, Kind, Mark, is_directory, overlay};
 
 /// Whether an inode has an attribute of this name.
 pub(crate) fn has_attribute(inode: &Inode, name: &str) -> bool
-    ensures { result ≡ attribute_test inode.now name.now }
+    ensures { result ≡ marks.has_attribute inode.now name.now }
 {
     inode.attrs.get(name).is_some()
 }
 
 /// Whether an inode has an attribute of this name with this value.
 pub(crate) fn attribute_is(inode: &Inode, name: &str, value: &[u8]) -> bool
-    ensures { result ≡ attribute_value_test inode.now name.now value.now }
+    ensures { result ≡ marks.attribute_is inode.now name.now value.now }
 {
     match inode.attrs.get(name) {
         Some(found) => found == value,
@@ -23,16 +23,9 @@ pub(crate) fn attribute_is(inode: &Inode, name: &str, value: &[u8]) -> bool
     }
 }
 
-/// Whether the mark is that of a moved directory.
-pub(crate) fn is_moved(mark: &Mark) -> bool
-    ensures { result ≡ moved_test (Some mark.now) }
-{
-    matches!(mark, Mark::DirMoved(_))
-}
-
 /// Whether the mark is that of a directory that hides nothing.
 pub(crate) fn is_plain(mark: &Mark) -> bool
-    ensures { result ≡ plain_test (Some mark.now) }
+    ensures { result ≡ sound.is_plain (Some mark.now) }
 {
     matches!(mark, Mark::DirPlain)
 }
@@ -46,7 +39,7 @@ pub(crate) fn is_quiet(mark: &Mark) -> bool
 
 /// Whether the mark is that of a malformed redirect.
 pub(crate) fn is_malformed(mark: &Mark) -> bool
-    ensures { result ≡ malformed_test (Some mark.now) }
+    ensures { result ≡ sound.is_malformed (Some mark.now) }
 {
     matches!(mark, Mark::DirBad | Mark::MetaBad)
 }
@@ -81,25 +74,25 @@ fn redirect_is_ignored(is_root: bool, inode: &Inode, mark: &Mark) -> bool
 }
 
 fn metacopy_is_ignored(inode: &Inode, mark: &Mark) -> bool
-    ensures { result ≡ metacopy_ignored inode.now (Some mark.now) }
+    ensures { result ≡ conditions.metacopy_is_ignored inode.now (Some mark.now) }
 {
     has_attribute(inode, overlay::METACOPY) && !is_any_meta(mark)
 }
 
 fn whiteout_is_ignored(inode: &Inode) -> bool
-    ensures { result ≡ whiteout_ignored inode.now }
+    ensures { result ≡ conditions.whiteout_is_ignored inode.now }
 {
     has_attribute(inode, overlay::WHITEOUT) && !is_empty_file(inode)
 }
 
 fn is_any_meta(mark: &Mark) -> bool
-    ensures { result ≡ any_meta_test (Some mark.now) }
+    ensures { result ≡ conditions.is_any_meta (Some mark.now) }
 {
     matches!(mark, Mark::Meta(_) | Mark::MetaBad)
 }
 
 fn is_empty_file(inode: &Inode) -> bool
-    ensures { result ≡ empty_file_test inode.now }
+    ensures { result ≡ conditions.is_empty_file inode.now }
 {
     match &inode.kind {
         Kind::File { size, .. } => *size == 0,

@@ -1,6 +1,6 @@
 ghost use Rattle.std.specs.Prelude.{◌≡◌};
 ghost use Rattle.ovl_check.specs.CheckViews.{told_contents};
-ghost use Rattle.ovl_check.specs.Facts.{blob_named as the_blob_named};
+ghost use Rattle.ovl_check.specs.Facts as facts;
 
 use crate::contents::{Content, blob_named, content_named};
 use crate::facts::NamedBlob;
@@ -42,7 +42,7 @@ pub(crate) enum ToldBlobs<'a> {
 impl ToldBlobs<'_> {
     /// What is told of the blob that an inode names, sought once.
     pub(crate) fn named(&self, inode: &Inode) -> NamedBlob
-        ensures { result ≡ the_blob_named (told_contents self.now) inode.now }
+        ensures { result ≡ facts.blob_named (told_contents self.now) inode.now }
     {
         match self {
             ToldBlobs::Held(held) => blob_named(held, inode),

@@ -14,7 +14,7 @@ use Rattle.ovl_inode.specs.Marks.{is_directory, is_metacopy}
 use Rattle.ovl_inode.specs.Sound.{is_sound_inode, is_sound_kind}
 use Rattle.ovl_inode.proofs.AttributeLemmas.{are_attributes-visible, are_attributes-with}
 use Rattle.ovl_inode.proofs.SoundLaws.{sound_values, sound-with}
-use Rattle.ovl_layer.specs.Layers.{Entries, Entry, entry_at, entry_cmp, entry_limit, is_directory_at, is_within_limits, has_parent, IsLayer}
+use Rattle.ovl_layer.specs.Layers.{Entries, Entry, entry_at, entry_cmp, entry_limit, is_directory_at, is_within_limits, IsLayer}
 use Rattle.ovl_lookup.specs.declared.looks.Look.{Look}
 use Rattle.ovl_lookup.specs.declared.looks.Look.TheVariants.{Nothing, Shown, Broken}
 use Rattle.ovl_lookup.specs.Walk.{mark_at}
@@ -22,11 +22,12 @@ use Rattle.ovl_lookup.specs.Stacks.{StackView}
 use Rattle.ovl_lookup.specs.Merged.{look, is_shown_directory}
 use Rattle.ovl_lookup.specs.ShownInodes.{inode_shown}
 use Rattle.ovl_lookup.specs.Sound.{IsSoundStack, is_moved}
+use Rattle.ovl_lookup.proofs.LawsOfEntries.{MayHave, layer-made}
 use Rattle.ovl_lookup.proofs.LawsOfInodes.{metacopy-file, attribute-hidden, unescaped-filter}
 use Rattle.ovl_lookup.proofs.LawsOfLooks.{ShowsParents-holds, inode-directory, inode-shows, inode-whole, shown-visible, all-over, shown-sound, shown-unescaped, shown-named}
-use Rattle.ovl_lookup.proofs.LawsOfPaths.{lookup-all, parent_path-child, last-name, all-entries}
+use Rattle.ovl_lookup.proofs.LawsOfPaths.{lookup-all, parent_path-child, last-name}
 use Rattle.ovl_lookup.specs.Words.{over}
-use Rattle.ovl_lookup.proofs.LawsOfWalks.{entry-parent, directory-entry, directory-parent_of, directory_found, mark-child}
+use Rattle.ovl_lookup.proofs.LawsOfWalks.{entry-parent, directory-entry, directory_found, mark-child}
 use Rattle.ovl_rewrite.proofs.InodeLemmas.{opaque_named, unescaped-with, directory-flag}
 use Rattle.ovl_deref.specs.Deref.{any_prefix, is_in_moved, unfolded, full_attributes, filled, dereferenced_inode, dereferenced_at, IsDereferenced}
 use Rattle.ovl_deref.specs.Laws.{DerefGivesLayer}
@@ -120,11 +121,6 @@ module _ (top : Entries) (below : StackView) (is : IsLayer top) (each : All IsLa
 
   module _ (deep : All IsLayer below.data_only) (sound : IsSoundStack (over top below)) where
     -- what it has can be stated
-    record Stated (path : PathNames) (inode : Inode) : Type 0 where
-      pub named : has_names path ≡ true
-      pub well : is_sound_inode inode ≡ true
-      pub bare : has_escaped_name inode.attrs ≡ false
-
     unfolded_well : (inode : Inode) → is_directory inode ≡ true → is_sound_inode inode ≡ true → is_sound_inode (unfolded inode) ≡ true
     unfolded_well inode directory well =
         sound-with inode inode.kind (with_attribute (visible_attributes inode.attrs) opaque_name (codes "y")) well
@@ -175,10 +171,10 @@ module _ (top : Entries) (below : StackView) (is : IsLayer top) (each : All IsLa
         by false true Nothing = bare
         by false true (Broken i) = bare
 
-    stated : (path : PathNames) (inode : Inode) → dereferenced_at top below path ≡ Some inode → Stated path inode
+    stated : (path : PathNames) (inode : Inode) → dereferenced_at top below path ≡ Some inode → MayHave path inode
     stated path inode here = by (is_in_moved top path) refl
       where
-        by : (b : Bool) → is_in_moved top path ≡ b → Stated path inode
+        by : (b : Bool) → is_in_moved top path ≡ b → MayHave path inode
         by true m =
             let some : inode_shown (look (over top below) path) ≡ Some inode = sym (within path m) ∙ here in
             let shown = inode-whole (over top below) each_over sound path inode some in
@@ -189,7 +185,7 @@ module _ (top : Entries) (below : StackView) (is : IsLayer top) (each : All IsLa
             }
         by false m = split (entry_at top path) refl
           where
-            split : (found : Option Inode) → entry_at top path ≡ found → Stated path inode
+            split : (found : Option Inode) → entry_at top path ≡ found → MayHave path inode
             split None f = let bad : None ≡ Some inode = sym (outside path m ∙ ap (option_map (dereferenced_inode top below path)) f) ∙ here in cc
             split (Some i) f =
                 let one : Some (dereferenced_inode top below path i) ≡ Some inode = sym (outside path m ∙ ap (option_map (dereferenced_inode top below path)) f) ∙ here in
@@ -201,26 +197,7 @@ module _ (top : Entries) (below : StackView) (is : IsLayer top) (each : All IsLa
                 }
 
     pub layer-but_limits : (entries : Entries) → ascends entry_cmp entries ≡ true → IsDereferenced entries top below → list_all (λ entry. is_within_limits entry.0) entries ≡ true → nat_le (length entries) entry_limit ≡ true → IsLayer entries
-    layer-but_limits entries up made limited counted = record {
-      in_order = up;
-      rooted = ap directory_found (made []) ∙ directory_stays [] refl is.rooted;
-      closed = all-entries (λ entry. has_parent entries entry.0) entries up parents;
-      named = all-entries (λ entry. has_names entry.0) entries up (λ path inode here. (stated path inode (sym (made path) ∙ here)).named);
-      sound = all-entries (λ entry. is_sound_inode entry.1) entries up (λ path inode here. (stated path inode (sym (made path) ∙ here)).well);
-      unescaped = all-entries (λ entry. not (has_escaped_name entry.1.attrs)) entries up (λ path inode here. ap not (stated path inode (sym (made path) ∙ here)).bare);
-      limited = limited;
-      counted = counted;
-    }
-      where
-        parents : (path : PathNames) (inode : Inode) → entry_at entries path ≡ Some inode → has_parent entries path ≡ true
-        parents path inode here = by (last-name path)
-          where
-            by : (path ≡ []) ⊎ ((directory : PathNames) × (name : PathName) × (path ≡ child_path directory name)) → has_parent entries path ≡ true
-            by (inl e) = ap (has_parent entries) e
-            by (inr (directory, name, e)) =
-                ap (has_parent entries) e
-                ∙ directory-parent_of entries directory name
-                (ap directory_found (made directory) ∙ parent-kept directory name inode (sym (made (child_path directory name)) ∙ (ap (entry_at entries) (sym e) ∙ here)))
+    layer-but_limits entries up made = layer-made (dereferenced_at top below) entries up made (directory_stays [] refl is.rooted) parent-kept stated
 
 pub DerefGivesLayer-holds : DerefGivesLayer
 DerefGivesLayer-holds top below is each deep sound entries up made limited counted = layer-but_limits top below is each deep sound entries up made limited counted

@@ -1,20 +1,19 @@
 ghost use Rattle.std.specs.Prelude.{◌≡◌, ◌<◌, ◌++◌, [], false, Some, length, IfOk, IfSome, OnOk};
 ghost use Rattle.std.specs.List.{cons_option};
 ghost use Rattle.ovl_names.specs.Paths.{child_path};
-ghost use Rattle.ovl_inode.specs.Marks.{mark_of as the_mark};
+ghost use Rattle.ovl_inode.specs.Marks as marks;
 ghost use Rattle.ovl_layer.specs.Layers.{entry_at};
 ghost use Rattle.ovl_layer.specs.Sheets.{path_at};
 ghost use Rattle.ovl_lookup.specs.DirViews.{IsViewOf};
-ghost use Rattle.ovl_lookup.specs.Sound.{is_moved as moved_test};
 ghost use Rattle.ovl_lookup.specs.Words.{top_layer, lower_layers};
 ghost use Rattle.ovl_deref.specs.declared.directories.OwnPlace.TheVariants.{Row};
 ghost use Rattle.ovl_deref.specs.Deref.{dereferenced_inode};
-ghost use Rattle.ovl_deref.specs.Directories.{is_at_moved as at_moved_test, inodes_in as the_inodes};
+ghost use Rattle.ovl_deref.specs.Directories as directories;
 ghost use Rattle.ovl_deref.specs.Visits.{IsOwnPlace, IsKid, named_at};
 
 use crate::inodes::{filled, unfolded};
 use ovl_inode::{Inode, Mark};
-use ovl_lookup::{DirView, Found, Stack, shown_inodes};
+use ovl_lookup::{DirView, Found, Stack, is_moved, shown_inodes};
 use ovl_names::{Name, Path};
 use std::alloc::{AllocError, Global};
 
@@ -25,7 +24,7 @@ pub(crate) fn inodes_in(
     stack: &Stack,
     dir: &Path,
 ) -> Result<Vec<(Name, Inode)>, AllocError>
-    ensures { IfOk result (λ inodes. inodes.items ≡ the_inodes stack.now dir.now) }
+    ensures { IfOk result (λ inodes. inodes.items ≡ directories.inodes_in stack.now dir.now) }
 {
     // Each layer of a stack is one.
     let _layers = stack.ordinary();
@@ -65,13 +64,6 @@ fn own_place(stack: &Stack, dir: &Path) -> OwnPlace
     OwnPlace::Row(row)
 }
 
-// Whether this is the mark of a moved directory.
-fn is_moved(mark: &Mark) -> bool
-    ensures { result ≡ moved_test (Some mark.now) }
-{
-    matches!(mark, Mark::DirMoved(_))
-}
-
 // The topmost layer's own names in the directory of a row, where neither it nor one above it is
 // moved, each with its inode in the new layer, in one pass over the rows.
 fn own_inodes(
@@ -81,7 +73,7 @@ fn own_inodes(
     row: u32,
 ) -> Result<Vec<(Name, Inode)>, AllocError>
     requires { IsOwnPlace (top_layer stack.now) dir.now (Row row) }
-    ensures { IfOk result (λ inodes. inodes.items ≡ the_inodes stack.now dir.now) }
+    ensures { IfOk result (λ inodes. inodes.items ≡ directories.inodes_in stack.now dir.now) }
 {
     let sheet = stack.top();
     let kids = sheet.kids(row);
@@ -103,7 +95,7 @@ fn push_own<'a>(
     number: u32,
     inodes: &mut Vec<(Name, Inode)>,
 ) -> Result<(), AllocError>
-    requires free { at_moved_test (top_layer stack.now) dir.now ≡ false }
+    requires free { directories.is_at_moved (top_layer stack.now) dir.now ≡ false }
     requires inside { number < length (top_layer stack.now) }
     requires kid { IsKid dir.now (path_at (top_layer stack.now) number) }
     requires view { IfSome view.old (IsViewOf stack.now 0 dir.now) }
@@ -137,7 +129,7 @@ fn dereferenced<'a>(
     requires view { IfSome view.old (IsViewOf stack.now 0 dir.now) }
     requires entry { entry_at (top_layer stack.now) (child_path dir.now name.now)
         ≡ Some entry.now.inode.now }
-    requires marked { entry.now.mark.now ≡ the_mark entry.now.inode.now }
+    requires marked { entry.now.mark.now ≡ marks.mark_of entry.now.inode.now }
     ensures inode { IfOk result
         (λ new. new ≡ dereferenced_inode (top_layer stack.now) (lower_layers stack.now)
         (child_path dir.now name.now) entry.now.inode.now) }

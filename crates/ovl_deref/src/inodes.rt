@@ -1,7 +1,8 @@
 ghost use Rattle.std.specs.Prelude.{◌≡◌, ◌||◌, IfOk};
 ghost use Rattle.ovl_names.specs.Names.{name_eq};
 ghost use Rattle.ovl_inode.specs.Attributes.{redirect_name, metacopy_name};
-ghost use Rattle.ovl_deref.specs.Deref.{unfolded as the_unfolded, filled as the_filled, full_attributes};
+ghost use Rattle.ovl_deref.specs.Deref.{full_attributes};
+ghost use Rattle.ovl_deref.specs.Deref as deref;
 
 use ovl_inode::{Attrs, Inode, overlay, visible};
 use ovl_lookup::Look;
@@ -10,7 +11,7 @@ use std::alloc::{AllocError, Global};
 /// A moved directory unfolded: its visible inode, opaque. overlayfs.rst: "whiteouts and opaque
 /// directories".
 pub(crate) fn unfolded(alloc: Global, inode: &Inode) -> Result<Inode, AllocError>
-    ensures { IfOk result (λ new. new ≡ the_unfolded inode.now) }
+    ensures { IfOk result (λ new. new ≡ deref.unfolded inode.now) }
 {
     let mut shown = visible(alloc, inode)?;
     match shown.attrs.put(overlay::OPAQUE, b"y") {
@@ -22,7 +23,7 @@ pub(crate) fn unfolded(alloc: Global, inode: &Inode) -> Result<Inode, AllocError
 /// A metacopy file made full, with the contents that are shown. overlayfs.rst: "Metadata only copy
 /// up".
 pub(crate) fn filled(alloc: Global, inode: &Inode, look: &Look) -> Result<Inode, AllocError>
-    ensures { IfOk result (λ full. full ≡ the_filled inode.now look.now) }
+    ensures { IfOk result (λ full. full ≡ deref.filled inode.now look.now) }
 {
     match look {
         Look::Shown(shown) => Ok(inode.with(

@@ -1,15 +1,13 @@
 -- What a flattened layer has, that it shows alone what was shown, and that it is sound and has no marks.
-use Rattle.std.proofs.Common.{◌≡◌, ◌<◌, true, false, Option, Some, None, [], length, refl, sym, ap, ◌∙◌, inl, inr, ◌⊎◌}
-use Rattle.std.specs.Prelude.{not, nat_le}
+use Rattle.std.proofs.Common.{◌≡◌, ◌<◌, true, false, Option, Some, None, [], length, refl, sym, ap, ◌∙◌}
+use Rattle.std.specs.Prelude.{nat_le}
 use Rattle.std.specs.List.{list_all, All}
 use Rattle.ovl_names.specs.Names.{PathName}
 use Rattle.ovl_names.specs.Order.{ascends}
-use Rattle.ovl_names.specs.Paths.{PathNames, child_path, has_names}
+use Rattle.ovl_names.specs.Paths.{PathNames, child_path}
 use Rattle.ovl_inode.specs.declared.inodes.Inode.{Inode}
-use Rattle.ovl_inode.specs.Attributes.{has_escaped_name}
 use Rattle.ovl_inode.specs.Inodes.{visible}
-use Rattle.ovl_inode.specs.Sound.{is_sound_inode}
-use Rattle.ovl_layer.specs.Layers.{Entries, IsLayer, entry_at, entry_cmp, entry_limit, is_within_limits, has_parent}
+use Rattle.ovl_layer.specs.Layers.{Entries, IsLayer, entry_at, entry_cmp, entry_limit, is_within_limits}
 use Rattle.ovl_lookup.specs.declared.looks.Look.{Look}
 use Rattle.ovl_lookup.specs.declared.looks.Look.TheVariants.{Nothing, Shown, Broken}
 use Rattle.ovl_lookup.specs.Stacks.{StackView}
@@ -18,10 +16,10 @@ use Rattle.ovl_lookup.specs.ShownInodes.{inode_shown}
 use Rattle.ovl_lookup.specs.Sound.{IsSoundStack}
 use Rattle.ovl_lookup.specs.Unmarked.{alone, HasNoMarks}
 use Rattle.ovl_lookup.specs.Words.{top_layer, lower_layers}
+use Rattle.ovl_lookup.proofs.LawsOfEntries.{layer-made}
 use Rattle.ovl_lookup.proofs.LawsOfLooks.{ShowsParents-holds, entry-directory_shown, inode-directory, inode-shows, inode-whole, is_broken, never-broken, shown-named, shown-sound, shown-unescaped, shown-visible, top-layer, top-over}
-use Rattle.ovl_lookup.proofs.LawsOfPaths.{all-entries, last-name}
 use Rattle.ovl_lookup.proofs.LawsOfUnmarked.{shown-alone, nothing-alone, sound-alone}
-use Rattle.ovl_lookup.proofs.LawsOfWalks.{directory_found, directory-entry, directory-parent_of}
+use Rattle.ovl_lookup.proofs.LawsOfWalks.{directory_found, directory-entry}
 use Rattle.ovl_flatten.specs.Flatten.{flattened_at, IsFlattened}
 use Rattle.ovl_flatten.specs.Laws.{FlattenKeepsTree, FlattenIsSound, FlattenHasNoMarks, FlattenGivesLayer, FlattenIsTheOne}
 
@@ -66,26 +64,13 @@ module _ (stack : StackView) (each : All IsLayer stack.layers) (sound : IsSoundS
   -- ---- it is a layer, but for the limits
 
   pub layer-but_limits : 0 < length stack.layers → All IsLayer stack.data_only → (entries : Entries) → ascends entry_cmp entries ≡ true → IsFlattened entries stack → list_all (λ entry. is_within_limits entry.0) entries ≡ true → nat_le (length entries) entry_limit ≡ true → IsLayer entries
-  layer-but_limits some deep entries up made limited counted = record {
-    in_order = up;
-    rooted = ap directory_found (made []) ∙ root-directory stack each some;
-    closed = all-entries (λ entry. has_parent entries entry.0) entries up parents;
-    named = all-entries (λ entry. has_names entry.0) entries up (λ path inode here. shown-named stack each path (inode-shows (look stack path) inode (sym (made path) ∙ here)));
-    sound = all-entries (λ entry. is_sound_inode entry.1) entries up (λ path inode here. shown-sound stack each deep path inode (shown-whole path inode (sym (made path) ∙ here)));
-    unescaped = all-entries (λ entry. not (has_escaped_name entry.1.attrs)) entries up (λ path inode here. ap not (shown-unescaped stack each path inode (shown-whole path inode (sym (made path) ∙ here))));
-    limited = limited;
-    counted = counted;
-  }
-    where
-      parents : (path : PathNames) (inode : Inode) → entry_at entries path ≡ Some inode → has_parent entries path ≡ true
-      parents path inode here = by (last-name path)
-        where
-          by : (path ≡ []) ⊎ ((directory : PathNames) × (name : PathName) × (path ≡ child_path directory name)) → has_parent entries path ≡ true
-          by (inl e) = ap (has_parent entries) e
-          by (inr (directory, name, e)) =
-              ap (has_parent entries) e
-              ∙ directory-parent_of entries directory name
-              (ap directory_found (made directory) ∙ parent-shown stack each directory name inode (sym (made (child_path directory name)) ∙ (ap (entry_at entries) (sym e) ∙ here)))
+  layer-but_limits some deep entries up made =
+      layer-made (flattened_at stack) entries up made (root-directory stack each some) (parent-shown stack each)
+      (λ path inode here. record {
+        named = shown-named stack each path (inode-shows (look stack path) inode here);
+        well = shown-sound stack each deep path inode (shown-whole path inode here);
+        bare = shown-unescaped stack each path inode (shown-whole path inode here);
+      })
 
 -- ---- the laws
 

@@ -7,6 +7,7 @@ pub mod LawsOfFound
 pub mod LawsOfLooks
 pub mod LawsOfUnmarked
 pub mod LawsOfKids
+pub mod LawsOfEntries
 pub mod Longest
 pub mod Turns
 pub mod WalkFacts

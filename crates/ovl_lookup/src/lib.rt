@@ -17,7 +17,7 @@ mod view_looks;
 mod views;
 
 pub use inodes::shown_inodes;
-pub use looks::{Look, is_well_formed_metacopy};
+pub use looks::{Look, is_moved, is_well_formed_metacopy};
 pub use onward::Onward;
 pub use sights::Sight;
 pub use stacks::{LAYER_LIMIT, Stack, StackFault};

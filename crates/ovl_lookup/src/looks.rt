@@ -10,6 +10,7 @@ ghost use Rattle.ovl_lookup.specs.ShownInodes.{inode_shown};
 ghost use Rattle.ovl_lookup.specs.Passes.{IsMarked, IsHit, step_of, found_on, shown_with, data_below};
 ghost use Rattle.ovl_lookup.specs.Sights.{sight_of};
 ghost use Rattle.ovl_lookup.specs.Equal.{look_eq};
+ghost use Rattle.ovl_lookup.specs.Sound as sound;
 ghost use Rattle.ovl_lookup.specs.EqualLaws.{look_eq_equiv};
 
 use crate::steps::{Found, TrailStep, follow};
@@ -389,6 +390,13 @@ pub fn is_well_formed_metacopy(mark: &Mark) -> bool
     ensures { result ≡ is_metacopy_mark mark.now }
 {
     matches!(mark, Mark::Meta(_))
+}
+
+/// Whether this is the mark of a moved directory.
+pub fn is_moved(mark: &Mark) -> bool
+    ensures { result ≡ sound.is_moved (Some mark.now) }
+{
+    matches!(mark, Mark::DirMoved(_))
 }
 
 fn without_blob(alloc: Global, kind: &Kind) -> Result<Kind, AllocError>

@@ -1,7 +1,8 @@
 ghost use Rattle.std.specs.Prelude.{◌≡◌, ◌<◌, true, length, IfOk};
 ghost use Rattle.ovl_lookup.specs.Sights.{sight_of};
 ghost use Rattle.ovl_lookup.specs.Words.{look_on};
-ghost use Rattle.ovl_merge.specs.Places.{merge_of, shows_own_directory, shows_at as shows_test, reach, base as the_base, child_of};
+ghost use Rattle.ovl_merge.specs.Places.{merge_of, shows_own_directory, reach, child_of};
+ghost use Rattle.ovl_merge.specs.Places as places;
 ghost use Rattle.ovl_merge.specs.Directories.{base_names};
 ghost use Rattle.ovl_merge.specs.Reckoned.{IsBase, onward_at, reach_from};
 
@@ -52,7 +53,7 @@ impl<'a> Base<'a> {
         ensures { result
             ≡ sight_of
             (look_on (merge_of stack.now).rest
-            (child_of (the_base (merge_of stack.now) _dir.now) name.now)) }
+            (child_of (places.base (merge_of stack.now) _dir.now) name.now)) }
     {
         // Each layer of a stack is one.
         let _layers = stack.ordinary();
@@ -67,8 +68,8 @@ impl<'a> Base<'a> {
         requires several { 1 < length stack.now.layers }
         requires base { IsBase stack.now _dir.now self.now }
         ensures { result
-            ≡ shows_test (merge_of stack.now).rest
-            (child_of (the_base (merge_of stack.now) _dir.now) name.now) }
+            ≡ places.shows_at (merge_of stack.now).rest
+            (child_of (places.base (merge_of stack.now) _dir.now) name.now) }
     {
         // Each layer of a stack is one.
         let _layers = stack.ordinary();
@@ -89,7 +90,7 @@ impl<'a> Base<'a> {
         requires base { IsBase stack.now _dir.now self.now }
         ensures { IfOk result
             (λ names. names.items
-            ≡ base_names (merge_of stack.now).rest (the_base (merge_of stack.now) _dir.now)) }
+            ≡ base_names (merge_of stack.now).rest (places.base (merge_of stack.now) _dir.now)) }
     {
         // Each layer of a stack is one.
         let _layers = stack.ordinary();

@@ -7,7 +7,8 @@ ghost use Rattle.ovl_lookup.specs.Passes.{own_names_along, put_names};
 ghost use Rattle.ovl_merge.specs.Places.{merge_of, two_layers};
 ghost use Rattle.ovl_merge.specs.Stands.{StandsAt};
 ghost use Rattle.ovl_merge.specs.Reckoned.{IsVisited};
-ghost use Rattle.ovl_merge.specs.Candidates.{AreCandidates, AreMerged, AreRowsOf, HaveEntries, candidate_told, candidates_told, hidden_names as the_hidden, joined as joined_rows, names_of, unrowed, rows_on};
+ghost use Rattle.ovl_merge.specs.Candidates.{AreCandidates, AreMerged, AreRowsOf, HaveEntries, candidate_told, candidates_told, names_of, unrowed, rows_on};
+ghost use Rattle.ovl_merge.specs.Candidates as candidates;
 
 use crate::directories::Directory;
 use ovl_layer::Sheet;
@@ -55,7 +56,7 @@ impl<'a> Candidate<'a> {
         ensures { candidate_told result
             ≡ (
               self.now.name.now,
-              joined_rows (candidate_told self.now).1 (candidate_told other.now).1,
+              candidates.joined (candidate_told self.now).1 (candidate_told other.now).1,
             ) }
     {
         Candidate {
@@ -74,7 +75,8 @@ pub(crate) fn hidden_names(
 ) -> Result<Vec<Name>, AllocError>
     requires several { 1 < length stack.now.layers }
     requires visited { IsVisited stack.now directory.now.path directory.now }
-    ensures { IfOk result (λ names. names.items ≡ the_hidden (merge_of stack.now) directory.now) }
+    ensures { IfOk result
+        (λ names. names.items ≡ candidates.hidden_names (merge_of stack.now) directory.now) }
 {
     if directory.is_open() {
         return Ok(Vec::new(alloc));
@@ -92,7 +94,7 @@ pub(crate) fn candidates_in<'a>(
 ) -> Result<Vec<Candidate<'a>>, AllocError>
     requires several { 1 < length stack.now.layers }
     requires visited { IsVisited stack.now directory.now.path directory.now }
-    requires hidden { hidden.now ≡ the_hidden (merge_of stack.now) directory.now }
+    requires hidden { hidden.now ≡ candidates.hidden_names (merge_of stack.now) directory.now }
     ensures { IfOk result
         (λ candidates. HaveEntries (merge_of stack.now) directory.now candidates.items) }
 {

@@ -1,11 +1,14 @@
 ghost use Rattle.std.specs.Prelude.{◌≡◌, ◌<◌, Option, Some, None, true, IfOk, IfSome, string_bytes, length};
 ghost use Rattle.std.specs.Option.{option_map};
-ghost use Rattle.ovl_names.specs.Paths.{PathNames, child_path, path_text as text_of_path};
-ghost use Rattle.ovl_inode.specs.Inodes.{visible as the_visible};
-ghost use Rattle.ovl_inode.specs.Marks.{mark_of as the_mark, is_directory as directory_test};
+ghost use Rattle.ovl_names.specs.Paths.{PathNames, child_path};
+ghost use Rattle.ovl_names.specs.Paths as paths;
+ghost use Rattle.ovl_inode.specs.Inodes as inodes;
+ghost use Rattle.ovl_inode.specs.Marks as marks;
 ghost use Rattle.ovl_lookup.specs.DirViews.{IsViewOf};
-ghost use Rattle.ovl_merge.specs.Places.{merge_of, reach as the_reach};
-ghost use Rattle.ovl_merge.specs.MergeDown.{with_value as the_valued, redirected_from, with_contents as the_filled, new_whiteout as the_whiteout, merged_directory as the_directory, merged_metacopy as the_metacopy, kept_place as the_kept, has_data_alone as data_alone_test, merged_inode as the_inode, merged_entry};
+ghost use Rattle.ovl_merge.specs.Places.{merge_of};
+ghost use Rattle.ovl_merge.specs.Places as places;
+ghost use Rattle.ovl_merge.specs.MergeDown.{redirected_from, merged_entry};
+ghost use Rattle.ovl_merge.specs.MergeDown as merge_down;
 ghost use Rattle.ovl_merge.specs.Reckoned.{IsVisited, name_directly_in, onward_at, reached_in};
 ghost use Rattle.ovl_merge.specs.Candidates.{IsCandidate};
 ghost use Rattle.ovl_merge.specs.Passages.{IsPassage, first_in, place_from};
@@ -73,7 +76,7 @@ fn unfound(
 
 // A whiteout as a merge writes it. overlayfs.rst: "whiteouts and opaque directories".
 fn new_whiteout(alloc: Global) -> Inode
-    ensures { result ≡ the_whiteout }
+    ensures { result ≡ merge_down.new_whiteout }
 {
     Inode {
         kind: Kind::Char { major: 0, minor: 0 },
@@ -102,10 +105,11 @@ fn merged_inode<'d>(
     requires passage { IsPassage (merge_of stack.now) (child_path above.now.path name.now)
         (onward_at above.now.lower) passage.now }
     requires first { Some found.now.inode.now ≡ first_in passage.now }
-    requires marked { found.now.mark.now ≡ the_mark found.now.inode.now }
+    requires marked { found.now.mark.now ≡ marks.mark_of found.now.inode.now }
     ensures inode { IfOk result
         (λ new. new
-        ≡ the_inode (merge_of stack.now) (child_path above.now.path name.now) found.now.inode.now) }
+        ≡ merge_down.merged_inode (merge_of stack.now) (child_path above.now.path name.now)
+        found.now.inode.now) }
     ensures whole { IfSome whole.new (IsViewOf stack.now 0 above.now.path) }
 {
     if is_directory(found.inode) {
@@ -119,7 +123,7 @@ fn merged_inode<'d>(
 
 // The inode as the merged tree shows it: one without attributes as it is.
 fn shown_inode(alloc: Global, inode: &Inode) -> Result<Inode, AllocError>
-    ensures { IfOk result (λ shown. shown ≡ the_visible inode.now) }
+    ensures { IfOk result (λ shown. shown ≡ inodes.visible inode.now) }
 {
     if inode.attrs.pairs().is_empty() {
         return inode.copy(alloc);
@@ -142,13 +146,13 @@ fn merged_directory(
     requires passage { IsPassage (merge_of stack.now) (child_path above.now.path name.now)
         (onward_at above.now.lower) passage.now }
     requires first { Some found.now.inode.now ≡ first_in passage.now }
-    requires marked { found.now.mark.now ≡ the_mark found.now.inode.now }
-    requires directory { directory_test found.now.inode.now ≡ true }
+    requires marked { found.now.mark.now ≡ marks.mark_of found.now.inode.now }
+    requires directory { marks.is_directory found.now.inode.now ≡ true }
     ensures { IfOk result
         (λ new. new
-        ≡ the_directory (merge_of stack.now)
+        ≡ merge_down.merged_directory (merge_of stack.now)
         (child_path above.now.path name.now) found.now.inode.now
-        (the_reach (merge_of stack.now) (child_path above.now.path name.now))) }
+        (places.reach (merge_of stack.now) (child_path above.now.path name.now))) }
 {
     let shown = shown_inode(alloc, found.inode)?;
     if let Some(place) = passage.reach(alloc, stack, above, name, found)? {
@@ -178,11 +182,12 @@ fn merged_metacopy<'d>(
     requires passage { IsPassage (merge_of stack.now) (child_path above.now.path name.now)
         (onward_at above.now.lower) passage.now }
     requires first { Some found.now.inode.now ≡ first_in passage.now }
-    requires marked { found.now.mark.now ≡ the_mark found.now.inode.now }
+    requires marked { found.now.mark.now ≡ marks.mark_of found.now.inode.now }
     ensures inode { IfOk result
         (λ new. new
-        ≡ the_metacopy (merge_of stack.now) (child_path above.now.path name.now) found.now.inode.now
-        (the_reach (merge_of stack.now) (child_path above.now.path name.now))) }
+        ≡ merge_down.merged_metacopy (merge_of stack.now) (child_path above.now.path name.now)
+        found.now.inode.now
+        (places.reach (merge_of stack.now) (child_path above.now.path name.now))) }
     ensures whole { IfSome whole.new (IsViewOf stack.now 0 above.now.path) }
 {
     let shown = visible(alloc, found.inode)?;
@@ -204,7 +209,7 @@ fn merged_metacopy<'d>(
 // says, if the rest shows nothing at that place. overlayfs.rst: "Data-only lower layers".
 fn kept_place(alloc: Global, stack: &Stack, path: &Path) -> Result<Option<Path>, AllocError>
     requires { 1 < length stack.now.layers }
-    ensures { IfOk result (λ kept. kept ≡ the_kept (merge_of stack.now) path.now) }
+    ensures { IfOk result (λ kept. kept ≡ merge_down.kept_place (merge_of stack.now) path.now) }
 {
     let Some(place) = stack.data_place(alloc, path)? else {
         return Ok(None);
@@ -219,7 +224,8 @@ fn kept_place(alloc: Global, stack: &Stack, path: &Path) -> Result<Option<Path>,
 // Whether data-only layers have a full file at a place, and the rest shows nothing there.
 fn has_data_alone(alloc: Global, stack: &Stack, place: &Path) -> Result<bool, AllocError>
     requires { 1 < length stack.now.layers }
-    ensures { IfOk result (λ alone. alone ≡ data_alone_test (merge_of stack.now) place.now) }
+    ensures { IfOk result
+        (λ alone. alone ≡ merge_down.has_data_alone (merge_of stack.now) place.now) }
 {
     if stack.full_file(place).is_none() {
         return Ok(false);
@@ -242,12 +248,12 @@ fn redirected(
     requires several { 1 < length stack.now.layers }
     requires above { IsVisited stack.now above.now.path above.now }
     requires place { place_from (onward_at above.now.lower) place.now
-        ≡ the_reach (merge_of stack.now) (child_path above.now.path name.now) }
+        ≡ places.reach (merge_of stack.now) (child_path above.now.path name.now) }
     ensures { IfOk result
         (λ new. (path : PathNames)
-        → the_reach (merge_of stack.now) (child_path above.now.path name.now) ≡ Some path
+        → places.reach (merge_of stack.now) (child_path above.now.path name.now) ≡ Some path
         → new
-        ≡ redirected_from (the_reach (merge_of stack.now) above.now.path) name.now inode path) }
+        ≡ redirected_from (places.reach (merge_of stack.now) above.now.path) name.now inode path) }
 {
     // Each layer of a stack is one.
     let _layers = stack.ordinary();
@@ -314,7 +320,7 @@ fn renamed(inode: Inode, name: &Name, own: &str) -> Result<Inode, AllocError>
 
 // The inode with this value of an attribute of the overlay's own.
 fn with_value(inode: Inode, name: &str, value: &[u8]) -> Result<Inode, AllocError>
-    ensures { IfOk result (λ new. new ≡ the_valued inode name.now value.now) }
+    ensures { IfOk result (λ new. new ≡ merge_down.with_value inode name.now value.now) }
 {
     let mut inode = inode;
     match inode.attrs.put(name, value) {
@@ -325,7 +331,7 @@ fn with_value(inode: Inode, name: &str, value: &[u8]) -> Result<Inode, AllocErro
 
 // A file with the contents that are shown.
 fn with_contents(alloc: Global, inode: Inode, look: &Look) -> Result<Inode, AllocError>
-    ensures { IfOk result (λ full. full ≡ the_filled inode look.now) }
+    ensures { IfOk result (λ full. full ≡ merge_down.with_contents inode look.now) }
 {
     let mut inode = inode;
     match look {
@@ -339,7 +345,7 @@ fn with_contents(alloc: Global, inode: Inode, look: &Look) -> Result<Inode, Allo
 
 // The text of a path: a separator before each name, and one for the root.
 fn path_text(alloc: Global, path: &Path) -> Result<String, AllocError>
-    ensures { IfOk result (λ text. string_bytes text ≡ text_of_path path.now) }
+    ensures { IfOk result (λ text. string_bytes text ≡ paths.path_text path.now) }
 {
     if path.is_empty() {
         return String::from_str(alloc, "/");

@@ -1,11 +1,12 @@
 ghost use Rattle.std.specs.Prelude.{◌≡◌, ◌≢◌, ◌<◌, Option, None, Some, length, IfOk, IfSome};
 ghost use Rattle.std.specs.Option.{option_map, option_and_then};
 ghost use Rattle.ovl_names.specs.Paths.{PathNames, child_path};
-ghost use Rattle.ovl_inode.specs.Marks.{mark_of as the_mark, is_directory as directory_test, is_metacopy as metacopy_test};
+ghost use Rattle.ovl_inode.specs.Marks as marks;
 ghost use Rattle.ovl_lookup.specs.declared.looks.Look.{Look};
-ghost use Rattle.ovl_lookup.specs.Merged.{look as the_look};
+ghost use Rattle.ovl_lookup.specs.Merged as merged;
 ghost use Rattle.ovl_lookup.specs.Sights.{sight_of};
-ghost use Rattle.ovl_merge.specs.Places.{merge_of, is_nothing_or, is_shown_regular as regular_look, reach as the_reach, goes_on_at};
+ghost use Rattle.ovl_merge.specs.Places.{merge_of, is_nothing_or, goes_on_at};
+ghost use Rattle.ovl_merge.specs.Places as places;
 ghost use Rattle.ovl_merge.specs.Reckoned.{IsVisited, onward_at, upper_onward};
 ghost use Rattle.ovl_merge.specs.Stands.{IsOver, IsStand, IsPassing, IsRowAt, name_on, onward_on, onward_to};
 ghost use Rattle.ovl_merge.specs.Candidates.{IsCandidate};
@@ -74,7 +75,7 @@ impl<'a> Passage<'a> {
     pub(crate) fn first(&self) -> Option<&Found<'a>>
         ensures first { option_map (λ found. found.now.inode.now) result ≡ first_in self.now }
         ensures marked { IsMarked self.now.upper → IsMarked self.now.lower.found
-            → IfSome result (λ found. found.now.mark.now ≡ the_mark found.now.inode.now) }
+            → IfSome result (λ found. found.now.mark.now ≡ marks.mark_of found.now.inode.now) }
     {
         match &self.upper {
             Some(found) => Some(found),
@@ -97,14 +98,14 @@ impl<'a> Passage<'a> {
         requires passage { IsPassage (merge_of stack.now) (child_path above.now.path _name.now)
             (onward_at above.now.lower) self.now }
         requires first { Some found.now.inode.now ≡ first_in self.now }
-        requires marked { found.now.mark.now ≡ the_mark found.now.inode.now }
+        requires marked { found.now.mark.now ≡ marks.mark_of found.now.inode.now }
         ensures reach { IfOk result
             (λ reach. option_and_then
             (λ place. place_from (onward_at above.now.lower) place.now) reach
-            ≡ the_reach (merge_of stack.now) (child_path above.now.path _name.now)) }
+            ≡ places.reach (merge_of stack.now) (child_path above.now.path _name.now)) }
         ensures goes { IfOk result
             (λ reach. IfSome reach
-            (λ _. the_reach (merge_of stack.now) (child_path above.now.path _name.now) ≢ None)) }
+            (λ _. places.reach (merge_of stack.now) (child_path above.now.path _name.now) ≢ None)) }
     {
         let Some(place) = &self.lower.rest else {
             return Ok(None);
@@ -258,7 +259,7 @@ impl<'a> Place<'a> {
         ensures { IfOk result
             (λ sight. (path : PathNames)
             → place_from (onward_at above.now.lower) self.now ≡ Some path
-            → sight ≡ sight_of (the_look (merge_of stack.now).rest path)) }
+            → sight ≡ sight_of (merged.look (merge_of stack.now).rest path)) }
     {
         // Each layer of a stack is one.
         let _layers = stack.ordinary();
@@ -280,8 +281,8 @@ fn goes_on(
 ) -> Result<bool, AllocError>
     requires several { 1 < length stack.now.layers }
     requires above { IsVisited stack.now above.now.path above.now }
-    requires marked { found.now.mark.now ≡ the_mark found.now.inode.now }
-    requires passed { IfSome passed.now (λ found. found.mark.now ≡ the_mark found.inode.now) }
+    requires marked { found.now.mark.now ≡ marks.mark_of found.now.inode.now }
+    requires passed { IfSome passed.now (λ found. found.mark.now ≡ marks.mark_of found.inode.now) }
     ensures { IfOk result
         (λ answer. (path : PathNames) → place_from (onward_at above.now.lower) place.now ≡ Some path
         → answer ≡ goes_on_at (merge_of stack.now) found.now.inode.now (told_in passed.now) path) }
@@ -302,7 +303,7 @@ fn goes_on(
 }
 
 fn is_nothing_or_directory(found: &Option<Found<'_>>) -> bool
-    ensures { result ≡ is_nothing_or directory_test (told_in found.now) }
+    ensures { result ≡ is_nothing_or marks.is_directory (told_in found.now) }
 {
     match found {
         Some(found) => is_directory(found.inode),
@@ -311,8 +312,8 @@ fn is_nothing_or_directory(found: &Option<Found<'_>>) -> bool
 }
 
 fn is_nothing_or_metacopy(found: &Option<Found<'_>>) -> bool
-    requires { IfSome found.now (λ found. found.mark.now ≡ the_mark found.inode.now) }
-    ensures { result ≡ is_nothing_or metacopy_test (told_in found.now) }
+    requires { IfSome found.now (λ found. found.mark.now ≡ marks.mark_of found.inode.now) }
+    ensures { result ≡ is_nothing_or marks.is_metacopy (told_in found.now) }
 {
     match found {
         Some(found) => is_well_formed_metacopy(found.mark),
@@ -322,7 +323,7 @@ fn is_nothing_or_metacopy(found: &Option<Found<'_>>) -> bool
 
 // Whether a regular file is shown, whole or broken.
 fn is_shown_regular(sight: Sight) -> bool
-    ensures { (look : Look) → sight ≡ sight_of look → result ≡ regular_look look }
+    ensures { (look : Look) → sight ≡ sight_of look → result ≡ places.is_shown_regular look }
 {
     matches!(sight, Sight::File)
 }

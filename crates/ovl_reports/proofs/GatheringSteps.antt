@@ -39,32 +39,40 @@ module _ (stack : StackView) where
       gathered = h.gathered;
     }
 
-    -- ... or an entry
-    module _ (looks : Looks) (opens : List OpenDirectory) (o : OpenDirectory) (rest : List ShowParcel) (h : IsGathering looks (opens ++ o ∷ []) rest) (entry : NamedLook) (left : List NamedLook)
-        (some : (view o).1 ≡ entry ∷ left) (o' : OpenDirectory) (same : view o' ≡ ((view o).0, left)) where
+    -- ... or an entry, which comes to the list
+    module _ (looks : Looks) (opened opens : List OpenDirectory) (o : OpenDirectory) (popped : opened ≡ opens ++ o ∷ []) (rest : List ShowParcel) (given : IsGathering looks opened rest) (entry : NamedLook) (left : List NamedLook)
+        (some : (view o).1 ≡ entry ∷ left) (o' : OpenDirectory) (same : view o' ≡ ((view o).0, left)) (new : Looks) (longer : new ≡ looks ++ (child_path (view o).0 entry.0, entry.1) ∷ []) where
       abbrev child : PathNames
       child = child_path (view o).0 entry.0
 
-      gathered-next : looks ++ (child, entry.1) ∷ [] ≡ map (with_look stack) (h.told ++ child ∷ [])
-      gathered-next =
-          ap (λ l. looks ++ (child, l) ∷ []) (left-look stack each view opens o entry left h.told rest h.is_told some)
-          ∙ (ap (λ l. l ++ with_look stack child ∷ []) h.gathered ∙ sym (map-append (with_look stack) h.told (child ∷ [])))
+      h : IsGathering looks (opens ++ o ∷ []) rest
+      h = subst (λ os. IsGathering looks os rest) popped given
 
-      pub gathering-told : is_shown_directory entry.1 ≡ false → IsGathering (looks ++ (child, entry.1) ∷ []) (opens ++ o' ∷ []) rest
-      gathering-told other = record {
-        told = h.told ++ child ∷ [];
-        is_told = left-told stack each view opens o entry left h.told rest h.is_told some o' same other;
-        gathered = gathered-next;
-      }
+      gathered-next : new ≡ map (with_look stack) (h.told ++ child ∷ [])
+      gathered-next =
+          longer
+          ∙ (ap (λ l. looks ++ (child, l) ∷ []) (left-look stack each view opens o entry left h.told rest h.is_told some)
+          ∙ (ap (λ l. l ++ with_look stack child ∷ []) h.gathered ∙ sym (map-append (with_look stack) h.told (child ∷ []))))
+
+      pub gathering-told : is_shown_directory entry.1 ≡ false → (after : List OpenDirectory) → after ≡ opens ++ o' ∷ [] → IsGathering new after rest
+      gathering-told other after pushed =
+          let next : IsGathering new (opens ++ o' ∷ []) rest = record {
+            told = h.told ++ child ∷ [];
+            is_told = left-told stack each view opens o entry left h.told rest h.is_told some o' same other;
+            gathered = gathered-next;
+          } in
+          subst (λ os. IsGathering new os rest) (sym pushed) next
 
       -- ... that is a directory, whose parcel is the next one
       pub gathering-entered : is_shown_directory entry.1 ≡ true → (parcel : ShowParcel) (parcels : List ShowParcel) → rest ≡ parcel ∷ parcels
-          → (o'' : OpenDirectory) → view o'' ≡ opened_by parcel → IsGathering (looks ++ (child, entry.1) ∷ []) ((opens ++ o' ∷ []) ++ o'' ∷ []) parcels
-      gathering-entered is parcel parcels e o'' fresh = record {
-        told = h.told ++ child ∷ [];
-        is_told = left-entered stack each view opens o entry left h.told rest h.is_told some o' same is parcel parcels e o'' fresh;
-        gathered = gathered-next;
-      }
+          → (o'' : OpenDirectory) → view o'' ≡ opened_by parcel → (after : List OpenDirectory) → after ≡ (opens ++ o' ∷ []) ++ o'' ∷ [] → (others : List ShowParcel) → others ≡ parcels → IsGathering new after others
+      gathering-entered is parcel parcels e o'' fresh after pushed others taken =
+          let next : IsGathering new ((opens ++ o' ∷ []) ++ o'' ∷ []) parcels = record {
+            told = h.told ++ child ∷ [];
+            is_told = left-entered stack each view opens o entry left h.told rest h.is_told some o' same is parcel parcels e o'' fresh;
+            gathered = gathered-next;
+          } in
+          subst (IsGathering new after) (sym taken) (subst (λ os. IsGathering new os parcels) (sym pushed) next)
 
     module _ (some : 0 < length stack.layers) where
       -- at first the root is told, and its directory is open

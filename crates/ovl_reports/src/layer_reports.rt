@@ -2,9 +2,10 @@ ghost use Rattle.std.specs.Prelude.{◌≡◌, ◌+◌, ◌++◌, IfOk, OnOk, co
 ghost use Rattle.std.specs.List.{flat_map};
 ghost use Rattle.ovl_names.specs.Escapes.{escaped};
 ghost use Rattle.ovl_names.specs.Paths.{PathNames, child_path};
-ghost use Rattle.ovl_inode.specs.Marks.{mark_of as mark_of_inode};
+ghost use Rattle.ovl_inode.specs.Marks as marks;
 ghost use Rattle.ovl_layer.specs.LayerTrees.{entries_from, placed};
-ghost use Rattle.ovl_reports.specs.LayerReports.{mark_word as the_mark_word, redirect_word, redirect_end, marked_line, entry_line, layer_report};
+ghost use Rattle.ovl_reports.specs.LayerReports.{redirect_word, redirect_end, marked_line, entry_line, layer_report};
+ghost use Rattle.ovl_reports.specs.LayerReports as layer_reports;
 ghost use Rattle.ovl_reports.specs.Reports.{shown_names};
 ghost use Rattle.ovl_layer.specs.Layers.{IsLayer};
 
@@ -88,7 +89,7 @@ fn push_entry(
     inode: &Inode,
 ) -> Result<(), AllocError>
     ensures { OnOk result (string_bytes report.new ≡ string_bytes report.old
-        ++ marked_line (mark_of_inode inode.now) (above.now ++ (codes "/" ++ escaped name.now))) }
+        ++ marked_line (marks.mark_of inode.now) (above.now ++ (codes "/" ++ escaped name.now))) }
 {
     let mark = mark_of(alloc, inode)?;
     push_word(report, mark_word(&mark))?;
@@ -98,7 +99,7 @@ fn push_entry(
 }
 
 fn mark_word(mark: &Mark) -> &'static str
-    ensures { result.now ≡ the_mark_word mark.now }
+    ensures { result.now ≡ layer_reports.mark_word mark.now }
 {
     match mark {
         Mark::Whiteout => "whiteout",

@@ -1,8 +1,10 @@
 ghost use Rattle.std.specs.Prelude.{◌≡◌, ◌+◌, ◌%◌, ◌++◌, IfOk, OnOk, codes, decimal, replicate, string_bytes};
 ghost use Rattle.std.specs.List.{flat_map};
-ghost use Rattle.ovl_names.specs.Escapes.{escaped as escaped_text, shown_path};
+ghost use Rattle.ovl_names.specs.Escapes.{shown_path};
+ghost use Rattle.ovl_names.specs.Escapes as escapes;
 ghost use Rattle.ovl_inode.specs.Kinds.{kind_word};
-ghost use Rattle.ovl_reports.specs.Reports.{octal_digit as last_digit, octal, size_word, blob_word, device_word, what_word, attribute_word, nine_digits as nine_digits_of, time_word, spaced, inode_line, show_report};
+ghost use Rattle.ovl_reports.specs.Reports.{octal, size_word, blob_word, device_word, what_word, attribute_word, time_word, spaced, inode_line, show_report};
+ghost use Rattle.ovl_reports.specs.Reports as reports;
 
 use ovl_inode::{Attrs, Digest, Inode, Kind};
 use ovl_lookup::Look;
@@ -95,7 +97,7 @@ fn push_time(report: &mut String, seconds: i64, nsec: u32) -> Result<(), AllocEr
 // Nine digits of a number, the first ones zeros where it has fewer.
 fn push_nine_digits(report: &mut String, number: u32) -> Result<(), AllocError>
     ensures { OnOk result
-        (string_bytes report.new ≡ string_bytes report.old ++ nine_digits_of number) }
+        (string_bytes report.new ≡ string_bytes report.old ++ reports.nine_digits number) }
 {
     let mut buffer = itoa::Buffer::new();
     let digits = buffer.format(number);
@@ -126,7 +128,7 @@ fn push_mode(report: &mut String, mode: u16) -> Result<(), AllocError>
 }
 
 fn octal_digit(number: u16) -> char
-    ensures { result ≡ last_digit number }
+    ensures { result ≡ reports.octal_digit number }
 {
     (b'0' + (number % 8) as u8) as char
 }
@@ -235,7 +237,7 @@ pub(crate) fn push_path(alloc: Global, report: &mut String, path: &Path) -> Resu
 pub fn push_name(alloc: Global, report: &mut String, name: &str) -> Result<(), AllocError>
     ensures { OnOk result
         (string_bytes report.new
-        ≡ string_bytes report.old ++ (codes "/" ++ escaped_text name.now)) }
+        ≡ string_bytes report.old ++ (codes "/" ++ escapes.escaped name.now)) }
 {
     report.push_str("/")?;
     push_escaped(alloc, report, name)

@@ -2,10 +2,12 @@ ghost use Rattle.std.specs.Prelude.{◌≡◌, ◌+◌, ◌<◌, ◌≤◌, ◌+
 ghost use Rattle.std.specs.Vec.Iter.{into_iter_items};
 ghost use Rattle.ovl_names.specs.Paths.{child_path};
 ghost use Rattle.ovl_layer.specs.Layers.{IsLayer};
-ghost use Rattle.ovl_lookup.specs.Merged.{look as the_look, IsMerged};
+ghost use Rattle.ovl_lookup.specs.Merged.{IsMerged};
+ghost use Rattle.ovl_lookup.specs.Merged as merged;
 ghost use Rattle.ovl_board.specs.Parcels.{parcel_views};
 ghost use Rattle.ovl_reports.specs.declared.works.OpenDirectory.{OpenDirectory};
-ghost use Rattle.ovl_reports.specs.Directories.{HasAllNames, ShowParcel, IsShowWalk, looks_in, directories_in as the_directories_in};
+ghost use Rattle.ovl_reports.specs.Directories.{HasAllNames, ShowParcel, IsShowWalk, looks_in};
+ghost use Rattle.ovl_reports.specs.Directories as directories;
 
 use ovl_board::{Parcel, Piece, Work};
 use ovl_lookup::{DirView, Look, Stack};
@@ -42,7 +44,7 @@ impl<'a> ShowWork<'a> {
 
     /// What is shown at `/`, of a stack of 1 to 128 layers.
     pub fn root_look(&self, alloc: Global) -> Result<Look, AllocError>
-        ensures value { IfOk result (λ look. look ≡ the_look self.now []) }
+        ensures value { IfOk result (λ look. look ≡ merged.look self.now []) }
         ensures some { 0 < length self.now.layers }
         ensures each { All IsLayer self.now.layers }
     {
@@ -103,7 +105,7 @@ fn directories_in(
     piece: &Piece,
     looks: &[(Name, Look)],
 ) -> Result<Vec<Piece>, AllocError>
-    ensures { IfOk result (λ kids. kids.items ≡ the_directories_in piece.now looks.now) }
+    ensures { IfOk result (λ kids. kids.items ≡ directories.directories_in piece.now looks.now) }
 {
     let mut kids = Vec::new(alloc);
     for (name, look) in looks {
@@ -156,7 +158,7 @@ fn entry_path(alloc: Global, directory: &Path, name: Name) -> Result<Path, Alloc
 
 // What is shown at `/`, as a list.
 fn looks_at_root(alloc: Global, work: &ShowWork<'_>) -> Result<Vec<(Path, Look)>, AllocError>
-    ensures root { IfOk result (λ looks. looks.items ≡ ([], the_look work.now []) ∷ []) }
+    ensures root { IfOk result (λ looks. looks.items ≡ ([], merged.look work.now []) ∷ []) }
     ensures some { 0 < length work.now.layers }
     ensures each { All IsLayer work.now.layers }
 {

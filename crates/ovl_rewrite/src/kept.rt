@@ -5,7 +5,8 @@ ghost use Rattle.ovl_layer.specs.Layers.{Entries, entry_cmp, IsLayer};
 ghost use Rattle.ovl_board.specs.Parcels.{parcel_view, parcel_views};
 ghost use Rattle.ovl_rewrite.specs.declared.faults.RewriteFault.TheVariants.{LimitOut};
 ghost use Rattle.ovl_rewrite.specs.Directories.{inodes_seen};
-ghost use Rattle.ovl_rewrite.specs.NewLayers.{NewLayer, IsOf, IsToldWithin, leaves_out as left_out_test};
+ghost use Rattle.ovl_rewrite.specs.NewLayers.{NewLayer, IsOf, IsToldWithin};
+ghost use Rattle.ovl_rewrite.specs.NewLayers as new_layers;
 
 use crate::RewriteFault;
 use crate::layers::layer_told;
@@ -41,14 +42,14 @@ pub fn layer_within(
 
 // Whether something was left out of the walk that gave these parcels.
 fn is_any_left_out(parcels: &[Parcel<Vec<(Name, Inode)>>]) -> bool
-    ensures { result ≡ list_any left_out_test (parcel_views inodes_seen parcels.now) }
+    ensures { result ≡ list_any new_layers.leaves_out (parcel_views inodes_seen parcels.now) }
 {
     parcels.iter().any(|parcel| leaves_out(parcel))
 }
 
 // Whether something was left out at the directory of this one.
 fn leaves_out(parcel: &Parcel<Vec<(Name, Inode)>>) -> bool
-    ensures { result ≡ left_out_test (parcel_view inodes_seen parcel.now) }
+    ensures { result ≡ new_layers.leaves_out (parcel_view inodes_seen parcel.now) }
 {
     let room = NameRoom::under(&parcel.piece.dir);
     for (name, inode) in &parcel.out {

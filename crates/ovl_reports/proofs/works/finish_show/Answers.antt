@@ -1,7 +1,6 @@
 use Rattle.std.proofs.Common.{rules, ◌≡◌, ◌∙◌, ◌++◌, ◌∷◌, [], length, refl, ap, sym, subst, arith, length-append}
 use Rattle.std.specs.Vec.Iter.{into_iter_items}
 use Rattle.std.proofs.lemmas.List.{nil_from_length}
-use Rattle.ovl_names.specs.Paths.{child_path}
 use Rattle.ovl_reports.specs.Directories.{NamedLook, IsShowWalk}
 use Rattle.ovl_reports.proofs.ListingLemmas.{views_of, has-first, has-next}
 use Rattle.ovl_reports.proofs.GatheringSteps.{view, IsGathering, gathered_some, gathering-first, gathering-exhausted, gathering-told, gathering-entered, gathering-last}
@@ -35,45 +34,27 @@ loop-directory-preserved-in-Continue-branch-6 c =
     let stack = c.args.work.now in
     let each = c.in_ok-looks.ensures.each in
     let l = c.loop-directory in
-    let looks = l.looks.items in
-    let rest = into_iter_items l.rest in
     let o = c.in-Some.directory in
-    let kept = c.pop.new.self.items in
-    let h = subst (λ opens. IsGathering stack looks opens rest) c.in-Some.ensures.items l.invariant in
+    let h = subst (λ opens. IsGathering stack l.looks.items opens (into_iter_items l.rest)) c.in-Some.ensures.items l.invariant in
     let entry : NamedLook = (c.in-Some-next.name, c.in-Some-next.look) in
     let left = into_iter_items c.next.new.self in
-    let o' = record o { entries = c.next.new.self } in
-    let some : into_iter_items o.entries ≡ entry ∷ left = c.in-Some-next.ensures.items in
-    let longer : c.push.new.self.items ≡ looks ++ (child_path o.path entry.0, entry.1) ∷ [] = c.in_ok-push.ensures.items ∙ ap (λ path. looks ++ (path, entry.1) ∷ []) c.in_ok-path.ensures in
     let is = sym (sym c.if-is_directory.true ∙ c.is_shown_directory-is_directory.ensures) in
-    let next = has-next stack each view kept o entry left h.told rest h.is_told some is in
+    let next = has-next stack each view c.pop.new.self.items o entry left h.told (into_iter_items l.rest) h.is_told c.in-Some-next.ensures.items is in
     let opened = c.in_ok-open_next-2.ensures.next next.0 next.1.0 next.1.1 in
-    let o'' = opened.1.0 in
-    let after = into_iter_items c.open_next-then-is_directory.new.parcels in
-    subst (λ ls. IsGathering stack ls c.open_next-then-is_directory.new.opened.items after) (sym longer)
-    (subst (λ opens. IsGathering stack (looks ++ (child_path o.path entry.0, entry.1) ∷ []) opens after) (sym (opened.1.1.0 ∙ ap (λ opens. opens ++ o'' ∷ []) c.in_ok-push-2.ensures.items))
-    (subst (IsGathering stack (looks ++ (child_path o.path entry.0, entry.1) ∷ []) ((kept ++ o' ∷ []) ++ o'' ∷ [])) (sym opened.0)
-    (gathering-entered stack each looks kept o rest h entry left some o' refl is next.0 next.1.0 next.1.1 o'' (λ j. (opened.1.1.1 j, opened.1.1.2 j)))))
+    gathering-entered stack each l.looks.items l.open.items c.pop.new.self.items o c.in-Some.ensures.items (into_iter_items l.rest) l.invariant entry left c.in-Some-next.ensures.items
+    (record o { entries = c.next.new.self }) refl c.push.new.self.items (c.in_ok-push.ensures.items ∙ ap (λ path. l.looks.items ++ (path, entry.1) ∷ []) c.in_ok-path.ensures)
+    is next.0 next.1.0 next.1.1 opened.1.0 (λ j. (opened.1.1.1 j, opened.1.1.2 j))
+    c.open_next-then-is_directory.new.opened.items (opened.1.1.0 ∙ ap (λ opens. opens ++ opened.1.0 ∷ []) c.in_ok-push-2.ensures.items) (into_iter_items c.open_next-then-is_directory.new.parcels) opened.0
 
 pub loop-directory-preserved : goal.loop-directory-preserved
 loop-directory-preserved c =
-    let stack = c.args.work.now in
-    let each = c.in_ok-looks.ensures.each in
     let l = c.loop-directory in
-    let looks = l.looks.items in
-    let rest = into_iter_items l.rest in
     let o = c.in-Some.directory in
-    let kept = c.pop.new.self.items in
-    let h = subst (λ opens. IsGathering stack looks opens rest) c.in-Some.ensures.items l.invariant in
     let entry : NamedLook = (c.in-Some-next.name, c.in-Some-next.look) in
-    let left = into_iter_items c.next.new.self in
-    let o' = record o { entries = c.next.new.self } in
-    let some : into_iter_items o.entries ≡ entry ∷ left = c.in-Some-next.ensures.items in
-    let longer : c.push.new.self.items ≡ looks ++ (child_path o.path entry.0, entry.1) ∷ [] = c.in_ok-push.ensures.items ∙ ap (λ path. looks ++ (path, entry.1) ∷ []) c.in_ok-path.ensures in
     let other = sym (sym c.if-is_directory.false ∙ c.is_shown_directory-is_directory.ensures) in
-    subst (λ ls. IsGathering stack ls c.push-in-Some.new.self.items rest) (sym longer)
-    (subst (λ opens. IsGathering stack (looks ++ (child_path o.path entry.0, entry.1) ∷ []) opens rest) (sym c.in_ok-push-2.ensures.items)
-    (gathering-told stack each looks kept o rest h entry left some o' refl other))
+    gathering-told c.args.work.now c.in_ok-looks.ensures.each l.looks.items l.open.items c.pop.new.self.items o c.in-Some.ensures.items (into_iter_items l.rest) l.invariant entry (into_iter_items c.next.new.self) c.in-Some-next.ensures.items
+    (record o { entries = c.next.new.self }) refl c.push.new.self.items (c.in_ok-push.ensures.items ∙ ap (λ path. l.looks.items ++ (path, entry.1) ∷ []) c.in_ok-path.ensures)
+    other c.push-in-Some.new.self.items c.in_ok-push-2.ensures.items
 
 pub loop-directory-smaller-in-Continue-branch-6 : goal.loop-directory-smaller-in-Continue-branch-6
 loop-directory-smaller-in-Continue-branch-6 c =

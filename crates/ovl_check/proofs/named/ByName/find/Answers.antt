@@ -1,8 +1,8 @@
-use Rattle.std.proofs.Common.{◌+◌, ◌∙◌, rules, tests, arith}
+use Rattle.std.proofs.Common.{◌+◌, rules, tests, arith}
 use Rattle.std.specs.Prelude.{slice_index}
 use Rattle.std.proofs.lemmas.Fn.{always_returns_same}
 use Rattle.ovl_check.specs.Blobs.{digest_cmp}
-use Rattle.ovl_check.proofs.NamedLemmas.{part, found, missing, part-bounds, part-named, part-ascends}
+use Rattle.ovl_check.proofs.NamedLemmas.{part-bounds, part-found, part-missing}
 use Rattle.ovl_check.proofs.named.ByName.find.Goals as goal
 
 pub slice_bounds-part-count : goal.slice_bounds-part-count
@@ -28,28 +28,16 @@ pub returns-in-Ok : goal.returns-in-Ok
 returns-in-Ok g c =
     let name = g.T.Named.name_of in
     let me = c.args.self.now in
-    let own = c.args.name.now in
     let first = c.first_byte-first in
-    let start = slice_index me.starts first.result in
-    let end = slice_index me.starts (first.result + 1) in
-    let low = me.begin first.result (omega (arith, first.ensures.limit)) in
-    let high = me.begin (first.result + 1) (omega (arith, first.ensures.limit)) in
-    let position = c.binary_search_by.ensures.position (λ element. digest_cmp (name element) own) (always_returns_same _ _ _ (λ a r q k. (search (rules, tests), search (rules, tests)))) in
-    found name (part me.elements.now start end) c.in-Ok.place own c.index-part-place.result
-    (part-ascends name me.elements.now first.result start end low high me.ascend) c.in-Ok.ensures.bound (rw c.in-Ok.is at position) c.index-part-place.is
-    ∙ part-named name me.elements.now first.result start end low high own first.ensures.value
+    let position = c.binary_search_by.ensures.position (λ element. digest_cmp (name element) c.args.name.now) (always_returns_same _ _ _ (λ a r q k. (search (rules, tests), search (rules, tests)))) in
+    part-found name me.elements.now first.result (slice_index me.starts first.result) (slice_index me.starts (first.result + 1)) (me.begin first.result (omega (arith, first.ensures.limit))) (me.begin (first.result + 1) (omega (arith, first.ensures.limit)))
+    me.ascend c.args.name.now first.ensures.value c.in-Ok.place c.index-part-place.result c.in-Ok.ensures.bound (rw c.in-Ok.is at position) c.index-part-place.is
 
 pub returns-in-Err : goal.returns-in-Err
 returns-in-Err g c =
     let name = g.T.Named.name_of in
     let me = c.args.self.now in
-    let own = c.args.name.now in
     let first = c.first_byte-first in
-    let start = slice_index me.starts first.result in
-    let end = slice_index me.starts (first.result + 1) in
-    let low = me.begin first.result (omega (arith, first.ensures.limit)) in
-    let high = me.begin (first.result + 1) (omega (arith, first.ensures.limit)) in
-    let position = c.binary_search_by.ensures.position (λ element. digest_cmp (name element) own) (always_returns_same _ _ _ (λ a r q k. (search (rules, tests), search (rules, tests)))) in
-    missing name (part me.elements.now start end) c.in-Err.field-0 own
-    (part-ascends name me.elements.now first.result start end low high me.ascend) (rw c.in-Err.is at position)
-    ∙ part-named name me.elements.now first.result start end low high own first.ensures.value
+    let position = c.binary_search_by.ensures.position (λ element. digest_cmp (name element) c.args.name.now) (always_returns_same _ _ _ (λ a r q k. (search (rules, tests), search (rules, tests)))) in
+    part-missing name me.elements.now first.result (slice_index me.starts first.result) (slice_index me.starts (first.result + 1)) (me.begin first.result (omega (arith, first.ensures.limit))) (me.begin (first.result + 1) (omega (arith, first.ensures.limit)))
+    me.ascend c.args.name.now first.ensures.value c.in-Err.field-0 (rw c.in-Err.is at position)
