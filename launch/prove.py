@@ -209,7 +209,7 @@ def tell_what_it_takes() -> None:
     if any((_ROOT / "crates").glob("*/out/rlib")):
         say("what has changed since the last build is proved anew, which takes minutes or longer.")
         return
-    say("nothing was proved here before, so this takes some 85 minutes of processor time.")
+    say("nothing was proved here before, so this takes some 65 minutes of processor time.")
     say("meanwhile ./ovl_layers --unproved runs the program without proofs.")
 
 
