@@ -1,5 +1,5 @@
 ghost use Rattle.std.specs.Prelude.{◌≡◌};
-ghost use Rattle.ovl_check.specs.Codes as codes;
+ghost use Rattle.ovl_check.specs.Codes.{is_fault};
 
 use ovl_names::Path;
 
@@ -42,7 +42,7 @@ pub enum Code {
 impl Code {
     /// Whether it is a fault; the others are notes.
     pub fn is_fault(self) -> bool
-        ensures { result ≡ codes.is_fault self }
+        ensures { result ≡ is_fault self }
     {
         self < Code::OrphanWhiteout
     }

@@ -4,7 +4,7 @@ ghost use Rattle.ovl_lookup.specs.Stacks.{all_layers};
 ghost use Rattle.ovl_names.specs.Paths.{child_path};
 ghost use Rattle.ovl_inode.specs.Attributes.{origin_name};
 ghost use Rattle.ovl_inode.specs.declared.inodes.Inode.{Inode};
-ghost use Rattle.ovl_inode.specs.Marks as marks;
+ghost use Rattle.ovl_inode.specs.Marks.{has_attribute, is_directory};
 ghost use Rattle.ovl_inode.specs.declared.marks.Mark.TheVariants.{Meta};
 ghost use Rattle.ovl_layer.specs.Layers.{entry_at};
 ghost use Rattle.ovl_lookup.specs.declared.looks.Look.{Look};
@@ -42,7 +42,7 @@ pub(crate) fn facts_of_directory<'a>(
     requires gathered { IsGathered (layer_at work.now.stack.now i) directory.now }
     requires origin { holds_origin
         ≡ list_any
-        (λ child. marks.has_attribute child.inode.now origin_name) directory.now.children.items }
+        (λ child. has_attribute child.inode.now origin_name) directory.now.children.items }
     ensures { IfOk result
         (λ facts. (facts.inode.now ≡ directory.now.inode.now)
         × AreFacts (check_view work.now) i directory.now.path.now facts) }
@@ -75,7 +75,7 @@ pub(crate) fn facts_of_child<'a>(
     requires gathered { IsGathered (layer_at work.now.stack.now i) directory.now }
     requires entry { entry_at (layer_at work.now.stack.now i)
         (child_path directory.now.path.now child.now.name.now) ≡ Some child.now.inode.now }
-    requires none { marks.is_directory child.now.inode.now ≡ false }
+    requires none { is_directory child.now.inode.now ≡ false }
     requires marked { IsMarked child.now }
     requires below { directory.now.closed ≡ false → asks child.now.mark.now ≡ true
         → IsBelow work.now.stack.now i (next_of directory.now) directory.now.below }

@@ -1,7 +1,7 @@
 ghost use Rattle.std.specs.Prelude.{◌≡◌, ◌<◌, ◌++◌, [], false, Some, length, IfOk, IfSome, OnOk};
 ghost use Rattle.std.specs.List.{cons_option};
 ghost use Rattle.ovl_names.specs.Paths.{child_path};
-ghost use Rattle.ovl_inode.specs.Marks as marks;
+ghost use Rattle.ovl_inode.specs.Marks.{mark_of};
 ghost use Rattle.ovl_layer.specs.Layers.{entry_at};
 ghost use Rattle.ovl_layer.specs.Sheets.{path_at};
 ghost use Rattle.ovl_lookup.specs.DirViews.{IsViewOf};
@@ -129,7 +129,7 @@ fn dereferenced<'a>(
     requires view { IfSome view.old (IsViewOf stack.now 0 dir.now) }
     requires entry { entry_at (top_layer stack.now) (child_path dir.now name.now)
         ≡ Some entry.now.inode.now }
-    requires marked { entry.now.mark.now ≡ marks.mark_of entry.now.inode.now }
+    requires marked { entry.now.mark.now ≡ mark_of entry.now.inode.now }
     ensures inode { IfOk result
         (λ new. new ≡ dereferenced_inode (top_layer stack.now) (lower_layers stack.now)
         (child_path dir.now name.now) entry.now.inode.now) }

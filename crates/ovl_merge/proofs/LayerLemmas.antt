@@ -17,15 +17,16 @@ use Rattle.ovl_inode.specs.Sound.{is_sound_inode, is_sound_kind}
 use Rattle.ovl_inode.proofs.AttributeLemmas.{are_attributes-visible, are_attributes-with}
 use Rattle.ovl_inode.proofs.SoundLaws.{sound_values, sound-with, kind-full}
 use Rattle.ovl_inode.proofs.OnLiterals.{inode_on_literals}
-use Rattle.ovl_layer.specs.Layers.{Entry, Entries, IsLayer, entry_at, entry_cmp, entry_limit, is_within_limits, has_parent}
+use Rattle.ovl_layer.specs.Layers.{Entry, Entries, IsLayer, entry_cmp, entry_limit, is_within_limits}
 use Rattle.ovl_lookup.specs.Trace.{things_found}
 use Rattle.ovl_lookup.specs.Merged.{look, shows, shown_of, data_of}
 use Rattle.ovl_lookup.specs.Sound.{IsSoundStack}
-use Rattle.ovl_lookup.proofs.LawsOfPaths.{parent_path-child, all-first, all-rest, last-name, all-entries}
+use Rattle.ovl_lookup.proofs.LawsOfPaths.{parent_path-child, all-first, all-rest, last-name}
+use Rattle.ovl_lookup.proofs.LawsOfEntries.{layer-made}
 use Rattle.ovl_lookup.proofs.LawsOfInodes.{metacopy-file, attribute-with, data-kind, sound-visible, unescaped-filter}
 use Rattle.ovl_lookup.proofs.LawsOfFound.{shown_of-contents, any_found, data-regular, found-all, data-all}
 use Rattle.ovl_lookup.proofs.LawsOfLooks.{shows-found, shown-named}
-use Rattle.ovl_lookup.proofs.LawsOfWalks.{directory-parent_of, directory_found}
+use Rattle.ovl_lookup.proofs.LawsOfWalks.{directory_found}
 use Rattle.ovl_rewrite.proofs.InodeLemmas.{opaque_named, unescaped-with, directory-flag}
 use Rattle.ovl_merge.specs.Places.{Merge, whole, two_layers, lower_path, first_hit, passes, shows_own_directory, is_hidden, reach, gets_opaque, natural, base, child_of, shows_at, last_name}
 use Rattle.ovl_merge.specs.MergeDown.{with_value, with_contents, merged_directory, merged_metacopy, unreached_metacopy, kept_place, merged_inode, merged_entry, merged_entry_of, needs_whiteout, new_whiteout, IsMergedDown}
@@ -236,31 +237,17 @@ module _ (m : Merge) (each : All IsLayer (whole m).layers) where
   -- ---- the layer
 
   module _ (deep : All IsLayer m.rest.data_only) (sound : IsSoundStack (whole m)) (entries : Entries) (up : ascends entry_cmp entries ≡ true) (is : IsMergedDown m entries) where
-    parent : (path : PathNames) (inode : Inode) → entry_at entries path ≡ Some inode → has_parent entries path ≡ true
-    parent path inode here = by (last-name path)
-      where
-        by : (path ≡ []) ⊎ ((directory : PathNames) × (name : PathName) × (path ≡ child_path directory name)) → has_parent entries path ≡ true
-        by (inl e) = ap (has_parent entries) e
-        by (inr (directory, name, e)) =
-            let there : merged_entry m (child_path directory name) ≡ Some inode = ap (merged_entry m) (sym e) ∙ (sym (is path) ∙ here) in
-            ap (has_parent entries) e
-            ∙ directory-parent_of entries directory name (ap directory_found (is directory) ∙ (entry-directory m upper lower directory ∙ (entry-stands m upper lower directory name inode there).0))
+    parent : (directory : PathNames) (name : PathName) (inode : Inode) → merged_entry m (child_path directory name) ≡ Some inode → directory_found (merged_entry m directory) ≡ true
+    parent directory name inode there = entry-directory m upper lower directory ∙ (entry-stands m upper lower directory name inode there).0
 
-    fine : (path : PathNames) (inode : Inode) → entry_at entries path ≡ Some inode → (is_sound_inode inode ≡ true) × (has_escaped_name inode.attrs ≡ false)
-    fine path inode here =
-        entry-cases (λ i. (is_sound_inode i ≡ true) × (has_escaped_name i.attrs ≡ false)) path inode (sym (is path) ∙ here) (λ first hit. inode-fine path first hit deep sound) (λ needs. (refl, refl))
+    fine : (path : PathNames) (inode : Inode) → merged_entry m path ≡ Some inode → (is_sound_inode inode ≡ true) × (has_escaped_name inode.attrs ≡ false)
+    fine path inode there =
+        entry-cases (λ i. (is_sound_inode i ≡ true) × (has_escaped_name i.attrs ≡ false)) path inode there (λ first hit. inode-fine path first hit deep sound) (λ needs. (refl, refl))
 
     layer-but_limits : list_all (λ entry. is_within_limits entry.0) entries ≡ true → nat_le (length entries) entry_limit ≡ true → IsLayer entries
-    layer-but_limits limited counted = record {
-      in_order = up;
-      rooted = ap directory_found (is []) ∙ root-entry m upper lower;
-      closed = all-entries (λ entry. has_parent entries entry.0) entries up parent;
-      named = all-entries (λ entry. has_names entry.0) entries up (λ path inode here. entry-named path inode (sym (is path) ∙ here));
-      sound = all-entries (λ entry. is_sound_inode entry.1) entries up (λ path inode here. (fine path inode here).0);
-      unescaped = all-entries (λ entry. not (has_escaped_name entry.1.attrs)) entries up (λ path inode here. ap not (fine path inode here).1);
-      limited = limited;
-      counted = counted;
-    }
+    layer-but_limits =
+        layer-made (merged_entry m) entries up is (root-entry m upper lower) parent
+        (λ path inode there. record { named = entry-named path inode there; well = (fine path inode there).0; bare = (fine path inode there).1 })
 
 pub MergeGivesLayer-holds : MergeGivesLayer
 MergeGivesLayer-holds m each deep sound entries up is limited counted = layer-but_limits m each deep sound entries up is limited counted

@@ -8,7 +8,7 @@ use Rattle.ovl_names.specs.Paths.{PathNames, child_path, parent_path}
 use Rattle.ovl_names.proofs.Ascending.{both, not_true}
 use Rattle.ovl_inode.specs.declared.inodes.Inode.{Inode}
 use Rattle.ovl_inode.specs.Marks.{is_directory, is_metacopy}
-use Rattle.ovl_layer.specs.Layers.{Entries, IsLayer, entry_at}
+use Rattle.ovl_layer.specs.Layers.{Entries, IsLayer}
 use Rattle.ovl_lookup.specs.declared.looks.Look.{Look}
 use Rattle.ovl_lookup.specs.declared.looks.Look.TheVariants.{Nothing}
 use Rattle.ovl_lookup.specs.declared.steps.Step.{Step}
@@ -17,7 +17,6 @@ use Rattle.ovl_lookup.specs.Walk.{walk}
 use Rattle.ovl_lookup.specs.Words.{look_on}
 use Rattle.ovl_lookup.specs.Merged.{look, shows_directory, is_shown_directory}
 use Rattle.ovl_lookup.proofs.LawsOfLooks.{nothing-under}
-use Rattle.ovl_lookup.proofs.LawsOfWalks.{walk-finds}
 use Rattle.ovl_merge.specs.declared.bases.Base.{Base}
 use Rattle.ovl_merge.specs.declared.stands.Stand.{Stand}
 use Rattle.ovl_merge.specs.declared.stands.Passing.{Passing}

@@ -1,17 +1,20 @@
 -- How the walks of the names in a directory end in the two layers, as the program reckons it.
 use Rattle.std.specs.Prelude.{◌≡◌, Option, Some, is_some, IfSome}
 use Rattle.std.specs.Option.{option_map, option_and_then, option_or}
-use Rattle.ovl_names.specs.Paths.{PathNames}
+use Rattle.ovl_names.specs.Paths.{PathNames, child_path}
 use Rattle.ovl_inode.specs.declared.inodes.Inode.{Inode}
 use Rattle.ovl_inode.specs.Marks.{mark_of}
 use Rattle.ovl_layer.specs.Layers.{Entries}
 use Rattle.ovl_lookup.specs.declared.steps.Found.{Found}
+use Rattle.ovl_lookup.specs.Stacks.{StackView}
 use Rattle.ovl_lookup.specs.Walk.{walk}
+use Rattle.ovl_merge.specs.declared.directories.Directory.{Directory}
 use Rattle.ovl_merge.specs.declared.passages.Passage.{Passage}
 use Rattle.ovl_merge.specs.declared.passages.Passed.{Passed}
 use Rattle.ovl_merge.specs.declared.passages.Place.{Place}
 use Rattle.ovl_merge.specs.declared.passages.Place.TheVariants.{Beside, At}
-use Rattle.ovl_merge.specs.Places.{Merge}
+use Rattle.ovl_merge.specs.Places.{Merge, merge_of}
+use Rattle.ovl_merge.specs.Reckoned.{IsVisited, onward_at}
 use Rattle.ovl_merge.specs.Stands.{name_on, step_onward}
 
 -- a place in the rest, by where that knows the directory above
@@ -59,3 +62,12 @@ pub record IsPassage (m : Merge) (path : PathNames) (above : Option PathNames)
 -- the first thing that they find
 abbrev pub first_in : Passage → Option Inode
 first_in passage = option_or (told_in passage.upper) (told_in passage.lower.found)
+
+-- ... in a directory
+pub record IsFirstFound (stack : StackView) (directory : Directory) (walks : Passage)
+    (thing : Found) : Type 0 where
+  pub above : IsVisited stack directory.path directory
+  pub passage : IsPassage (merge_of stack) (child_path directory.path walks.name.now)
+      (onward_at directory.lower) walks
+  pub first : Some thing.inode.now ≡ first_in walks
+  pub marked : thing.mark.now ≡ mark_of thing.inode.now

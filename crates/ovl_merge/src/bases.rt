@@ -1,15 +1,15 @@
 ghost use Rattle.std.specs.Prelude.{◌≡◌, ◌<◌, true, length, IfOk};
+ghost use Rattle.ovl_names.specs.Paths.{PathNames};
 ghost use Rattle.ovl_lookup.specs.Sights.{sight_of};
 ghost use Rattle.ovl_lookup.specs.Words.{look_on};
-ghost use Rattle.ovl_merge.specs.Places.{merge_of, shows_own_directory, reach, child_of};
-ghost use Rattle.ovl_merge.specs.Places as places;
+ghost use Rattle.ovl_merge.specs.Places.{merge_of, shows_own_directory, reach, child_of, base, shows_at};
 ghost use Rattle.ovl_merge.specs.Directories.{base_names};
 ghost use Rattle.ovl_merge.specs.Reckoned.{IsBase, onward_at, reach_from};
 
-use crate::directories::onward_of;
+use crate::directories::{Directory, onward_of};
 use crate::stands::Stand;
 use ovl_lookup::{DirView, Sight, Stack};
-use ovl_names::{Name, Path};
+use ovl_names::Name;
 use std::alloc::{AllocError, Global};
 
 /// Where the names in a directory lie in the rest, which is what lies below the two layers.
@@ -26,14 +26,14 @@ impl<'a> Base<'a> {
     pub(crate) fn of(
         alloc: Global,
         stack: &'a Stack,
-        _dir: &Path,
         lower: &Option<Stand<'a>>,
     ) -> Result<Base<'a>, AllocError>
-        requires several { 1 < length stack.now.layers }
-        requires shown { shows_own_directory (merge_of stack.now) _dir.now ≡ true }
-        requires reach { reach (merge_of stack.now) _dir.now
-            ≡ reach_from (merge_of stack.now).rest (onward_at lower.now) }
-        ensures { IfOk result (IsBase stack.now _dir.now) }
+        requires { 1 < length stack.now.layers }
+        ensures { IfOk result (λ own. (dir : PathNames)
+            → shows_own_directory (merge_of stack.now) dir ≡ true
+            → reach (merge_of stack.now) dir
+            ≡ reach_from (merge_of stack.now).rest (onward_at lower.now)
+            → IsBase stack.now dir own) }
     {
         // Each layer of a stack is one.
         let _layers = stack.ordinary();
@@ -45,56 +45,53 @@ impl<'a> Base<'a> {
             None => Ok(Base::Apart),
         }
     }
+}
 
+impl<'a> Directory<'a> {
     /// Of what kind it is that the rest shows at a name in it.
-    pub(crate) fn sight(&self, stack: &Stack, _dir: &Path, name: &Name) -> Sight
+    pub(crate) fn sight(&self, stack: &Stack, name: &Name) -> Sight
         requires several { 1 < length stack.now.layers }
-        requires base { IsBase stack.now _dir.now self.now }
+        requires base { IsBase stack.now self.now.path self.now.base }
         ensures { result
             ≡ sight_of
             (look_on (merge_of stack.now).rest
-            (child_of (places.base (merge_of stack.now) _dir.now) name.now)) }
+            (child_of (base (merge_of stack.now) self.now.path) name.now)) }
     {
         // Each layer of a stack is one.
         let _layers = stack.ordinary();
-        match self {
+        match &self.base {
             Base::Reached(view) => view.sight(stack, name),
             Base::Apart => Sight::Nothing,
         }
     }
 
     /// Whether it shows something there.
-    pub(crate) fn shows(&self, stack: &Stack, _dir: &Path, name: &Name) -> bool
+    pub(crate) fn shows(&self, stack: &Stack, name: &Name) -> bool
         requires several { 1 < length stack.now.layers }
-        requires base { IsBase stack.now _dir.now self.now }
+        requires base { IsBase stack.now self.now.path self.now.base }
         ensures { result
-            ≡ places.shows_at (merge_of stack.now).rest
-            (child_of (places.base (merge_of stack.now) _dir.now) name.now) }
+            ≡ shows_at (merge_of stack.now).rest
+            (child_of (base (merge_of stack.now) self.now.path) name.now) }
     {
         // Each layer of a stack is one.
         let _layers = stack.ordinary();
-        match self {
+        match &self.base {
             Base::Reached(view) => view.shows(stack, name),
             Base::Apart => false,
         }
     }
 
-    /// The names at which it shows something.
-    pub(crate) fn names(
-        &self,
-        alloc: Global,
-        stack: &Stack,
-        _dir: &Path,
-    ) -> Result<Vec<Name>, AllocError>
+    /// The names in it at which the rest shows something.
+    pub(crate) fn rest_names(&self, alloc: Global, stack: &Stack) -> Result<Vec<Name>, AllocError>
         requires several { 1 < length stack.now.layers }
-        requires base { IsBase stack.now _dir.now self.now }
+        requires base { IsBase stack.now self.now.path self.now.base }
         ensures { IfOk result
             (λ names. names.items
-            ≡ base_names (merge_of stack.now).rest (places.base (merge_of stack.now) _dir.now)) }
+            ≡ base_names (merge_of stack.now).rest (base (merge_of stack.now) self.now.path)) }
     {
         // Each layer of a stack is one.
         let _layers = stack.ordinary();
-        match self {
+        match &self.base {
             Base::Reached(view) => view.names(alloc, stack),
             Base::Apart => Ok(Vec::new(alloc)),
         }

@@ -81,7 +81,7 @@ pub(crate) fn hidden_names(
     if directory.is_open() {
         return Ok(Vec::new(alloc));
     }
-    directory.base.names(alloc, stack, &directory.path)
+    directory.rest_names(alloc, stack)
 }
 
 /// Names in a directory, in order, with all that have an entry: those of the two layers, and those

@@ -45,7 +45,7 @@ impl<'a> Directory<'a> {
         if !is_shown(upper, &lower) {
             return Ok(None);
         }
-        let base = Base::of(alloc, stack, dir, &lower)?;
+        let base = Base::of(alloc, stack, &lower)?;
         let path = dir.copy(alloc)?;
         Ok(Some(Directory {
             path,

@@ -11,7 +11,7 @@ ghost use Rattle.ovl_merge.specs.MergeDown.{redirected_from, merged_entry};
 ghost use Rattle.ovl_merge.specs.MergeDown as merge_down;
 ghost use Rattle.ovl_merge.specs.Reckoned.{IsVisited, name_directly_in, onward_at, reached_in};
 ghost use Rattle.ovl_merge.specs.Candidates.{IsCandidate};
-ghost use Rattle.ovl_merge.specs.Passages.{IsPassage, first_in, place_from};
+ghost use Rattle.ovl_merge.specs.Passages.{IsFirstFound, IsPassage, first_in, place_from};
 
 use crate::bases::Base;
 use crate::candidates::Candidate;
@@ -39,14 +39,13 @@ pub(crate) fn inode_in<'d>(
         ≡ merged_entry (merge_of stack.now) (child_path above.now.path candidate.now.name.now)) }
     ensures whole { IfSome whole.new (IsViewOf stack.now 0 above.now.path) }
 {
-    let name = candidate.name;
     let passage = Passage::of(alloc, stack, above, candidate)?;
     match passage.first() {
         Some(found) => {
-            let inode = merged_inode(alloc, stack, whole, above, name, &passage, found)?;
+            let inode = merged_inode(alloc, stack, whole, above, &passage, found)?;
             Ok(Some(inode))
         }
-        None => Ok(unfound(alloc, stack, above, name, &passage)),
+        None => Ok(unfound(alloc, stack, above, &passage)),
     }
 }
 
@@ -55,20 +54,20 @@ fn unfound(
     alloc: Global,
     stack: &Stack,
     above: &Directory<'_>,
-    name: &Name,
     passage: &Passage<'_>,
 ) -> Option<Inode>
     requires several { 1 < length stack.now.layers }
     requires above { IsVisited stack.now above.now.path above.now }
-    requires passage { IsPassage (merge_of stack.now) (child_path above.now.path name.now)
-        (onward_at above.now.lower) passage.now }
+    requires passage { IsPassage (merge_of stack.now)
+        (child_path above.now.path passage.now.name.now) (onward_at above.now.lower) passage.now }
     requires none { first_in passage.now ≡ None }
-    ensures { result ≡ merged_entry (merge_of stack.now) (child_path above.now.path name.now) }
+    ensures { result
+        ≡ merged_entry (merge_of stack.now) (child_path above.now.path passage.now.name.now) }
 {
     if passage.lower.rest.is_some() {
         return None;
     }
-    if !above.base.shows(stack, &above.path, name) {
+    if !above.shows(stack, passage.name) {
         return None;
     }
     Some(new_whiteout(alloc))
@@ -95,28 +94,23 @@ fn merged_inode<'d>(
     stack: &'d Stack,
     whole: &mut Option<DirView<'d>>,
     above: &'d Directory<'_>,
-    name: &Name,
     passage: &Passage<'_>,
     found: &Found<'_>,
 ) -> Result<Inode, AllocError>
     requires whole { IfSome whole.old (IsViewOf stack.now 0 above.now.path) }
     requires several { 1 < length stack.now.layers }
-    requires above { IsVisited stack.now above.now.path above.now }
-    requires passage { IsPassage (merge_of stack.now) (child_path above.now.path name.now)
-        (onward_at above.now.lower) passage.now }
-    requires first { Some found.now.inode.now ≡ first_in passage.now }
-    requires marked { found.now.mark.now ≡ marks.mark_of found.now.inode.now }
+    requires first { IsFirstFound stack.now above.now passage.now found.now }
     ensures inode { IfOk result
         (λ new. new
-        ≡ merge_down.merged_inode (merge_of stack.now) (child_path above.now.path name.now)
-        found.now.inode.now) }
+        ≡ merge_down.merged_inode (merge_of stack.now)
+        (child_path above.now.path passage.now.name.now) found.now.inode.now) }
     ensures whole { IfSome whole.new (IsViewOf stack.now 0 above.now.path) }
 {
     if is_directory(found.inode) {
-        return merged_directory(alloc, stack, above, name, passage, found);
+        return merged_directory(alloc, stack, above, passage, found);
     }
     if is_well_formed_metacopy(found.mark) {
-        return merged_metacopy(alloc, stack, whole, above, name, passage, found);
+        return merged_metacopy(alloc, stack, whole, above, passage, found);
     }
     shown_inode(alloc, found.inode)
 }
@@ -137,28 +131,23 @@ fn merged_directory(
     alloc: Global,
     stack: &Stack,
     above: &Directory<'_>,
-    name: &Name,
     passage: &Passage<'_>,
     found: &Found<'_>,
 ) -> Result<Inode, AllocError>
     requires several { 1 < length stack.now.layers }
-    requires above { IsVisited stack.now above.now.path above.now }
-    requires passage { IsPassage (merge_of stack.now) (child_path above.now.path name.now)
-        (onward_at above.now.lower) passage.now }
-    requires first { Some found.now.inode.now ≡ first_in passage.now }
-    requires marked { found.now.mark.now ≡ marks.mark_of found.now.inode.now }
+    requires first { IsFirstFound stack.now above.now passage.now found.now }
     requires directory { marks.is_directory found.now.inode.now ≡ true }
     ensures { IfOk result
         (λ new. new
         ≡ merge_down.merged_directory (merge_of stack.now)
-        (child_path above.now.path name.now) found.now.inode.now
-        (places.reach (merge_of stack.now) (child_path above.now.path name.now))) }
+        (child_path above.now.path passage.now.name.now) found.now.inode.now
+        (places.reach (merge_of stack.now) (child_path above.now.path passage.now.name.now))) }
 {
     let shown = shown_inode(alloc, found.inode)?;
-    if let Some(place) = passage.reach(alloc, stack, above, name, found)? {
-        return redirected(alloc, stack, above, name, shown, place);
+    if let Some(place) = passage.reach(alloc, stack, above, found)? {
+        return redirected(alloc, stack, above, passage.name, shown, place);
     }
-    let hidden = above.base.sight(stack, &above.path, name);
+    let hidden = above.sight(stack, passage.name);
     if hidden.is_directory() {
         return with_value(shown, overlay::OPAQUE, b"y");
     }
@@ -172,36 +161,31 @@ fn merged_metacopy<'d>(
     stack: &'d Stack,
     whole: &mut Option<DirView<'d>>,
     above: &'d Directory<'_>,
-    name: &Name,
     passage: &Passage<'_>,
     found: &Found<'_>,
 ) -> Result<Inode, AllocError>
     requires whole { IfSome whole.old (IsViewOf stack.now 0 above.now.path) }
     requires several { 1 < length stack.now.layers }
-    requires above { IsVisited stack.now above.now.path above.now }
-    requires passage { IsPassage (merge_of stack.now) (child_path above.now.path name.now)
-        (onward_at above.now.lower) passage.now }
-    requires first { Some found.now.inode.now ≡ first_in passage.now }
-    requires marked { found.now.mark.now ≡ marks.mark_of found.now.inode.now }
+    requires first { IsFirstFound stack.now above.now passage.now found.now }
     ensures inode { IfOk result
         (λ new. new
-        ≡ merge_down.merged_metacopy (merge_of stack.now) (child_path above.now.path name.now)
-        found.now.inode.now
-        (places.reach (merge_of stack.now) (child_path above.now.path name.now))) }
+        ≡ merge_down.merged_metacopy (merge_of stack.now)
+        (child_path above.now.path passage.now.name.now) found.now.inode.now
+        (places.reach (merge_of stack.now) (child_path above.now.path passage.now.name.now))) }
     ensures whole { IfSome whole.new (IsViewOf stack.now 0 above.now.path) }
 {
     let shown = visible(alloc, found.inode)?;
-    if let Some(place) = passage.reach(alloc, stack, above, name, found)? {
+    if let Some(place) = passage.reach(alloc, stack, above, found)? {
         let copied = with_value(shown, overlay::METACOPY, b"")?;
-        return redirected(alloc, stack, above, name, copied, place);
+        return redirected(alloc, stack, above, passage.name, copied, place);
     }
-    let path = above.path.child(alloc, name)?;
+    let path = above.path.child(alloc, passage.name)?;
     if let Some(kept) = kept_place(alloc, stack, &path)? {
         let copied = with_value(shown, overlay::METACOPY, b"")?;
         let text = path_text(alloc, &kept)?;
         return with_value(copied, overlay::REDIRECT, text.as_bytes());
     }
-    let contents = DirView::look_kept(alloc, stack, whole, &above.path, name)?;
+    let contents = DirView::look_kept(alloc, stack, whole, &above.path, passage.name)?;
     with_contents(alloc, shown, &contents)
 }
 

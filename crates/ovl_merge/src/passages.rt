@@ -3,14 +3,14 @@ ghost use Rattle.std.specs.Option.{option_map, option_and_then};
 ghost use Rattle.ovl_names.specs.Paths.{PathNames, child_path};
 ghost use Rattle.ovl_inode.specs.Marks as marks;
 ghost use Rattle.ovl_lookup.specs.declared.looks.Look.{Look};
-ghost use Rattle.ovl_lookup.specs.Merged as merged;
+ghost use Rattle.ovl_lookup.specs.Merged.{look};
 ghost use Rattle.ovl_lookup.specs.Sights.{sight_of};
 ghost use Rattle.ovl_merge.specs.Places.{merge_of, is_nothing_or, goes_on_at};
 ghost use Rattle.ovl_merge.specs.Places as places;
 ghost use Rattle.ovl_merge.specs.Reckoned.{IsVisited, onward_at, upper_onward};
 ghost use Rattle.ovl_merge.specs.Stands.{IsOver, IsStand, IsPassing, IsRowAt, name_on, onward_on, onward_to};
 ghost use Rattle.ovl_merge.specs.Candidates.{IsCandidate};
-ghost use Rattle.ovl_merge.specs.Passages.{IsPassage, IsPassed, IsMarked, IsPlaced, first_in, told_in, place_from, rest_from};
+ghost use Rattle.ovl_merge.specs.Passages.{IsFirstFound, IsPassage, IsPassed, IsMarked, IsPlaced, first_in, told_in, place_from, rest_from};
 
 use crate::candidates::Candidate;
 use crate::directories::Directory;
@@ -24,6 +24,7 @@ use std::alloc::{AllocError, Global};
 /// The walks of a name in a directory.
 #[derive(Drop)]
 pub(crate) struct Passage<'a> {
+    pub(crate) name: &'a Name,
     // What that in the upper layer finds.
     pub(crate) upper: Option<Found<'a>>,
     // How that in the lower one ends, where it goes on there.
@@ -58,14 +59,16 @@ impl<'a> Passage<'a> {
         requires several { 1 < length stack.now.layers }
         requires above { IsVisited stack.now above.now.path above.now }
         requires candidate { IsCandidate (merge_of stack.now) above.now candidate.now }
-        ensures { IfOk result
-            (IsPassage (merge_of stack.now) (child_path above.now.path candidate.now.name.now)
-            (onward_at above.now.lower)) }
+        ensures name { IfOk result (λ passage. passage.name.now ≡ candidate.now.name.now) }
+        ensures walks { IfOk result
+            (λ passage. IsPassage (merge_of stack.now) (child_path above.now.path passage.name.now)
+            (onward_at above.now.lower) passage) }
     {
         let name = candidate.name;
         let Passing { found, onward, .. } = passing_at(stack.sheet(0), name, candidate.upper);
         let lower = Passed::of(alloc, stack, above, candidate, onward)?;
         Ok(Passage {
+            name,
             upper: found,
             lower,
         })
@@ -90,22 +93,18 @@ impl<'a> Passage<'a> {
         alloc: Global,
         stack: &Stack,
         above: &Directory<'_>,
-        _name: &Name,
         found: &Found<'_>,
     ) -> Result<Option<&Place<'a>>, AllocError>
         requires several { 1 < length stack.now.layers }
-        requires above { IsVisited stack.now above.now.path above.now }
-        requires passage { IsPassage (merge_of stack.now) (child_path above.now.path _name.now)
-            (onward_at above.now.lower) self.now }
-        requires first { Some found.now.inode.now ≡ first_in self.now }
-        requires marked { found.now.mark.now ≡ marks.mark_of found.now.inode.now }
+        requires first { IsFirstFound stack.now above.now self.now found.now }
         ensures reach { IfOk result
             (λ reach. option_and_then
             (λ place. place_from (onward_at above.now.lower) place.now) reach
-            ≡ places.reach (merge_of stack.now) (child_path above.now.path _name.now)) }
+            ≡ places.reach (merge_of stack.now) (child_path above.now.path self.now.name.now)) }
         ensures goes { IfOk result
             (λ reach. IfSome reach
-            (λ _. places.reach (merge_of stack.now) (child_path above.now.path _name.now) ≢ None)) }
+            (λ _. places.reach (merge_of stack.now)
+            (child_path above.now.path self.now.name.now) ≢ None)) }
     {
         let Some(place) = &self.lower.rest else {
             return Ok(None);
@@ -259,12 +258,12 @@ impl<'a> Place<'a> {
         ensures { IfOk result
             (λ sight. (path : PathNames)
             → place_from (onward_at above.now.lower) self.now ≡ Some path
-            → sight ≡ sight_of (merged.look (merge_of stack.now).rest path)) }
+            → sight ≡ sight_of (look (merge_of stack.now).rest path)) }
     {
         // Each layer of a stack is one.
         let _layers = stack.ordinary();
         match self {
-            Place::Beside(name) => Ok(above.base.sight(stack, &above.path, name)),
+            Place::Beside(name) => Ok(above.sight(stack, name)),
             Place::At(path) => stack.sight(alloc, 2, path.copy(alloc)?),
         }
     }

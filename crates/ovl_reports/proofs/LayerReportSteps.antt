@@ -1,5 +1,5 @@
 -- The lines of a new layer, node by node.
-use Rattle.std.proofs.Common.{◌≡◌, true, refl, ℕ, zero, suc, ◌+◌, ◌<◌, List, [], ◌∷◌, ◌++◌, length, get_or, take, ◌∙◌, sym, ap, arith, append-nil, length-append}
+use Rattle.std.proofs.Common.{◌≡◌, true, refl, ℕ, ◌+◌, ◌<◌, List, [], ◌∷◌, ◌++◌, length, get_or, take, ◌∙◌, sym, ap, arith, append-nil, length-append}
 use Rattle.std.specs.Prelude.{codes, ◌==◌}
 use Rattle.std.proofs.lemmas.Bool.Decides.{nat_tests}
 use Rattle.std.proofs.lemmas.List.{length-map}

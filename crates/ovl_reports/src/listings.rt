@@ -1,7 +1,7 @@
 ghost use Rattle.std.specs.Prelude.{◌≡◌, ℕ, ◌+◌, ◌*◌, ◌<◌, ◌≤◌, ◌++◌, ◌∷◌, [], List, IfOk, OnOk, codes, drop, if◌then◌else◌, length, string_bytes, take};
 ghost use Rattle.std.specs.Fork.{slice_chunk};
 ghost use Rattle.std.specs.List.{flat_map, sum_by};
-ghost use Rattle.ovl_names.specs.Escapes as escapes;
+ghost use Rattle.ovl_names.specs.Escapes.{escaped};
 ghost use Rattle.ovl_lookup.specs.Stacks.{StackView};
 ghost use Rattle.ovl_board.specs.Parcels.{parcel_views};
 ghost use Rattle.ovl_reports.specs.declared.listings.Open.{Open};
@@ -274,7 +274,7 @@ pub(crate) fn one_more(entries: u64) -> Result<u64, AllocError>
 /// What stands before the names in a directory, by what stands before its own name.
 pub(crate) fn text_of(alloc: Global, above: &str, name: &str) -> Result<String, AllocError>
     ensures { IfOk result
-        (λ text. string_bytes text ≡ above.now ++ (codes "/" ++ escapes.escaped name.now)) }
+        (λ text. string_bytes text ≡ above.now ++ (codes "/" ++ escaped name.now)) }
 {
     // Few names have characters that are escaped.
     let room = above.len().saturating_add(1).saturating_add(name.len());
@@ -293,7 +293,7 @@ fn push_wanted(
     look: &Look,
 ) -> Result<(), AllocError>
     ensures { OnOk result (string_bytes report.new ≡ string_bytes report.old
-        ++ (if wanted then look_line (above.now ++ (codes "/" ++ escapes.escaped name.now)) look.now
+        ++ (if wanted then look_line (above.now ++ (codes "/" ++ escaped name.now)) look.now
         else [])) }
 {
     if !wanted {
@@ -313,7 +313,7 @@ fn push_look(
     ensures { OnOk result
         (string_bytes report.new
         ≡ string_bytes report.old
-        ++ look_line (above.now ++ (codes "/" ++ escapes.escaped name.now)) look.now) }
+        ++ look_line (above.now ++ (codes "/" ++ escaped name.now)) look.now) }
 {
     match look {
         Look::Shown(inode) => push_entry(alloc, report, above, name, inode, false),
@@ -333,7 +333,7 @@ fn push_entry(
     ensures { OnOk result
         (string_bytes report.new
         ≡ string_bytes report.old
-        ++ line_of broken (above.now ++ (codes "/" ++ escapes.escaped name.now)) inode.now) }
+        ++ line_of broken (above.now ++ (codes "/" ++ escaped name.now)) inode.now) }
 {
     push_status(report, inode)?;
     push_contents(alloc, report, &inode.kind, broken)?;
@@ -351,7 +351,7 @@ pub(crate) fn push_place(
 ) -> Result<(), AllocError>
     ensures { OnOk result
         (string_bytes report.new
-        ≡ string_bytes report.old ++ (above.now ++ (codes "/" ++ escapes.escaped name.now))) }
+        ≡ string_bytes report.old ++ (above.now ++ (codes "/" ++ escaped name.now))) }
 {
     report.push_str(above)?;
     push_name(alloc, report, name)

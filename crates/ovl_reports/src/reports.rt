@@ -1,7 +1,6 @@
 ghost use Rattle.std.specs.Prelude.{◌≡◌, ◌+◌, ◌%◌, ◌++◌, IfOk, OnOk, codes, decimal, replicate, string_bytes};
 ghost use Rattle.std.specs.List.{flat_map};
-ghost use Rattle.ovl_names.specs.Escapes.{shown_path};
-ghost use Rattle.ovl_names.specs.Escapes as escapes;
+ghost use Rattle.ovl_names.specs.Escapes.{shown_path, escaped};
 ghost use Rattle.ovl_inode.specs.Kinds.{kind_word};
 ghost use Rattle.ovl_reports.specs.Reports.{octal, size_word, blob_word, device_word, what_word, attribute_word, time_word, spaced, inode_line, show_report};
 ghost use Rattle.ovl_reports.specs.Reports as reports;
@@ -237,7 +236,7 @@ pub(crate) fn push_path(alloc: Global, report: &mut String, path: &Path) -> Resu
 pub fn push_name(alloc: Global, report: &mut String, name: &str) -> Result<(), AllocError>
     ensures { OnOk result
         (string_bytes report.new
-        ≡ string_bytes report.old ++ (codes "/" ++ escapes.escaped name.now)) }
+        ≡ string_bytes report.old ++ (codes "/" ++ escaped name.now)) }
 {
     report.push_str("/")?;
     push_escaped(alloc, report, name)

@@ -3,6 +3,8 @@ use Rattle.std.proofs.Common.{◌≡◌, ◌<◌, ◌+◌, ◌⊎◌, inl, inr, 
 use Rattle.ovl_inode.specs.Marks.{is_directory}
 use Rattle.ovl_layer.specs.Layers.{Entries}
 use Rattle.ovl_layer.specs.LayerTrees.{under, entries_from}
+use Rattle.ovl_board.specs.declared.works.Parcel.{Parcel}
+use Rattle.ovl_board.specs.Parcels.{parcel_view, parcel_views}
 use Rattle.ovl_rewrite.specs.Directories.{NamedInode}
 use Rattle.ovl_rewrite.specs.Passes.{View, WalksUnder, StopsUnder, failed_siblings}
 use Rattle.ovl_layer.specs.declared.faults.SiblingFault.{SiblingFault}
@@ -49,6 +51,25 @@ module _ (before : List View) (view : View) (later : List View) (first : before 
   next-entry last kids (inl directory) = next-directory directory.0 last kids directory.1
   next-entry last kids (inr file) =
       subst (λ (vs : List View). WalksAmong before vs (length (done ++ entry ∷ [])) (mid ++ under entry.0 (entries_from entry.1 kids))) (sym file.2) (next-file file.0 kids file.1)
+
+-- ---- the same by what a run over parcels has
+
+module _ {Out : Type 0} (seen : Out → List NamedInode) (rest : List (Parcel Out)) (parcel : Parcel Out) (later : List (Parcel Out)) (items : rest ≡ parcel ∷ later) (after : List View) (done from left : List NamedInode) (entry : NamedInode)
+    (parted : seen parcel.out ≡ done ++ from) (step : from ≡ entry ∷ left) (mid : Entries) (walked : WalksAmong (parcel_views seen rest) after (length done) mid) where
+  parts : seen parcel.out ≡ done ++ entry ∷ left
+  parts = parted ∙ ap (λ (es : List NamedInode). done ++ es) step
+
+  pub next-walked : (last : List View) (kids : Entries)
+      → ((is_directory entry.1 ≡ true) × WalksUnder after last kids) ⊎ ((is_directory entry.1 ≡ false) × (kids ≡ []) × (last ≡ after))
+      → WalksAmong (parcel_views seen rest) last (length (done ++ entry ∷ [])) (mid ++ under entry.0 (entries_from entry.1 kids))
+  next-walked = next-entry (parcel_views seen rest) (parcel_view seen parcel) (parcel_views seen later) (ap (parcel_views seen) items) after done left entry parts mid walked
+
+  pub next-stops : is_directory entry.1 ≡ true → StopsUnder after → StopsUnder (parcel_views seen rest)
+  next-stops = stops-below (parcel_views seen rest) (parcel_view seen parcel) (parcel_views seen later) (ap (parcel_views seen) items) after done left entry parts mid walked
+
+-- a walk that another name is given to, with what it leaves and what it tells
+pub walks-on : {R : Type 0} (views : R → List View) (after : List View) (last rest : R) (kids below : Entries) → last ≡ rest → kids ≡ below → WalksUnder after (views rest) below → WalksUnder after (views last) kids
+walks-on {R} views after last rest kids below moved same walk = subst (WalksUnder after (views last)) (sym same) (subst (λ (r : R). WalksUnder after (views r) below) (sym moved) walk)
 
 -- entries were refused as those of no layer
 pub no-layer : {T : Type 0} (fault : SiblingFault) (result : Result T RewriteFault) → result ≡ Err (failed_siblings fault) → result ≡ Err LimitOut → fault ≡ NoLayer

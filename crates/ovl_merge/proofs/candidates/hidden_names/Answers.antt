@@ -15,4 +15,4 @@ pub returns : goal.returns
 returns c =
     let m = merge_of c.args.stack.now in
     let directory = c.args.directory.now in
-    subst (λ (names : List PathName). IfOk c.names.result (λ own. own.items ≡ names)) (ap (λ (b : Bool). cond b [] (base_names m.rest (base m directory.path))) c.if-is_open.ensures) c.names.ensures
+    subst (λ (names : List PathName). IfOk c.rest_names.result (λ own. own.items ≡ names)) (ap (λ (b : Bool). cond b [] (base_names m.rest (base m directory.path))) c.if-is_open.ensures) c.rest_names.ensures

@@ -16,7 +16,7 @@ redirected-requires-clause-place c = rw c.in-Some.is at c.in_ok-place.ensures.re
 pub returns-in-Some-clause-inode : goal.returns-in-Some-clause-inode
 returns-in-Some-clause-inode c =
     let m = merge_of c.args.stack.now in
-    IfOk-weaker c.redirected.result _ _ (λ new h. metacopy-on m c.args.above.now.path c.args.name.now c.args.found.now.inode.now c.in_ok-shown.shown c.in_ok-shown.ensures new
+    IfOk-weaker c.redirected.result _ _ (λ new h. metacopy-on m c.args.above.now.path c.args.passage.now.name.now c.args.found.now.inode.now c.in_ok-shown.shown c.in_ok-shown.ensures new
     (rw c.in-Some.is at c.in_ok-place.ensures.goes) c.in_ok-copied.copied c.in_ok-copied.ensures h) c.redirected.ensures
 
 pub returns-in-Some-2-clause-inode : goal.returns-in-Some-2-clause-inode
@@ -25,7 +25,7 @@ returns-in-Some-2-clause-inode c =
     let m = merge_of stack in
     let above = c.args.above.now in
     let dir : PathNames = above.path in
-    let name = c.args.name.now in
+    let name = c.args.passage.now.name.now in
     let inode = c.args.found.now.inode.now in
     let path : PathNames = child_path dir name in
     let seen = c.in_ok-shown.ensures in
@@ -41,7 +41,7 @@ returns-clause-inode c =
     let m = merge_of stack in
     let above = c.args.above.now in
     let dir : PathNames = above.path in
-    let name = c.args.name.now in
+    let name = c.args.passage.now.name.now in
     let inode = c.args.found.now.inode.now in
     let path : PathNames = child_path dir name in
     let seen = c.in_ok-shown.ensures in

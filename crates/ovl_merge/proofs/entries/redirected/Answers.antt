@@ -1,16 +1,15 @@
-use Rattle.std.proofs.Common.{◌≡◌, ◌∙◌, Some, sym, ap}
+use Rattle.std.proofs.Common.{◌∙◌, Some, sym, ap}
 use Rattle.std.proofs.lemmas.Result.{IfOk-weaker}
 use Rattle.ovl_names.specs.Names.{PathName}
 use Rattle.ovl_names.specs.Paths.{child_path}
 use Rattle.ovl_merge.specs.Places.{merge_of, reach}
-use Rattle.ovl_merge.specs.MergeDown.{redirected_from}
 use Rattle.ovl_merge.specs.Reckoned.{name_directly_in, onward_at}
 use Rattle.ovl_merge.specs.Passages.{place_from}
 use Rattle.ovl_merge.proofs.FinishLemmas.{merge-each}
 use Rattle.ovl_merge.proofs.LayerLemmas.{rest}
 use Rattle.ovl_merge.proofs.ShownLemmas.{visited-reach}
 use Rattle.ovl_merge.proofs.PassageLemmas.{reach-above}
-use Rattle.ovl_merge.proofs.EntryLemmas.{directly-child, base-reached}
+use Rattle.ovl_merge.proofs.EntryLemmas.{directly-child}
 use Rattle.ovl_merge.proofs.entries.redirected.Goals as goal
 
 pub returns-in-Beside : goal.returns-in-Beside

@@ -1,7 +1,6 @@
 use Rattle.std.proofs.Common.{◌≡◌, ◌∙◌, ℕ, List, None, Bor, sym, ap}
 use Rattle.std.specs.Option.{option_map}
 use Rattle.std.proofs.lemmas.Result.{IfOk-weaker}
-use Rattle.ovl_names.specs.Paths.{path_text}
 use Rattle.ovl_inode.specs.Attributes.{redirect_name}
 use Rattle.ovl_merge.specs.MergeDown.{with_value}
 use Rattle.ovl_merge.specs.Reckoned.{name_directly_in, reached_in}

@@ -12,13 +12,13 @@ pub returns-then-is_some : goal.returns-then-is_some
 returns-then-is_some c =
     let m = merge_of c.args.stack.now in
     let above = c.args.above.now in
-    unfound-open m (child_path above.path c.args.name.now) (onward_at above.lower) c.args.passage.now c.requires.passage c.requires.none (sym c.if-is_some.ensures)
+    unfound-open m (child_path above.path c.args.passage.now.name.now) (onward_at above.lower) c.args.passage.now c.requires.passage c.requires.none (sym c.if-is_some.ensures)
 
 pub returns-then-not-shows : goal.returns-then-not-shows
 returns-then-not-shows c =
     let m = merge_of c.args.stack.now in
     let above = c.args.above.now in
-    let name = c.args.name.now in
+    let name = c.args.passage.now.name.now in
     unfound-shut m (child_path above.path name) (onward_at above.lower) c.args.passage.now c.requires.passage c.requires.none (sym c.if-is_some.ensures)
     (ap (shows_own_directory m) (parent_path-child above.path name) ∙ c.requires.above.shown) false (c.if-not-shows.ensures ∙ ap (shows_at m.rest) (sym (natural-child m above.path name)))
 
@@ -26,7 +26,7 @@ pub returns : goal.returns
 returns c =
     let m = merge_of c.args.stack.now in
     let above = c.args.above.now in
-    let name = c.args.name.now in
+    let name = c.args.passage.now.name.now in
     ap (λ (i : Inode). Some i) c.new_whiteout.ensures
     ∙ unfound-shut m (child_path above.path name) (onward_at above.lower) c.args.passage.now c.requires.passage c.requires.none (sym c.if-is_some.ensures)
     (ap (shows_own_directory m) (parent_path-child above.path name) ∙ c.requires.above.shown) true (c.if-not-shows.ensures ∙ ap (shows_at m.rest) (sym (natural-child m above.path name)))

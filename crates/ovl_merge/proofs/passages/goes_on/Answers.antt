@@ -1,6 +1,6 @@
 use Rattle.std.proofs.Common.{◌∙◌, true, false, refl, sym, ap}
 use Rattle.ovl_inode.specs.Marks.{is_metacopy_mark}
-use Rattle.ovl_lookup.specs.Merged.{look, shows_directory, is_shown_directory}
+use Rattle.ovl_lookup.specs.Merged.{look, shows_directory}
 use Rattle.ovl_merge.specs.Places.{merge_of, is_shown_regular, is_nothing_or}
 use Rattle.ovl_inode.specs.Marks.{is_metacopy}
 use Rattle.ovl_merge.specs.Passages.{told_in}

@@ -5,12 +5,11 @@ use Rattle.std.proofs.lemmas.List.{take_all}
 use Rattle.std.proofs.lemmas.List.Concat.{flat_map-append}
 use Rattle.ovl_names.specs.Paths.{PathNames, child_path}
 use Rattle.ovl_names.specs.Escapes.{escaped}
-use Rattle.ovl_inode.specs.Marks.{mark_of}
 use Rattle.ovl_layer.specs.Layers.{Entries}
 use Rattle.ovl_layer.specs.LayerTrees.{NodeView, entries_of_nodes, under, entries_from, placed}
 use Rattle.ovl_layer.proofs.NodeLemmas.{entries_of_nodes-more, fewer_below, placed-under, placed-append}
 use Rattle.ovl_reports.specs.Reports.{shown_names}
-use Rattle.ovl_reports.specs.LayerReports.{marked_line, entry_line}
+use Rattle.ovl_reports.specs.LayerReports.{entry_line}
 use Rattle.ovl_reports.proofs.ListingSteps.{text-child}
 use Rattle.ovl_reports.proofs.LayerReportSteps.{nothing_below, told}
 use Rattle.ovl_reports.proofs.layer_reports.+push_under.Goals as goal

@@ -13,30 +13,18 @@ returns-then-not-is_shown c =
     let are = c.in_ok-upper.ensures in
     shown-by m c.args.dir.now stands.upper are.next are.upper stands.lower are.lower ∙ sym c.if-not-is_shown.ensures
 
-pub of-requires : goal.of-requires
-of-requires c =
-    let m = merge_of c.args.stack.now in
-    let stands = c.in_ok-upper.field-0 in
-    let are = c.in_ok-upper.ensures in
-    let shown : shows_own_directory m c.args.dir.now ≡ true = shown-by m c.args.dir.now stands.upper are.next are.upper stands.lower are.lower ∙ sym c.if-not-is_shown.ensures in
-    record {
-      several = c.requires;
-      shown = shown;
-      reach = reach-below m c.args.dir.now stands.upper are.next are.upper stands.lower are.lower shown;
-    }
-
 pub returns : goal.returns
 returns c =
     let m = merge_of c.args.stack.now in
     let dir : PathNames = c.args.dir.now in
     let stands = c.in_ok-upper.field-0 in
     let are = c.in_ok-upper.ensures in
-    let shown = shown-by m dir stands.upper are.next are.upper stands.lower are.lower in
+    let shown : shows_own_directory m dir ≡ true = shown-by m dir stands.upper are.next are.upper stands.lower are.lower ∙ sym c.if-not-is_shown.ensures in
     let goes : are.next ≡ upper_onward m dir = lower-by m dir stands.upper are.next are.upper stands.lower are.lower (sym c.if-not-is_shown.ensures) in
     record {
       path = c.in_ok-path.ensures;
-      shown = shown ∙ sym c.if-not-is_shown.ensures;
+      shown = shown;
       upper = subst (StandsAt m.upper dir stands.upper) goes are.upper;
       lower = subst (λ (o : Option PathNames). IsBelow m.lower o stands.lower) goes are.lower;
-      base = c.in_ok-base.ensures;
+      base = c.in_ok-base.ensures dir shown (reach-below m dir stands.upper are.next are.upper stands.lower are.lower shown);
     }

@@ -16,8 +16,8 @@ passing_at-requires c =
     subst (λ (layer : Entries). IfSome candidate.upper (λ row. row < length layer)) (upper-sheet c.args.stack.now c.sheet.result.now c.sheet.ensures)
     (row-inside (merge_of c.args.stack.now).upper (child_path above.path candidate.name.now) candidate.upper c.requires.candidate.upper)
 
-pub returns : goal.returns
-returns c =
+pub returns-clause-walks : goal.returns-clause-walks
+returns-clause-walks c =
     let stack = c.args.stack.now in
     let m = merge_of stack in
     let above = c.args.above.now in

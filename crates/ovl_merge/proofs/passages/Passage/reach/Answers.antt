@@ -12,7 +12,7 @@ returns-in_default-clause-reach c =
     let m = merge_of c.args.stack.now in
     let above = c.args.above.now in
     let passage = c.args.self.now in
-    sym (reach-shut m (child_path above.path c.args._name.now) (onward_at above.lower) passage c.requires.passage (ap (rest_from (onward_at above.lower)) (not-some passage.lower.rest c.in_default.not-Some)))
+    sym (reach-shut m (child_path above.path passage.name.now) (onward_at above.lower) passage c.requires.first.passage (ap (rest_from (onward_at above.lower)) (not-some passage.lower.rest c.in_default.not-Some)))
 
 pub returns-then-branch : goal.returns-then-branch
 returns-then-branch c =
@@ -21,13 +21,13 @@ returns-then-branch c =
     let passage = c.args.self.now in
     record {
       reach =
-          reach-told m (child_path above.path c.args._name.now) (onward_at above.lower) passage c.requires.passage c.args.found.now.inode.now c.requires.first
+          reach-told m (child_path above.path passage.name.now) (onward_at above.lower) passage c.requires.first.passage c.args.found.now.inode.now c.requires.first.first
           (place_from (onward_at above.lower) c.in-Some.place) (ap (rest_from (onward_at above.lower)) c.in-Some.is) true
           (λ own e. sym c.if-branch.true ∙ c.in_ok-goes_on.ensures own e);
       goes = λ none.
-          placed-some (place_from (onward_at above.lower) c.in-Some.place) (reach m (child_path above.path c.args._name.now))
-          (subst (IsPlaced (onward_at above.lower)) c.in-Some.is c.requires.passage.lower.placed)
-          (reach-told m (child_path above.path c.args._name.now) (onward_at above.lower) passage c.requires.passage c.args.found.now.inode.now c.requires.first
+          placed-some (place_from (onward_at above.lower) c.in-Some.place) (reach m (child_path above.path passage.name.now))
+          (subst (IsPlaced (onward_at above.lower)) c.in-Some.is c.requires.first.passage.lower.placed)
+          (reach-told m (child_path above.path passage.name.now) (onward_at above.lower) passage c.requires.first.passage c.args.found.now.inode.now c.requires.first.first
           (place_from (onward_at above.lower) c.in-Some.place) (ap (rest_from (onward_at above.lower)) c.in-Some.is) true
           (λ own e. sym c.if-branch.true ∙ c.in_ok-goes_on.ensures own e)) none;
     }
@@ -37,6 +37,6 @@ returns-clause-reach c =
     let m = merge_of c.args.stack.now in
     let above = c.args.above.now in
     let passage = c.args.self.now in
-    reach-told m (child_path above.path c.args._name.now) (onward_at above.lower) passage c.requires.passage c.args.found.now.inode.now c.requires.first
+    reach-told m (child_path above.path passage.name.now) (onward_at above.lower) passage c.requires.first.passage c.args.found.now.inode.now c.requires.first.first
     (place_from (onward_at above.lower) c.in-Some.place) (ap (rest_from (onward_at above.lower)) c.in-Some.is) false
     (λ own e. sym c.if-branch.false ∙ c.in_ok-goes_on.ensures own e)

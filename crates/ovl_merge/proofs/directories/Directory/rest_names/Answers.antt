@@ -8,21 +8,21 @@ use Rattle.ovl_merge.proofs.FinishLemmas.{merge-each}
 use Rattle.ovl_merge.proofs.LayerLemmas.{rest}
 use Rattle.ovl_merge.proofs.VisitLemmas.{view-kids}
 use Rattle.ovl_merge.proofs.BaseLemmas.{none-reached, unreached-names}
-use Rattle.ovl_merge.proofs.bases.Base.names.Goals as goal
+use Rattle.ovl_merge.proofs.directories.Directory.rest_names.Goals as goal
 
 pub returns-in-Reached : goal.returns-in-Reached
 returns-in-Reached c =
     let stack = c.args.stack.now in
     let m = merge_of stack in
     let each = rest m (merge-each stack c.requires.several c.ordinary-layers.ensures.each) in
-    let based = subst (IsBase stack c.args._dir.now) c.in-Reached.is c.requires.base in
+    let based = subst (IsBase stack c.args.self.now.path) c.in-Reached.is c.requires.base in
     IfOk-weaker c.names.result _ _ (λ names are.
     view-kids stack each c.in-Reached.view.path c.in-Reached.view based.1 names.items are
-    ∙ sym (ap (base_names m.rest) (base-reach m c.args._dir.now c.in-Reached.view.path based.0))) c.names.ensures
+    ∙ sym (ap (base_names m.rest) (base-reach m c.args.self.now.path c.in-Reached.view.path based.0))) c.names.ensures
 
 pub returns-in-Apart : goal.returns-in-Apart
 returns-in-Apart c =
     let stack = c.args.stack.now in
     let m = merge_of stack in
     let each = rest m (merge-each stack c.requires.several c.ordinary-layers.ensures.each) in
-    c.new.ensures.items ∙ unreached-names stack each c.args._dir.now c.args.self.now c.requires.base (none-reached stack c.args._dir.now c.args.self.now c.requires.base c.in-Apart.is)
+    c.new.ensures.items ∙ unreached-names stack each c.args.self.now.path c.args.self.now.base c.requires.base (none-reached stack c.args.self.now.path c.args.self.now.base c.requires.base c.in-Apart.is)
