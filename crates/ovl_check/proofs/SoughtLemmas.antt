@@ -1,12 +1,13 @@
 -- The doubles among directories are those by the places of moved ones alone.
 use Rattle.std.proofs.Common.{◌≡◌, inl, inr, Bool, true, false, cond, Option, Some, None, List, [], ◌∷◌, ◌++◌, refl, sym, ap, ◌∙◌, subst}
-use Rattle.std.specs.Prelude.{◌&&◌}
+use Rattle.std.specs.Prelude.{◌&&◌, ◌||◌}
+use Rattle.std.proofs.Math.Bool.{or-true}
 use Rattle.ovl_names.specs.Paths.{PathNames}
 use Rattle.ovl_board.proofs.LawsOfMembers.{In}
 use Rattle.ovl_check.specs.declared.findings.Finding.{Finding}
 use Rattle.ovl_check.specs.declared.findings.Code.TheVariants.{RedirectDouble}
 use Rattle.ovl_check.specs.Findings.{finding}
-use Rattle.ovl_check.specs.Walks.{View, is_among, double_at, places_with, moved_places, if_among, doubles_after, doubles_among}
+use Rattle.ovl_check.specs.Walks.{View, is_among, double_at, places_with, moved_places, if_sought, doubles_after, doubles_among}
 use Rattle.ovl_check.proofs.DoubleLemmas.{among-In, In-among, with-cases, with-old, with-new}
 
 -- ---- the places where moved directories go on
@@ -34,11 +35,15 @@ module _ (wanted : List PathNames) where
   abbrev Agree : List PathNames → List PathNames → Type 0
   Agree places kept = (q : PathNames) → In q wanted → (In q places → In q kept) × (In q kept → In q places)
 
-  agree-with : (places kept : List PathNames) (o : Option PathNames) → Agree places kept → Agree (places_with places o) (places_with kept (if_among wanted o))
-  agree-with places kept None agree = agree
-  agree-with places kept (Some p) agree = by (is_among wanted p) refl
+  -- a place that counts is noted, whether its directory is moved or not
+  is-sought : (moved : Bool) (p : PathNames) → In p wanted → (moved || is_among wanted p) ≡ true
+  is-sought moved p h = ap (λ b. moved || b) (In-among wanted p h) ∙ or-true moved
+
+  agree-with : (places kept : List PathNames) (moved : Bool) (o : Option PathNames) → Agree places kept → Agree (places_with places o) (places_with kept (if_sought wanted moved o))
+  agree-with places kept moved None agree = agree
+  agree-with places kept moved (Some p) agree = by (moved || is_among wanted p) refl
     where
-      by : (b : Bool) → is_among wanted p ≡ b → Agree (places_with places (Some p)) (places_with kept (cond b (Some p) None))
+      by : (b : Bool) → (moved || is_among wanted p) ≡ b → Agree (places_with places (Some p)) (places_with kept (cond b (Some p) None))
       by true e = λ q h. (
         λ there. elim (with-cases q places (Some p) there) [ inl is ↦ with-new q kept (Some p) is | inr k ↦ with-old q kept (Some p) ((agree q h).0 k) ],
         λ there. elim (with-cases q kept (Some p) there) [ inl is ↦ with-new q places (Some p) is | inr k ↦ with-old q places (Some p) ((agree q h).1 k) ],
@@ -47,7 +52,7 @@ module _ (wanted : List PathNames) where
         λ there. elim (with-cases q places (Some p) there) [
           | inl is ↦
               let same : p ≡ q = ap (λ (o : Option PathNames). elim o as (λ _. PathNames) [ Some r ↦ r | None ↦ p ]) is in
-              let bad : true ≡ false = sym (In-among wanted p (subst (λ (r : PathNames). In r wanted) (sym same) h)) ∙ e in cc
+              let bad : true ≡ false = sym (is-sought moved p (subst (λ (r : PathNames). In r wanted) (sym same) h)) ∙ e in cc
           | inr k ↦ (agree q h).0 k
         ],
         λ there. with-old q places (Some p) ((agree q h).1 there),
@@ -63,7 +68,7 @@ module _ (wanted : List PathNames) where
       by true e false f = sym (In-among kept q ((agree q h).0 (among-In places q e))) ∙ f
       by false e true f = sym e ∙ In-among places q ((agree q h).1 (among-In kept q f))
 
-  double-same : (places kept : List PathNames) → Agree places kept → (v : View) (o : Option PathNames) → (v.seen.moved ≡ true → (q : PathNames) → o ≡ Some q → In q wanted) → double_at kept v (if_among wanted o) ≡ double_at places v o
+  double-same : (places kept : List PathNames) → Agree places kept → (v : View) (o : Option PathNames) → (v.seen.moved ≡ true → (q : PathNames) → o ≡ Some q → In q wanted) → double_at kept v (if_sought wanted v.seen.moved o) ≡ double_at places v o
   double-same places kept agree v None moved = refl
   double-same places kept agree v (Some p) moved = by v.seen.moved refl
     where
@@ -74,18 +79,18 @@ module _ (wanted : List PathNames) where
       of_other true m = ap (λ c. cond (c && is_among kept p) one []) m
       of_other false m = refl
 
-      by : (m : Bool) → v.seen.moved ≡ m → double_at kept v (if_among wanted (Some p)) ≡ double_at places v (Some p)
+      by : (m : Bool) → v.seen.moved ≡ m → double_at kept v (if_sought wanted v.seen.moved (Some p)) ≡ double_at places v (Some p)
       by true m =
           let h = moved m p refl in
-          ap (λ b. double_at kept v (cond b (Some p) None)) (In-among wanted p h)
+          ap (λ b. double_at kept v (cond b (Some p) None)) (is-sought v.seen.moved p h)
           ∙ ap (λ b. cond (v.seen.moved && b) one []) (sym (among-same places kept agree p h))
-      by false m = of_other (is_among wanted p) m ∙ sym (ap (λ c. cond (c && is_among places p) one []) m)
+      by false m = of_other (v.seen.moved || is_among wanted p) m ∙ sym (ap (λ c. cond (c && is_among places p) one []) m)
 
   among-after : (places kept : List PathNames) → Agree places kept → (views : List View) → ((v : View) → In v views → v.seen.moved ≡ true → (q : PathNames) → v.seen.place ≡ Some q → In q wanted) → doubles_among wanted kept views ≡ doubles_after places views
   among-after places kept agree [] moved = refl
   among-after places kept agree (v ∷ views) moved =
       let here = double-same places kept agree v v.seen.place (moved v (inl refl)) in
-      let later = among-after (places_with places v.seen.place) (places_with kept (if_among wanted v.seen.place)) (agree-with places kept v.seen.place agree) views (λ w k. moved w (inr k)) in
+      let later = among-after (places_with places v.seen.place) (places_with kept (if_sought wanted v.seen.moved v.seen.place)) (agree-with places kept v.seen.moved v.seen.place agree) views (λ w k. moved w (inr k)) in
       λ j. here j ++ later j
 
 pub doubles-among_moved : (views : List View) → doubles_among (moved_places [] views) [] views ≡ doubles_after [] views

@@ -1,5 +1,5 @@
 -- The plain walks of the layers, and the doubles that they show.
-use Rattle.std.specs.Prelude.{ℕ, ◌+◌, Bool, ◌&&◌, Option, Some, None, List, [], ◌∷◌, ◌++◌, if◌then◌else◌, Vec}
+use Rattle.std.specs.Prelude.{ℕ, ◌+◌, Bool, ◌&&◌, ◌||◌, Option, Some, None, List, [], ◌∷◌, ◌++◌, if◌then◌else◌, Vec}
 use Rattle.std.specs.Global.{Global}
 use Rattle.std.specs.List.{list_any, flat_map}
 use Rattle.std.specs.BTreeSet.{insert_key}
@@ -51,17 +51,18 @@ moved_places places [] = places
 moved_places places (view ∷ views) =
     moved_places (if view.seen.moved then places_with places view.seen.place else places) views
 
--- a place, if it is among these
-abbrev pub if_among : List PathNames → Option PathNames → Option PathNames
-if_among wanted None = None
-if_among wanted (Some place) = if is_among wanted place then Some place else None
+-- the place of a directory, if it is moved or goes on at one of these
+abbrev pub if_sought : List PathNames → Bool → Option PathNames → Option PathNames
+if_sought wanted moved None = None
+if_sought wanted moved (Some place) = if moved || is_among wanted place then Some place else None
 
 -- the doubles among directories in their order, where no other places count than these
 abbrev pub doubles_among : List PathNames → List PathNames → List View → List Finding
 doubles_among wanted places [] = []
 doubles_among wanted places (view ∷ views) =
-    double_at places view (if_among wanted view.seen.place)
-    ++ doubles_among wanted (places_with places (if_among wanted view.seen.place)) views
+    double_at places view (if_sought wanted view.seen.moved view.seen.place)
+    ++ doubles_among wanted
+    (places_with places (if_sought wanted view.seen.moved view.seen.place)) views
 
 -- all that is found in a layer, in the order of the walk
 abbrev pub found_along : List View → List Finding

@@ -6,7 +6,7 @@ ghost use Rattle.ovl_board.specs.Parcels.{parcel_view, parcel_views};
 ghost use Rattle.ovl_check.specs.Contents.{findings_of_contents};
 ghost use Rattle.ovl_check.specs.Checks.{check_seen};
 ghost use Rattle.ovl_check.specs.CheckViews.{check_view};
-ghost use Rattle.ovl_check.specs.Walks.{AreLayerWalks, double_at, places_with, moved_places, if_among, doubles_after, found_along, all_left};
+ghost use Rattle.ovl_check.specs.Walks.{AreLayerWalks, double_at, places_with, moved_places, if_sought, doubles_after, found_along, all_left};
 
 use crate::findings::{Code, Finding};
 use crate::next_places::LentPlace;
@@ -219,10 +219,11 @@ fn note_place<'p, 'a>(
 ) -> Result<(), AllocError>
     ensures found { OnOk result (findings.new.items ≡ findings.old.items
         ++ double_at places.old.keys (parcel_view check_seen parcel.now)
-        (if_among moved.now.keys (check_seen parcel.now.out).place)) }
+        (if_sought moved.now.keys parcel.now.out.moved (check_seen parcel.now.out).place)) }
     ensures noted { OnOk result
         (places.new.keys
-        ≡ places_with places.old.keys (if_among moved.now.keys (check_seen parcel.now.out).place)) }
+        ≡ places_with places.old.keys
+        (if_sought moved.now.keys parcel.now.out.moved (check_seen parcel.now.out).place)) }
 {
     let Some(place) = place_among(parcel, moved) else {
         return Ok(());
@@ -238,18 +239,20 @@ fn note_place<'p, 'a>(
     Ok(())
 }
 
-// Where a directory goes on, if that is among these places.
+// Where a directory goes on, if it is moved or goes on at one of these places.
 fn place_among<'p, 'a>(
     parcel: &'p Parcel<CheckOut<'a>>,
     places: &BTreeSet<LentPlace<'p, 'a>>,
 ) -> Option<LentPlace<'p, 'a>>
-    ensures { result ≡ if_among places.now.keys (check_seen parcel.now.out).place }
+    ensures { result
+        ≡ if_sought places.now.keys parcel.now.out.moved (check_seen parcel.now.out).place }
 {
     let Some(place) = &parcel.out.place else {
         return None;
     };
     let place = LentPlace { place };
-    if !places.contains(&place) {
+    // Sought among its own, the place of a moved one is compared with itself.
+    if !parcel.out.moved && !places.contains(&place) {
         return None;
     }
     Some(place)
