@@ -34,6 +34,11 @@ def named_alike(count: int) -> Layer:
     return [entry(f"/f{n:03d}", "file", size=len(CONTENTS), blob=NAME) for n in range(count)]
 
 
+def of_no_blob(count: int) -> Layer:
+    """Files whose contents are missing."""
+    return [entry("/d")] + [entry(f"/d/f{n:05d}", "file", size=1, blob=NAME) for n in range(count)]
+
+
 def directories(count: int) -> Layer:
     return [entry(f"/d{n:05d}") for n in range(count)]
 
@@ -78,7 +83,8 @@ class Bound:
 
 
 BOUNDS = {
-    "a layer in which nothing is at fault": Bound("fsck", (plain(4_000),), 8.0),
+    "a layer in which nothing is at fault": Bound("fsck", (plain(4_000),), 7.6),
+    "files whose contents are missing": Bound("fsck", (of_no_blob(4_000),), 14.2, status=1),
     "files over the same files": Bound("vacuum", (plain(4_000, 1), plain(4_000)), 36.0),
     "one content of many names": Bound("fsck", (named_alike(200),), 4.8, True),
     "a directory of directories": Bound("show", (directories(2_000), directories(2_000)), 23.6),
