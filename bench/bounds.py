@@ -3,7 +3,7 @@
 
 Python 3.11, standard library, and valgrind; without valgrind it says so and ends with 0. No contract says what anything
 costs: a body that asks every code of every entry, makes a view anew for each name, digests a blob again for each name that
-it has, or halves a list so that one half is all of it, gives the same bytes. So the instructions of one run of each stack
+it has, halves a list so that one half is all of it, or compares paths byte by byte, gives the same bytes. So the instructions of one run of each stack
 are counted, and may be no more than its bound, at most a few tenths over what it took as it was bounded. The same program
 takes the same number of instructions, but for some hundreds that come of the environment.
 
@@ -34,6 +34,11 @@ def named_alike(count: int) -> Layer:
     return [entry(f"/f{n:03d}", "file", size=len(CONTENTS), blob=NAME) for n in range(count)]
 
 
+def of_no_blob(count: int) -> Layer:
+    """Files whose contents are missing."""
+    return [entry("/d")] + [entry(f"/d/f{n:05d}", "file", size=1, blob=NAME) for n in range(count)]
+
+
 def directories(count: int) -> Layer:
     return [entry(f"/d{n:05d}") for n in range(count)]
 
@@ -61,24 +66,32 @@ def apart(layers: int, count: int) -> tuple[Layer, ...]:
     return tuple([entry(f"/f{n:04d}-{layer:02d}", "file", size=0) for n in range(count)] for layer in range(layers))
 
 
+def alike(count: int, names: int) -> Layer:
+    """Directories that were moved from places of many names, which differ in the first alone."""
+    return [entry(f"/m{n:04d}", attrs={REDIRECT: f"/d{n:04d}" + "/n" * names}) for n in range(count)]
+
+
 @dataclass(frozen=True)
 class Bound:
-    """A command on layers, the topmost first, whether it reads the blob, and the most millions of instructions."""
+    """A command on layers, the topmost first, whether it reads the blob, the most millions of instructions, and its status."""
 
     command: str
     layers: tuple[Layer, ...]
     millions: float
     has_blob: bool = False
+    status: int = 0
 
 
 BOUNDS = {
-    "a layer in which nothing is at fault": Bound("fsck", (plain(4_000),), 8.0),
+    "a layer in which nothing is at fault": Bound("fsck", (plain(4_000),), 7.6),
+    "files whose contents are missing": Bound("fsck", (of_no_blob(4_000),), 14.2, status=1),
     "files over the same files": Bound("vacuum", (plain(4_000, 1), plain(4_000)), 36.0),
     "one content of many names": Bound("fsck", (named_alike(200),), 4.8, True),
     "a directory of directories": Bound("show", (directories(2_000), directories(2_000)), 23.6),
     "moved directories": Bound("deref", (moved(500), directories(500)), 31.0),
     "metacopy files in a deep directory": Bound("deref", copied(20, 400), 15.2, True),
     "many layers of other names": Bound("show", apart(128, 20), 15.9),
+    "places of many names that differ in the first": Bound("fsck", (alike(100, 1_000), []), 49.0, status=1),
 }
 
 
@@ -93,7 +106,7 @@ def counted(program: str, bound: Bound, folder: str) -> float:
     words = [program, bound.command, "--workers", "1"]
     words += ["--blobs", blobs] if bound.command != "show" else []
     words += ["--out", new] if bound.command not in ("show", "fsck") else []
-    return instructions(words + write(folder, bound.layers), (0,)) / 1e6
+    return instructions(words + write(folder, bound.layers), (bound.status,)) / 1e6
 
 
 def main() -> None:

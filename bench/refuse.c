@@ -1,7 +1,8 @@
 /* Stands before the C library (LD_PRELOAD) and refuses some of what a program asks of it. It needs no header.
 
    REFUSE        what is refused: memory, thread (its start), open, copy (of a descriptor), stat, list, empty, read or write;
-                 or yield (of the processor), which is counted alone
+                 or what is counted alone: yield (of the processor), starter (each thread that starts another),
+                 or held (the most bytes of memory that are held at once)
    REFUSE_AT     the number of the first that is refused, counted from 1; 0, or nothing: none is
    REFUSE_ON     given: all after it are refused too
    REFUSE_ERROR  the number of the error; 0: the call moves no byte
@@ -13,23 +14,28 @@
    A program that takes over a minute is killed. */
 typedef unsigned long word;
 extern void *__libc_malloc(word), *__libc_calloc(word, word), *__libc_realloc(void *, word), *__libc_memalign(word, word);
+extern void __libc_free(void *);
+extern word malloc_usable_size(void *);
 extern int *__errno_location(void);
 extern unsigned alarm(unsigned);
 extern long syscall(long, ...);
 extern void *dlsym(void *, const char *);
 extern char **environ;
 
-enum { READ = 0, WRITE = 1, OPEN = 2, CLOSE = 3, YIELD = 24, CONTROL = 72, EMPTY = 77, LIST = 217, EXIT = 231, OPENAT = 257, STAT = 332 };
-enum { NO_MEMORY = 12, TRY_AGAIN = 11, LONGEST = 60, FILES = 1024, COPY = 1030 };
+enum { READ = 0, WRITE = 1, OPEN = 2, CLOSE = 3, YIELD = 24, CONTROL = 72, EMPTY = 77, THREAD = 186, LIST = 217, EXIT = 231, OPENAT = 257, STAT = 332 };
+enum { NO_MEMORY = 12, TRY_AGAIN = 11, LONGEST = 60, FILES = 1024, STARTERS = 1024, COPY = 1030 };
 /* For writing, made where it isn't there, emptied where it is. */
 enum { ANEW = 01 | 0100 | 01000 };
 
 static const char *what, *path, *told;
 static word at, most, met, refused;
 static long error;
-static int on, ready;
+static int on, ready, weighs;
+static word held;
 /* Of each open file, whether its path ends as REFUSE_PATH does. */
 static char meant[FILES];
+/* The numbers of the threads that started another. */
+static long starters[STARTERS];
 
 static const char *value_of(const char *name) {
     for (char **entry = environ; entry && *entry; entry++) {
@@ -87,10 +93,31 @@ static long refusal(void) {
     return error ? -1 : 0;
 }
 
-void *malloc(word size) { return refuses_memory() ? 0 : __libc_malloc(size); }
-void *calloc(word count, word size) { return refuses_memory() ? 0 : __libc_calloc(count, size); }
-void *realloc(void *old, word size) { return refuses_memory() ? 0 : __libc_realloc(old, size); }
-void *aligned_alloc(word to, word size) { return refuses_memory() ? 0 : __libc_memalign(to, size); }
+/* Counts the bytes of a block as held, and gives it. */
+static void *weighed(void *block) {
+    if (!weighs || !block) return block;
+    word now = __atomic_add_fetch(&held, malloc_usable_size(block), __ATOMIC_SEQ_CST);
+    word peak = __atomic_load_n(&met, __ATOMIC_SEQ_CST);
+    while (now > peak && !__atomic_compare_exchange_n(&met, &peak, now, 0, __ATOMIC_SEQ_CST, __ATOMIC_SEQ_CST)) {}
+    return block;
+}
+
+static void let_go(void *block) {
+    if (weighs && block) __atomic_sub_fetch(&held, malloc_usable_size(block), __ATOMIC_SEQ_CST);
+}
+
+void *malloc(word size) { return refuses_memory() ? 0 : weighed(__libc_malloc(size)); }
+void *calloc(word count, word size) { return refuses_memory() ? 0 : weighed(__libc_calloc(count, size)); }
+void *aligned_alloc(word to, word size) { return refuses_memory() ? 0 : weighed(__libc_memalign(to, size)); }
+void *realloc(void *old, word size) {
+    if (refuses_memory()) return 0;
+    let_go(old);
+    return weighed(__libc_realloc(old, size));
+}
+void free(void *block) {
+    let_go(block);
+    __libc_free(block);
+}
 int posix_memalign(void **made, word to, word size) {
     void *room = aligned_alloc(to, size);
     if (!room) return NO_MEMORY;
@@ -98,8 +125,21 @@ int posix_memalign(void **made, word to, word size) {
     return 0;
 }
 
+static void count_starter(void) {
+    long own = syscall(THREAD);
+    for (int place = 0; what && is(what, "starter") && place < STARTERS; place++) {
+        long none = 0;
+        if (__atomic_load_n(&starters[place], __ATOMIC_SEQ_CST) == own) return;
+        if (__atomic_compare_exchange_n(&starters[place], &none, own, 0, __ATOMIC_SEQ_CST, __ATOMIC_SEQ_CST)) {
+            refuses("starter");
+            return;
+        }
+    }
+}
+
 int pthread_create(word *thread, const void *how, void *(*body)(void *), void *given) {
     if (refuses("thread")) return TRY_AGAIN;
+    count_starter();
     int (*real)(word *, const void *, void *(*)(void *), void *) = dlsym((void *)-1L, "pthread_create");
     return real(thread, how, body, given);
 }
@@ -151,6 +191,7 @@ long write(int file, const void *bytes, word size) {
 
 __attribute__((constructor)) static void begin(void) {
     what = value_of("REFUSE");
+    weighs = what && is(what, "held");
     at = number_of("REFUSE_AT");
     on = value_of("REFUSE_ON") != 0;
     error = (long)number_of("REFUSE_ERROR");

@@ -206,6 +206,11 @@ for ((i = 0; i < 24; i++)); do
     printf -v name '%064x' "$i"
     truncate -s 200000000 "flood/$name"
 done
+mkdir marked
+printf '\xef\xbb\xbfabc' > marked/file
+marked=$(sha256sum < marked/file)
+mv marked/file "marked/${marked%% *}"
+printf '{"entries":[%s,%s],"overlay-layer":2}\n' "$root" "$(sed "s/$abc/${marked%% *}/; s/\"size\":3/\"size\":6/" <<< "$kept")" > marked.json
 mkdir crowd
 for ((i = 0; i < 1100; i++)); do
     printf -v name '%064x' "$i"
@@ -302,6 +307,9 @@ prints 1 'fault blob-size 0 /k\nfault blob-digest 0 /k\nfaults 2 notes 0\n' fsck
 prints 1 'fault blob-size 0 /k\nfault blob-digest 0 /k\nfaults 2 notes 0\n' fsck --blobs hollow k.json
 prints 0 'faults 0 notes 0\n' fsck --blobs most root.json
 prints 0 'faults 0 notes 0\n' fsck --blobs crowd root.json
+# (Contents that begin as a byte order mark does are told whole, held and in parts.)
+prints 0 'faults 0 notes 0\n' fsck --blobs marked marked.json
+prints 0 'faults 0 notes 0\n' fsck --any-size --blobs marked marked.json
 
 # Files and folders.
 refuses 3 'cannot read missing.json' show missing.json
