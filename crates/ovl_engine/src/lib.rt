@@ -26,5 +26,5 @@ pub use manifests::Manifests;
 pub use merges_down::{merge_down, merge_down_told, question_down};
 pub use ovl_check::{Blob, Code, Content, Finding};
 pub use ovl_commands::{Answer, Command};
-pub use ovl_reports::{EmitFault, ShowWork, emit, finish_show, report_of, report_of_walk};
+pub use ovl_reports::{EmitFault, ShowWork, emit};
 pub use questions::{Question, answer_told, command_over, question_of};

@@ -1,38 +1,17 @@
-//! The work of `show`, walked by one thread, and commands by one worker and by two.
+//! Commands by one worker and by two.
 
-use crate::board::root_of;
-use crate::samples::{MOVED, ONE, OPAQUE, OVER, ROOT, Sample, TWICE, WRONG, stack_of};
-use ovl_board::plain_walk;
+use crate::samples::{MOVED, ONE, OPAQUE, OVER, ROOT, Sample, TWICE, WRONG};
 use ovl_check::{Blob, Content};
 use ovl_engine::{
-    Answer, Command, CommandFault, Contents, EngineFault, ShowWork, command, command_over,
-    finish_show, merge_down, named_blobs, question_down, report_of, report_of_walk,
+    Answer, Command, CommandFault, Contents, EngineFault, command, command_over, merge_down,
+    named_blobs, question_down,
 };
 use ovl_inode::Digest;
-use ovl_lookup::Stack;
 use ovl_pool::OpenGate;
 use std::alloc::{AllocError, Global};
 use std::sync::Wait;
 use std::test::Fail;
 use std::thread::Threads;
-
-// By each call that lists the merged tree.
-fn is_listed(alloc: Global, stack: &Stack) -> Result<bool, AllocError> {
-    let work = ShowWork::new(stack);
-    let parcels = plain_walk(alloc, &work, root_of(alloc, 0))?;
-    let report = report_of_walk(alloc, &work, &parcels)?;
-    let looks = finish_show(alloc, &work, parcels)?;
-    let same = report_of(alloc, &looks)?;
-    Ok(report == same && report.ends_with(b"\nentries 6\n"))
-}
-
-#[test]
-fn a_merged_tree_is_listed(rt: HostRuntime) -> Result<(), Fail> {
-    let alloc = rt.alloc();
-    let stack = again!(stack_of(alloc, MOVED), AllocError)?;
-    assert!(rt; again!(is_listed(alloc, &stack), AllocError)?);
-    Ok(())
-}
 
 fn manifests_of(alloc: Global, lines: &str) -> Result<Vec<Vec<u8>>, AllocError> {
     let mut manifests = Vec::new(alloc);

@@ -1,7 +1,6 @@
 pub mod DirectoryLemmas
 pub mod EmitLemmas
 pub mod EntryCounts
-pub mod GatheringSteps
 pub mod LayerReportSteps
 mod LayerRows
 pub mod LeafSteps

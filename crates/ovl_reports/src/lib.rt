@@ -11,8 +11,8 @@ mod works;
 
 pub use emits::{EmitFault, emit};
 pub use layer_reports::{entry_count, layer_report_of};
-pub use listings::{report_by, report_of_walk};
-pub use reports::{push_name, push_number, push_number_word, push_word, report_of};
+pub use listings::report_by;
+pub use reports::{push_name, push_number, push_number_word, push_word};
 pub use shares::{joined, share_of, side_by_side};
 pub use vacuum_reports::vacuum_report_of;
-pub use works::{ShowWork, finish_show};
+pub use works::ShowWork;

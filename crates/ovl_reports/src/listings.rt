@@ -5,14 +5,13 @@ ghost use Rattle.ovl_names.specs.Escapes.{escaped};
 ghost use Rattle.ovl_lookup.specs.Stacks.{StackView};
 ghost use Rattle.ovl_board.specs.Parcels.{parcel_views};
 ghost use Rattle.ovl_reports.specs.declared.listings.Open.{Open};
-ghost use Rattle.ovl_reports.specs.Directories.{ShowParcel, IsShowWalk};
+ghost use Rattle.ovl_reports.specs.Directories.{ShowParcel};
 ghost use Rattle.ovl_reports.specs.Listings.{IsShowReport, IsTreeOf, StartsAtDirectory, TellsLeaves, merged_tree};
 ghost use Rattle.ovl_reports.specs.Reports.{line_of, look_line, show_line};
 ghost use Rattle.ovl_reports.specs.Shares.{AreJoined};
 
 use crate::reports::{push_attributes, push_contents, push_count, push_name, push_status};
 use crate::shares::{joined, share_of, side_by_side};
-use crate::works::ShowWork;
 use ovl_board::Parcel;
 use ovl_inode::Inode;
 use ovl_lookup::Look;
@@ -23,22 +22,6 @@ use std::thread::{Threads, map_indices};
 // The room that is made for each line: most take less. A text that has to grow may lie in memory
 // twice.
 const LINE_ROOM: usize = 160;
-
-/// The report of `show` of the whole merged tree, with no list of its paths: see
-/// [`crate::report_of`]. The parcels are the plain walk of the work from `/` of space 0. Fails only
-/// when out of memory.
-pub fn report_of_walk(
-    alloc: Global,
-    work: &ShowWork<'_>,
-    parcels: &[Parcel<Vec<(Name, Look)>>],
-) -> Result<Vec<u8>, AllocError>
-    requires { IsShowWalk work.now (parcel_views (λ looks. looks.items) parcels.now) }
-    ensures { IfOk result (λ report. IsShowReport work.now report.items) }
-{
-    let root = work.root_look(alloc)?;
-    let report = report_of_tree(alloc, &root, parcels)?;
-    Ok(report)
-}
 
 // The report by what is shown at `/` and the parcels.
 fn report_of_tree(

@@ -2,30 +2,12 @@ ghost use Rattle.std.specs.Prelude.{◌≡◌, ◌+◌, ◌%◌, ◌++◌, IfOk,
 ghost use Rattle.std.specs.List.{flat_map};
 ghost use Rattle.ovl_names.specs.Escapes.{shown_path, escaped};
 ghost use Rattle.ovl_inode.specs.Kinds.{kind_word};
-ghost use Rattle.ovl_reports.specs.Reports.{octal, size_word, blob_word, device_word, what_word, attribute_word, time_word, spaced, inode_line, show_report};
+ghost use Rattle.ovl_reports.specs.Reports.{octal, size_word, blob_word, device_word, what_word, attribute_word, time_word, spaced};
 ghost use Rattle.ovl_reports.specs.Reports as reports;
 
 use ovl_inode::{Attrs, Digest, Inode, Kind};
-use ovl_lookup::Look;
 use ovl_names::{Path, push_escaped};
 use std::alloc::{AllocError, Global};
-
-/// The report of `show`: a line for each path of the merged tree, in their order, and their number.
-/// Fails only when out of memory.
-pub fn report_of(alloc: Global, looks: &[(Path, Look)]) -> Result<Vec<u8>, AllocError>
-    ensures { IfOk result (λ report. report.items ≡ show_report looks.now) }
-{
-    let mut report = String::new(alloc);
-    for (path, look) in looks {
-        match look {
-            Look::Shown(inode) => push_line(alloc, &mut report, path, inode, false)?,
-            Look::Broken(inode) => push_line(alloc, &mut report, path, inode, true)?,
-            Look::Nothing => {}
-        }
-    }
-    push_count(&mut report, looks.len() as u64)?;
-    Ok(report.into_bytes())
-}
 
 /// Appends the last line, by the number of paths.
 pub(crate) fn push_count(report: &mut String, entries: u64) -> Result<(), AllocError>
@@ -35,26 +17,6 @@ pub(crate) fn push_count(report: &mut String, entries: u64) -> Result<(), AllocE
 {
     report.push_str("entries ")?;
     push_number(report, entries)?;
-    report.push_str("\n")
-}
-
-// Appends the line of a path with an inode, `broken` where that is a metacopy file without its
-// data.
-fn push_line(
-    alloc: Global,
-    report: &mut String,
-    path: &Path,
-    inode: &Inode,
-    broken: bool,
-) -> Result<(), AllocError>
-    ensures { OnOk result
-        (string_bytes report.new
-        ≡ string_bytes report.old ++ inode_line broken path.now inode.now) }
-{
-    push_status(report, inode)?;
-    push_contents(alloc, report, &inode.kind, broken)?;
-    push_path(alloc, report, path)?;
-    push_attributes(alloc, report, &inode.attrs)?;
     report.push_str("\n")
 }
 

@@ -1,20 +1,14 @@
-ghost use Rattle.std.specs.Prelude.{◌≡◌, ◌+◌, ◌<◌, ◌≤◌, ◌++◌, ◌∷◌, [], List, IfOk, OnOk, All, length};
-ghost use Rattle.std.specs.Vec.Iter.{into_iter_items};
-ghost use Rattle.ovl_names.specs.Paths.{child_path};
+ghost use Rattle.std.specs.Prelude.{◌≡◌, ◌<◌, [], IfOk, All, length};
 ghost use Rattle.ovl_layer.specs.Layers.{IsLayer};
-ghost use Rattle.ovl_lookup.specs.Merged.{IsMerged};
 ghost use Rattle.ovl_lookup.specs.Merged as merged;
-ghost use Rattle.ovl_board.specs.Parcels.{parcel_views};
-ghost use Rattle.ovl_reports.specs.declared.works.OpenDirectory.{OpenDirectory};
-ghost use Rattle.ovl_reports.specs.Directories.{HasAllNames, ShowParcel, IsShowWalk, looks_in};
+ghost use Rattle.ovl_reports.specs.Directories.{HasAllNames, looks_in};
 ghost use Rattle.ovl_reports.specs.Directories as directories;
 
-use ovl_board::{Parcel, Piece, Work};
+use ovl_board::{Piece, Work};
 use ovl_lookup::{DirView, Look, Stack};
 use ovl_names::{DEPTH_LIMIT, Name, Path};
 use std::alloc::{AllocError, Global};
 use std::marker::Model;
-use std::vec::IntoIter;
 
 /// The merged tree of a stack as work, whose pieces are its directories, from `/` of space 0. The
 /// output of a directory is each name in it, in order, with what is shown there; its kids are those
@@ -117,83 +111,4 @@ fn directories_in(
         }
     }
     Ok(kids)
-}
-
-/// The whole merged tree in path order: each path at which something is shown once, with what is
-/// shown there. The parcels are the plain walk of the work from `/` of space 0. Fails only when out
-/// of memory.
-pub fn finish_show(
-    alloc: Global,
-    work: &ShowWork<'_>,
-    parcels: Vec<Parcel<Vec<(Name, Look)>>>,
-) -> Result<Vec<(Path, Look)>, AllocError>
-    requires { IsShowWalk work.now (parcel_views (λ looks. looks.items) parcels.items) }
-    ensures { IfOk result (λ looks. IsMerged work.now looks.items) }
-{
-    let mut looks = looks_at_root(alloc, work)?;
-    let mut rest = parcels.into_iter();
-    let mut open = Vec::new(alloc);
-    open_next(&mut open, &mut rest)?;
-    while let Some(mut directory) = open.pop() {
-        let Some((name, look)) = directory.entries.next() else {
-            continue;
-        };
-        let path = entry_path(alloc, &directory.path, name)?;
-        let is_directory = look.is_shown_directory();
-        looks.push((path, look))?;
-        open.push(directory)?;
-        if is_directory {
-            open_next(&mut open, &mut rest)?;
-        }
-    }
-    Ok(looks)
-}
-
-// The path of the entry of this name in a directory.
-fn entry_path(alloc: Global, directory: &Path, name: Name) -> Result<Path, AllocError>
-    ensures { IfOk result (λ path. path ≡ child_path directory.now name) }
-{
-    directory.child(alloc, &name)
-}
-
-// What is shown at `/`, as a list.
-fn looks_at_root(alloc: Global, work: &ShowWork<'_>) -> Result<Vec<(Path, Look)>, AllocError>
-    ensures root { IfOk result (λ looks. looks.items ≡ ([], merged.look work.now []) ∷ []) }
-    ensures some { 0 < length work.now.layers }
-    ensures each { All IsLayer work.now.layers }
-{
-    let mut looks = Vec::new(alloc);
-    let look = work.root_look(alloc)?;
-    looks.push((Path::root(alloc), look))?;
-    Ok(looks)
-}
-
-// A directory whose entries are being listed: its path, and the entries that are left.
-#[derive(Drop)]
-struct OpenDirectory {
-    path: Path,
-    entries: IntoIter<(Name, Look)>,
-}
-
-// Opens the directory of the next parcel.
-fn open_next(
-    opened: &mut Vec<OpenDirectory>,
-    parcels: &mut IntoIter<Parcel<Vec<(Name, Look)>>>,
-) -> Result<(), AllocError>
-    ensures next { OnOk result
-        ((parcel : ShowParcel) (others : List ShowParcel)
-        → into_iter_items parcels.old ≡ parcel ∷ others
-        → (into_iter_items parcels.new ≡ others)
-        × ((last : OpenDirectory) × ((opened.new.items ≡ opened.old.items ++ last ∷ [])
-        × (last.path ≡ parcel.piece.dir) × (into_iter_items last.entries ≡ parcel.out.items)))) }
-    ensures few { OnOk result (length opened.new.items ≤ length opened.old.items + 1) }
-{
-    let Some(Parcel { piece, out, .. }) = parcels.next() else {
-        return Ok(());
-    };
-    opened.push(OpenDirectory {
-        path: piece.dir,
-        entries: out.into_iter(),
-    })?;
-    Ok(())
 }
