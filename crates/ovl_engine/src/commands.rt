@@ -5,13 +5,15 @@ ghost use Rattle.ovl_lookup.specs.Sound.{IsSoundStack};
 ghost use Rattle.ovl_check.specs.declared.findings.Finding.{Finding};
 ghost use Rattle.ovl_check.specs.Blobs.{blob_views, are_in_order};
 ghost use Rattle.ovl_check.specs.Findings.{findings};
-ghost use Rattle.ovl_engine.specs.FsckReports.{is_clean as clean_test};
+ghost use Rattle.ovl_engine.specs.FsckReports as fsck_reports;
 ghost use Rattle.ovl_commands.specs.declared.requests.Command.TheVariants.{Show, Fsck};
 ghost use Rattle.ovl_engine.specs.declared.faults.EngineFault.TheVariants.{Workers, Layers, DataLayers};
 ghost use Rattle.ovl_engine.specs.Requests.{request_of};
-ghost use Rattle.ovl_engine.specs.Refusals.{is_outside as outside_test, blob_limit, blob_bytes, blob_refusal};
+ghost use Rattle.ovl_engine.specs.Refusals.{blob_limit, blob_bytes, blob_refusal};
+ghost use Rattle.ovl_engine.specs.Refusals as refusals;
 ghost use Rattle.ovl_engine.specs.Outcomes.{IsAccepted, IsRefusal, IsOutcome, IsRun, IsFailedWalk, MayRefuse, MayRefuseCheck, MayRefuseOwn};
-ghost use Rattle.ovl_commands.specs.Commands.{checks as checks_test, makes_layers, stays_sound, stands_alone, wants_lower as lower_test};
+ghost use Rattle.ovl_commands.specs.Commands.{makes_layers, stays_sound, stands_alone};
+ghost use Rattle.ovl_commands.specs.Commands as commands;
 ghost use Rattle.ovl_engine.specs.Kept.{KeepsTree, KeepsTreeOf, KeepsSoundness, HasSoundStack, IsQuiet, IsQuietOf, IsRequestOf, after};
 
 use crate::checks::findings_of;
@@ -75,13 +77,13 @@ pub fn command<G: Gate + Sync, R: Threads + Wait + Sync, M: Manifests + Drop>(
     ensures quiet { IfOk result (λ answer. stands_alone what ≡ true
         → let request = request_of what
         (M.held manifests) bottom blobs.now workers in IsQuiet request (after request answer)) }
-    ensures workers { (result ≡ Err Workers) ↔ (outside_test worker_limit workers ≡ true) }
+    ensures workers { (result ≡ Err Workers) ↔ (refusals.is_outside worker_limit workers ≡ true) }
     ensures layers { (result ≡ Err Layers)
-        ↔ ((outside_test worker_limit workers ≡ false)
-        × (outside_test layer_limit (length (M.held manifests)) ≡ true)) }
+        ↔ ((refusals.is_outside worker_limit workers ≡ false)
+        × (refusals.is_outside layer_limit (length (M.held manifests)) ≡ true)) }
     ensures data_layers { (result ≡ Err DataLayers)
-        ↔ ((outside_test worker_limit workers ≡ false)
-        × (outside_test layer_limit (length (M.held manifests)) ≡ false)
+        ↔ ((refusals.is_outside worker_limit workers ≡ false)
+        × (refusals.is_outside layer_limit (length (M.held manifests)) ≡ false)
         × (nat_le (length (M.held manifests)) bottom ≡ true)) }
 {
     let stack = stack_for(rt, alloc, what, manifests, bottom, blobs, workers)?;
@@ -111,16 +113,17 @@ pub(crate) fn stack_for<R: Threads + Sync, M: Manifests + Drop>(
         (λ stack. IsRequestOf stack (request_of what (M.held manifests) bottom blobs.now workers)) }
     ensures number { OnOk result ((0 < workers) × (workers ≤ worker_limit)) }
     ensures ascend { OnOk result (are_in_order (blob_views blobs.now) ≡ true) }
-    ensures several { IfOk result (λ stack. lower_test what ≡ true → 1 < length stack.layers) }
+    ensures several { IfOk result
+        (λ stack. commands.wants_lower what ≡ true → 1 < length stack.layers) }
     ensures refused { IfErr result
         (IsRefusal (request_of what (M.held manifests) bottom blobs.now workers)) }
-    ensures workers { (result ≡ Err Workers) ↔ (outside_test worker_limit workers ≡ true) }
+    ensures workers { (result ≡ Err Workers) ↔ (refusals.is_outside worker_limit workers ≡ true) }
     ensures layers { (result ≡ Err Layers)
-        ↔ ((outside_test worker_limit workers ≡ false)
-        × (outside_test layer_limit (length (M.held manifests)) ≡ true)) }
+        ↔ ((refusals.is_outside worker_limit workers ≡ false)
+        × (refusals.is_outside layer_limit (length (M.held manifests)) ≡ true)) }
     ensures data_layers { (result ≡ Err DataLayers)
-        ↔ ((outside_test worker_limit workers ≡ false)
-        × (outside_test layer_limit (length (M.held manifests)) ≡ false)
+        ↔ ((refusals.is_outside worker_limit workers ≡ false)
+        × (refusals.is_outside layer_limit (length (M.held manifests)) ≡ false)
         × (nat_le (length (M.held manifests)) bottom ≡ true)) }
 {
     if is_outside(WORKER_LIMIT, workers) {
@@ -151,7 +154,7 @@ fn answer_of<G: Gate + Sync, R: Threads + Wait + Sync>(
 ) -> Result<Answer, EngineFault>
     requires number { (0 < team.now.workers) × (team.now.workers ≤ worker_limit) }
     requires ascend { are_in_order (blob_views blobs.now) ≡ true }
-    requires several { lower_test what ≡ true → 1 < length stack.layers }
+    requires several { commands.wants_lower what ≡ true → 1 < length stack.layers }
     ensures outcome { IsRun what stack (findings (blob_views blobs.now) stack)
         (MayRefuse what stack (blob_views blobs.now) (G.may_refuse team.now.gate.now)) result }
     ensures keeps { IfOk result
@@ -174,12 +177,12 @@ fn found_in<G: Gate + Sync, R: Threads + Wait + Sync>(
     requires number { (0 < team.now.workers) × (team.now.workers ≤ worker_limit) }
     requires ascend { are_in_order (blob_views blobs.now) ≡ true }
     ensures found { IfOk result
-        (λ found. checks_test what ≡ true
+        (λ found. commands.checks what ≡ true
         → found.items ≡ findings (blob_views blobs.now) stack.now) }
     ensures sound { IfOk result
-        (λ found. checks_test what ≡ true → clean_test found.items ≡ true
+        (λ found. commands.checks what ≡ true → fsck_reports.is_clean found.items ≡ true
         → IsSoundStack stack.now) }
-    ensures fault { IfErr result (λ fault. (checks_test what ≡ true)
+    ensures fault { IfErr result (λ fault. (commands.checks what ≡ true)
         × IsFailedWalk
         (MayRefuseCheck stack.now (blob_views blobs.now) (G.may_refuse team.now.gate.now)) fault) }
 {
@@ -198,9 +201,10 @@ pub(crate) fn answer<G: Gate + Sync, R: Threads + Wait + Sync>(
     found: Vec<Finding>,
 ) -> Result<Answer, EngineFault>
     requires number { (0 < team.now.workers) × (team.now.workers ≤ worker_limit) }
-    requires several { lower_test what ≡ true → 1 < length stack.layers }
-    requires sound { checks_test what ≡ true → clean_test found.items ≡ true → IsSoundStack stack }
-    ensures outcome { (all : List Finding) → (checks_test what ≡ true → found.items ≡ all)
+    requires several { commands.wants_lower what ≡ true → 1 < length stack.layers }
+    requires sound { commands.checks what ≡ true → fsck_reports.is_clean found.items ≡ true
+        → IsSoundStack stack }
+    ensures outcome { (all : List Finding) → (commands.checks what ≡ true → found.items ≡ all)
         → IsRun what stack all (MayRefuseOwn what stack (G.may_refuse team.now.gate.now)) result }
     ensures keeps { IfOk result
         (λ answer. makes_layers what ≡ true → KeepsTreeOf what stack answer) }
@@ -220,7 +224,7 @@ pub(crate) fn answer<G: Gate + Sync, R: Threads + Wait + Sync>(
 
 /// Whether a command checks the layers with the contents of their files.
 pub(crate) fn checks(what: Command) -> bool
-    ensures { result ≡ checks_test what }
+    ensures { result ≡ commands.checks what }
 {
     match what {
         Command::Show => false,
@@ -231,14 +235,14 @@ pub(crate) fn checks(what: Command) -> bool
 
 // Whether a number is none, or over a limit.
 fn is_outside(limit: usize, number: usize) -> bool
-    ensures { result ≡ outside_test limit number }
+    ensures { result ≡ refusals.is_outside limit number }
 {
     number == 0 || number > limit
 }
 
 // Whether a command wants a layer under the topmost.
 fn wants_lower(what: Command) -> bool
-    ensures { result ≡ lower_test what }
+    ensures { result ≡ commands.wants_lower what }
 {
     match what {
         Command::Show | Command::Fsck | Command::Vacuum | Command::Deref | Command::Flatten =>

@@ -1,5 +1,4 @@
-ghost use Rattle.std.specs.Prelude.{◌≡◌, ◌<◌, ◌≤◌, true, List, IfOk, IfErr, OnOk};
-ghost use Rattle.ovl_layer.specs.Layers.{IsLayer};
+ghost use Rattle.std.specs.Prelude.{◌≡◌, ◌<◌, ◌≤◌, true, List, IfOk, IfErr};
 ghost use Rattle.ovl_lookup.specs.Sound.{IsSoundStack};
 ghost use Rattle.ovl_lookup.specs.Words.{top_layer, lower_layers};
 ghost use Rattle.ovl_board.specs.Machine.{worker_limit};
@@ -9,11 +8,10 @@ ghost use Rattle.ovl_deref.specs.Limits.{PassesLimit};
 ghost use Rattle.ovl_commands.specs.declared.requests.Command.TheVariants.{Deref};
 ghost use Rattle.ovl_engine.specs.FsckReports.{is_clean};
 ghost use Rattle.ovl_engine.specs.Outcomes.{IsFailure, IsRun, MayRefuseOwn};
-ghost use Rattle.ovl_reports.specs.LayerReports.{layer_report};
 ghost use Rattle.ovl_engine.specs.Kept.{KeepsTreeOf, KeepsSoundness};
 
 use crate::faults::EngineFault;
-use crate::rewrites::{expect_clean, rewritten};
+use crate::rewrites::{answer_telling, expect_clean};
 use crate::stacks::let_go;
 use crate::teams::Team;
 use ovl_check::Finding;
@@ -23,8 +21,6 @@ use ovl_deref::{DerefWork, finish_deref};
 use ovl_layer::Layer;
 use ovl_lookup::Stack;
 use ovl_pool::Gate;
-use ovl_reports::layer_report_of;
-use std::alloc::AllocError;
 use std::sync::Wait;
 use std::thread::Threads;
 
@@ -48,12 +44,7 @@ pub(crate) fn deref<G: Gate + Sync, R: Threads + Wait + Sync>(
     expect_clean(team.alloc, found)?;
     let layer = dereferenced(team, &stack)?;
     let_go(team.rt, team.alloc, stack, team.workers);
-    let alloc = team.alloc;
-    let report = || -> Result<Vec<u8>, AllocError>
-        ensures told { IfOk result (λ report. report.items ≡ layer_report layer) }
-        ensures layer { OnOk result (IsLayer layer) }
-    { layer_report_of(alloc, &layer) };
-    Ok(rewritten(team.rt, team.alloc, team.workers, report, &[&layer])?)
+    Ok(answer_telling(team.rt, team.alloc, team.workers, &layer, &[&layer])?)
 }
 
 // What deref makes of the topmost layer of a sound stack.

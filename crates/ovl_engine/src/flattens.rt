@@ -1,5 +1,4 @@
-ghost use Rattle.std.specs.Prelude.{◌≡◌, ◌<◌, ◌≤◌, true, List, IfOk, IfErr, OnOk};
-ghost use Rattle.ovl_layer.specs.Layers.{IsLayer};
+ghost use Rattle.std.specs.Prelude.{◌≡◌, ◌<◌, ◌≤◌, true, List, IfOk, IfErr};
 ghost use Rattle.ovl_lookup.specs.Sound.{IsSoundStack};
 ghost use Rattle.ovl_board.specs.Machine.{worker_limit};
 ghost use Rattle.ovl_check.specs.declared.findings.Finding.{Finding};
@@ -8,11 +7,10 @@ ghost use Rattle.ovl_flatten.specs.Limits.{PassesLimit};
 ghost use Rattle.ovl_commands.specs.declared.requests.Command.TheVariants.{Flatten};
 ghost use Rattle.ovl_engine.specs.FsckReports.{is_clean};
 ghost use Rattle.ovl_engine.specs.Outcomes.{IsFailure, IsRun, MayRefuseOwn};
-ghost use Rattle.ovl_reports.specs.LayerReports.{layer_report};
 ghost use Rattle.ovl_engine.specs.Kept.{KeepsTreeOf, KeepsSoundness, IsQuietOf};
 
 use crate::faults::EngineFault;
-use crate::rewrites::{expect_clean, rewritten};
+use crate::rewrites::{answer_telling, expect_clean};
 use crate::stacks::let_go;
 use crate::teams::Team;
 use ovl_check::Finding;
@@ -23,8 +21,6 @@ use ovl_flatten::laws::{flatten_has_no_marks, flatten_is_sound, flatten_keeps_th
 use ovl_layer::Layer;
 use ovl_lookup::Stack;
 use ovl_pool::Gate;
-use ovl_reports::layer_report_of;
-use std::alloc::AllocError;
 use std::sync::Wait;
 use std::thread::Threads;
 
@@ -51,12 +47,7 @@ pub(crate) fn flatten<G: Gate + Sync, R: Threads + Wait + Sync>(
     shown_layers_are_clean();
     expect_clean(team.alloc, found)?;
     let layer = flattened(team, stack)?;
-    let alloc = team.alloc;
-    let report = || -> Result<Vec<u8>, AllocError>
-        ensures told { IfOk result (λ report. report.items ≡ layer_report layer) }
-        ensures layer { OnOk result (IsLayer layer) }
-    { layer_report_of(alloc, &layer) };
-    Ok(rewritten(team.rt, team.alloc, team.workers, report, &[&layer])?)
+    Ok(answer_telling(team.rt, team.alloc, team.workers, &layer, &[&layer])?)
 }
 
 // What a sound stack shows, as one layer. The stack goes once its work is walked, so that all rows

@@ -1,7 +1,8 @@
 ghost use Rattle.std.specs.Prelude.{◌≡◌, ◌<◌, ◌++◌, [], IfOk, OnOk, codes, decimal, string_bytes};
 ghost use Rattle.std.specs.List.{flat_map};
 ghost use Rattle.ovl_names.specs.Escapes.{shown_path};
-ghost use Rattle.ovl_engine.specs.FsckReports.{weight_word as the_weight_word, finding_line, fault_count, note_count, is_clean as clean_test, fsck_report};
+ghost use Rattle.ovl_engine.specs.FsckReports.{finding_line, fault_count, note_count, fsck_report};
+ghost use Rattle.ovl_engine.specs.FsckReports as fsck_reports;
 
 use ovl_check::{Code, Finding};
 use ovl_names::{Names, Path};
@@ -72,7 +73,7 @@ fn push_counts(report: &mut String, found: &[Finding]) -> Result<(), AllocError>
 
 /// Whether no finding is a fault.
 pub(crate) fn is_clean(found: &[Finding]) -> bool
-    ensures { result ≡ clean_test found.now }
+    ensures { result ≡ fsck_reports.is_clean found.now }
 {
     count_of_faults(found) == 0
 }
@@ -159,7 +160,7 @@ fn push_finding<'a>(
 }
 
 fn weight_word(code: Code) -> &'static str
-    ensures { result.now ≡ the_weight_word code }
+    ensures { result.now ≡ fsck_reports.weight_word code }
 {
     if code.is_fault() { "fault" } else { "note" }
 }

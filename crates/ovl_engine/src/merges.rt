@@ -1,5 +1,4 @@
-ghost use Rattle.std.specs.Prelude.{◌≡◌, ◌<◌, ◌≤◌, true, List, IfOk, IfErr, OnOk, length};
-ghost use Rattle.ovl_layer.specs.Layers.{IsLayer};
+ghost use Rattle.std.specs.Prelude.{◌≡◌, ◌<◌, ◌≤◌, true, List, IfOk, IfErr, length};
 ghost use Rattle.ovl_lookup.specs.Sound.{IsSoundStack};
 ghost use Rattle.ovl_board.specs.Machine.{worker_limit};
 ghost use Rattle.ovl_check.specs.declared.findings.Finding.{Finding};
@@ -13,12 +12,11 @@ ghost use Rattle.ovl_board.specs.Parcels.{parcel_views};
 ghost use Rattle.ovl_commands.specs.declared.requests.Command.TheVariants.{Merge};
 ghost use Rattle.ovl_engine.specs.FsckReports.{is_clean};
 ghost use Rattle.ovl_engine.specs.Outcomes.{IsFailedWalk, IsFailure, IsRun, MayRefuseOwn};
-ghost use Rattle.ovl_reports.specs.LayerReports.{layer_report};
 ghost use Rattle.ovl_engine.specs.Kept.{KeepsTreeOf};
 ghost use Rattle.ovl_engine.specs.MergesDown.{KeepsTreeByTwo};
 
 use crate::faults::EngineFault;
-use crate::rewrites::{expect_clean, rewritten};
+use crate::rewrites::{answer_telling, expect_clean};
 use crate::stacks::let_go;
 use crate::teams::Team;
 use ovl_board::Parcel;
@@ -30,8 +28,6 @@ use ovl_merge::laws::merge_keeps_the_tree;
 use ovl_merge::{MergeDone, MergeEnd, MergeWork};
 use ovl_names::Name;
 use ovl_pool::Gate;
-use ovl_reports::layer_report_of;
-use std::alloc::AllocError;
 use std::sync::Wait;
 use std::thread::Threads;
 
@@ -55,12 +51,7 @@ pub(crate) fn merge<G: Gate + Sync, R: Threads + Wait + Sync>(
     merge_keeps_the_tree();
     expect_clean(team.alloc, found)?;
     let MergeDone { top, lower } = merged(team, stack)?;
-    let alloc = team.alloc;
-    let report = || -> Result<Vec<u8>, AllocError>
-        ensures told { IfOk result (λ report. report.items ≡ layer_report lower) }
-        ensures layer { OnOk result (IsLayer lower) }
-    { layer_report_of(alloc, &lower) };
-    Ok(rewritten(team.rt, team.alloc, team.workers, report, &[&top, &lower])?)
+    Ok(answer_telling(team.rt, team.alloc, team.workers, &lower, &[&top, &lower])?)
 }
 
 // What merge makes of the two topmost layers of a sound stack, which goes once its work is walked,

@@ -15,7 +15,8 @@ ghost use Rattle.ovl_engine.specs.Refusals.{is_outside};
 ghost use Rattle.ovl_engine.specs.Outcomes.{IsAccepted, IsRefusal, IsRun, IsFailedWalk, MayRefuseLayers};
 ghost use Rattle.ovl_engine.specs.Told.{AreTold, IsOutcomeOver, MayRefuseTold};
 ghost use Rattle.ovl_engine.specs.Questions.{AreAsked, IsQuestionOf};
-ghost use Rattle.ovl_commands.specs.Commands.{checks as checks_test, makes_layers, stays_sound, stands_alone, wants_lower};
+ghost use Rattle.ovl_commands.specs.Commands.{makes_layers, stays_sound, stands_alone, wants_lower};
+ghost use Rattle.ovl_commands.specs.Commands as commands;
 ghost use Rattle.ovl_engine.specs.Kept.{KeepsTree, KeepsTreeOf, KeepsSoundness, HasSoundStack, IsQuiet, IsQuietOf, after};
 
 use crate::checks::findings_by;
@@ -173,7 +174,7 @@ fn told_by<C: Contents>(
     ensures told { IfOk result
         (λ told. AreTold (C.may_be contents.now) question.now.names.items told.items) }
     ensures fault { IfErr result (λ fault. (why : C.Fault) × ((fault ≡ ContentsFault why)
-        × ((checks_test question.now.what ≡ true) × C.may_fail contents.now why))) }
+        × ((commands.checks question.now.what ≡ true) × C.may_fail contents.now why))) }
 {
     if !checks(question.what) {
         return Ok(Vec::new(alloc));
@@ -194,10 +195,10 @@ fn found_by<G: Gate + Sync, R: Threads + Wait + Sync>(
     requires number { (0 < team.now.workers) × (team.now.workers ≤ worker_limit) }
     requires ascend { contents_ascend told.items ≡ true }
     ensures found { IfOk result (λ found. (blobs : List BlobView) → contents_of blobs ≡ told.items
-        → checks_test what ≡ true → found.items ≡ findings blobs stack.now) }
+        → commands.checks what ≡ true → found.items ≡ findings blobs stack.now) }
     ensures sound { IfOk result (λ found. (blobs : List BlobView) → contents_of blobs ≡ told.items
-        → checks_test what ≡ true → is_clean found.items ≡ true → IsSoundStack stack.now) }
-    ensures fault { IfErr result (λ fault. (checks_test what ≡ true)
+        → commands.checks what ≡ true → is_clean found.items ≡ true → IsSoundStack stack.now) }
+    ensures fault { IfErr result (λ fault. (commands.checks what ≡ true)
         × IsFailedWalk (MayRefuseLayers stack.now (G.may_refuse team.now.gate.now)) fault) }
 {
     if !checks(what) {

@@ -1,8 +1,10 @@
 //! What the commands that make new layers share.
-ghost use Rattle.std.specs.Prelude.{◌≡◌, true, Ok, IfOk, IfErr, map};
+ghost use Rattle.std.specs.Prelude.{◌≡◌, true, Ok, IfOk, IfErr, OnOk, map};
+ghost use Rattle.ovl_layer.specs.Layers.{IsLayer};
 ghost use Rattle.ovl_manifest.specs.Manifest.{read_layer};
 ghost use Rattle.ovl_manifest.specs.Text.{manifest_text};
-ghost use Rattle.ovl_engine.specs.FsckReports.{is_clean as clean_test};
+ghost use Rattle.ovl_reports.specs.LayerReports.{layer_report};
+ghost use Rattle.ovl_engine.specs.FsckReports as fsck_reports;
 ghost use Rattle.ovl_engine.specs.Outcomes.{IsUnclean, IsRewritten, new_manifests};
 
 use crate::faults::EngineFault;
@@ -11,14 +13,14 @@ use ovl_check::Finding;
 use ovl_commands::Answer;
 use ovl_layer::Layer;
 use ovl_manifest::write_layer;
-use ovl_reports::side_by_side;
+use ovl_reports::{layer_report_of, side_by_side};
 use std::alloc::{AllocError, Global};
 use std::thread::Threads;
 
 /// Comes before new layers are made: a stack in which a fault is found is refused with the report
 /// of `fsck`.
 pub(crate) fn expect_clean(alloc: Global, found: Vec<Finding>) -> Result<(), EngineFault>
-    ensures clean { IfOk result (λ _. clean_test found.items ≡ true) }
+    ensures clean { IfOk result (λ _. fsck_reports.is_clean found.items ≡ true) }
     ensures refused { IfErr result (IsUnclean found.items) }
 {
     if is_clean(&found) {
@@ -57,6 +59,28 @@ pub(crate) fn rewritten<R: Threads, F: FnOnce() -> Result<Vec<u8>, AllocError> +
         layers: manifests?,
         clean: true,
     })
+}
+
+/// The same with the report of what this layer has.
+pub(crate) fn answer_telling<R: Threads>(
+    rt: &R,
+    alloc: Global,
+    workers: usize,
+    told: &Layer,
+    layers: &[&Layer],
+) -> Result<Answer, AllocError>
+    ensures report { IfOk result (λ answer. answer.report.items ≡ layer_report told.now) }
+    ensures layer { OnOk result (IsLayer told.now) }
+    ensures answer { IfOk result
+        (λ answer. IsRewritten answer.report.items (map (λ layer. layer.now) layers.now) answer) }
+    ensures back { IfOk result
+        (λ answer. map read_layer (new_manifests answer) ≡ map (λ layer. Ok layer.now) layers.now) }
+{
+    let report = || -> Result<Vec<u8>, AllocError>
+        ensures told { IfOk result (λ report. report.items ≡ layer_report told.entry.now) }
+        ensures layer { OnOk result (IsLayer told.entry.now) }
+    { layer_report_of(alloc, told) };
+    rewritten(rt, alloc, workers, report, layers)
 }
 
 // The manifests of layers, in order.

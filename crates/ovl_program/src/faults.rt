@@ -2,7 +2,8 @@ ghost use Rattle.std.specs.Prelude.{◌≡◌};
 ghost use Rattle.ovl_program.specs.declared.files.reads.ReadFault.TheVariants.{Memory as ReadMemory};
 ghost use Rattle.ovl_program.specs.declared.faults.ProgramFault.TheVariants.{Engine};
 ghost use Rattle.ovl_engine.specs.declared.faults.EngineFault.TheVariants.{Memory};
-ghost use Rattle.ovl_program.specs.Faults.{IsUnread, unread_input, engine_status as status_of, program_status};
+ghost use Rattle.ovl_program.specs.Faults.{IsUnread, unread_input, program_status};
+ghost use Rattle.ovl_program.specs.Faults as faults;
 
 use crate::files::reads::ReadFault;
 use ovl_engine::EngineFault;
@@ -67,7 +68,7 @@ impl ProgramFault {
 
 // The status where the command gives no answer.
 fn engine_status(fault: &EngineFault) -> u8
-    ensures { result ≡ status_of fault.now }
+    ensures { result ≡ faults.engine_status fault.now }
 {
     match fault {
         EngineFault::Faulty(_) => 1,

@@ -7,7 +7,8 @@ ghost use Rattle.ovl_check.specs.Blobs.{blob_views, digest_cmp, are_in_order};
 ghost use Rattle.ovl_engine.specs.Refusals.{blob_limit, blob_bytes};
 ghost use Rattle.ovl_program.specs.declared.files.reads.ReadFault.TheVariants.{TooLong};
 ghost use Rattle.ovl_program.specs.Faults.{IsUnread};
-ghost use Rattle.ovl_program.specs.BlobFolders.{blob_path as path_of_blob, IsInFolder, IsNamedBy, IsSpelt};
+ghost use Rattle.ovl_program.specs.BlobFolders.{IsInFolder, IsNamedBy, IsSpelt};
+ghost use Rattle.ovl_program.specs.BlobFolders as blob_folders;
 
 use crate::faults::ProgramFault;
 use crate::files::held_blobs::HeldBlobs;
@@ -170,7 +171,8 @@ fn blob_file<R: Files>(entry: &DirEntry<R>) -> Result<Option<BlobFile>, ReadFaul
 
 /// A blob's path: the folder as it is given, a slash, and the 64 digits of the blob's name.
 pub fn blob_path(alloc: Global, folder: &str, name: &Digest) -> Result<String, AllocError>
-    ensures path { IfOk result (λ path. string_bytes path ≡ path_of_blob folder.now name.now) }
+    ensures path { IfOk result
+        (λ path. string_bytes path ≡ blob_folders.blob_path folder.now name.now) }
     ensures spelt { IfOk result (λ _. IsSpelt name.now) }
 {
     let mut path = String::from_str(alloc, folder)?;

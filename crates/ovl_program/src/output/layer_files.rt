@@ -3,7 +3,8 @@ ghost use Rattle.std.specs.Prelude.{◌≡◌, ◌<◌, ◌≤◌, [], All, Cont
 ghost use Rattle.std.specs.Global.{Global};
 ghost use Rattle.std.specs.Io.KnownBytes.{Appends};
 ghost use Rattle.ovl_program.specs.declared.faults.ProgramFault.TheVariants.{Output, Unwritten};
-ghost use Rattle.ovl_program.specs.LayerFiles.{IsLayerFile, IsLeftOut, IsUnfinished, layer_path as path_of_layer};
+ghost use Rattle.ovl_program.specs.LayerFiles.{IsLayerFile, IsLeftOut, IsUnfinished};
+ghost use Rattle.ovl_program.specs.LayerFiles as layer_files;
 ghost use Rattle.ovl_program.specs.Status.{ending_of};
 
 use crate::faults::ProgramFault;
@@ -58,7 +59,7 @@ fn layer_paths(alloc: Global, folder: &str, count: usize) -> Result<Vec<String>,
 
 // A new layer's path: the folder as it is given, a slash, and the layer's name.
 fn layer_path(alloc: Global, folder: &str, index: usize) -> Result<String, AllocError>
-    ensures { IfOk result (λ path. string_bytes path ≡ path_of_layer folder.now index) }
+    ensures { IfOk result (λ path. string_bytes path ≡ layer_files.layer_path folder.now index) }
 {
     let mut path = String::from_str(alloc, folder)?;
     path.push_str("/layer-")?;

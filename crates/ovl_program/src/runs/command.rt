@@ -4,7 +4,8 @@ ghost use Rattle.ovl_commands.specs.declared.requests.Command.TheVariants.{Merge
 ghost use Rattle.ovl_engine.specs.Requests.{request_of};
 ghost use Rattle.ovl_program.specs.Faults.{IsUnread};
 ghost use Rattle.ovl_program.specs.Reported.{IsComingDown};
-ghost use Rattle.ovl_program.specs.Programs.{IsOfBlobs, IsPerformed, folder_in_parts as the_folder_in_parts, left_of as the_left_of};
+ghost use Rattle.ovl_program.specs.Programs.{IsOfBlobs, IsPerformed};
+ghost use Rattle.ovl_program.specs.Programs as programs;
 
 use crate::faults::ProgramFault;
 use crate::files::blob_folder::read_blobs;
@@ -48,7 +49,7 @@ fn answer_held<R: AllocGlobal + Threads + Wait + Sync>(
     manifests: Vec<Vec<u8>>,
     blobs: &[Blob],
 ) -> Result<Answer, EngineFault>
-    ensures { IsComingDown (the_left_of line.now.what line.now.down_to)
+    ensures { IsComingDown (programs.left_of line.now.what line.now.down_to)
         (request_of line.now.what manifests.items line.now.data_layers blobs.now
         line.now.workers) result }
 {
@@ -79,7 +80,7 @@ fn answer_held<R: AllocGlobal + Threads + Wait + Sync>(
 
 /// How many layers the line's merges are to leave, if it asks for that.
 pub(crate) fn left_of(line: &Line) -> Option<usize>
-    ensures left { result ≡ the_left_of line.now.what line.now.down_to }
+    ensures left { result ≡ programs.left_of line.now.what line.now.down_to }
     ensures merge { IfSome result (λ _. line.now.what ≡ Merge) }
 {
     match line.what {
@@ -90,7 +91,7 @@ pub(crate) fn left_of(line: &Line) -> Option<usize>
 
 // The folder whose blobs are read in parts, if the line asks for that.
 fn folder_in_parts(line: &Line) -> Option<&String>
-    ensures { option_map (λ folder. folder.now) result ≡ the_folder_in_parts line.now }
+    ensures { option_map (λ folder. folder.now) result ≡ programs.folder_in_parts line.now }
 {
     if line.any_size {
         line.blobs.as_ref()

@@ -1,9 +1,14 @@
-ghost use Rattle.std.specs.Prelude.{◌≡◌, [], Some, IfOk, IfErr, length};
+ghost use Rattle.std.specs.Prelude.{◌≡◌, [], Some, true, IfOk, IfErr, length};
+ghost use Rattle.ovl_names.specs.Order.{ascends};
+ghost use Rattle.ovl_check.specs.Blobs.{digest_cmp};
 ghost use Rattle.ovl_commands.specs.declared.requests.Command.TheVariants.{Merge};
 ghost use Rattle.ovl_engine.specs.Requests.{request_of};
+ghost use Rattle.ovl_engine.specs.Told.{AreTold};
+ghost use Rattle.ovl_program.specs.BlobFolders.{anything};
 ghost use Rattle.ovl_program.specs.Faults.{IsUnread};
 ghost use Rattle.ovl_program.specs.Reported.{IsComingDownOver, IsComingOver};
-ghost use Rattle.ovl_program.specs.Programs.{IsOfBlobs, IsPerformed, folder_in_parts, left_of as the_left_of};
+ghost use Rattle.ovl_program.specs.Programs.{IsOfBlobs, IsPerformed, folder_in_parts};
+ghost use Rattle.ovl_program.specs.Programs as programs;
 
 use crate::faults::ProgramFault;
 use crate::files::folder_in_parts::tell_blobs;
@@ -12,7 +17,10 @@ use crate::output::report::write_report;
 use crate::output::status::Ending;
 use crate::runs::command::left_of;
 use ovl_command_line::Line;
-use ovl_engine::{Answer, EngineFault, answer_told, merge_down_told, question_down, question_of};
+use ovl_engine::{
+    Answer, Content, EngineFault, answer_told, merge_down_told, question_down, question_of,
+};
+use ovl_inode::Digest;
 use ovl_pool::OpenGate;
 use std::io::Write;
 use std::rt::Files;
@@ -45,7 +53,7 @@ fn answer_in_parts<R: Files + SharedFiles + AllocGlobal + Threads + Wait + Sync>
     manifests: Vec<Vec<u8>>,
 ) -> Result<Result<Answer, EngineFault>, ProgramFault>
     requires { folder_in_parts line.now ≡ Some folder.now }
-    ensures coming { IfOk result (IsComingDownOver (the_left_of line.now.what line.now.down_to)
+    ensures coming { IfOk result (IsComingDownOver (programs.left_of line.now.what line.now.down_to)
         (request_of line.now.what manifests.items line.now.data_layers [] line.now.workers)) }
     ensures fault { IfErr result (λ fault. IsUnread (IsOfBlobs line.now) fault) }
 {
@@ -73,7 +81,7 @@ fn merged_in_parts<R: Files + SharedFiles + AllocGlobal + Threads + Wait + Sync>
         Ok(question) => question,
         Err(fault) => return Ok(Err(fault)),
     };
-    let told = tell_blobs(rt, folder.as_str(), &question.names, line.workers)?;
+    let told = contents_in(rt, line, folder, &question.names)?;
     Ok(merge_down_told(rt, alloc, question, told, left, line.workers, &OpenGate))
 }
 
@@ -101,6 +109,21 @@ fn done_in_parts<R: Files + SharedFiles + AllocGlobal + Threads + Wait + Sync>(
         Ok(question) => question,
         Err(fault) => return Ok(Err(fault)),
     };
-    let told = tell_blobs(rt, folder.as_str(), &question.names, line.workers)?;
+    let told = contents_in(rt, line, folder, &question.names)?;
     Ok(answer_told(rt, alloc, question, told, line.workers, &OpenGate))
+}
+
+// What the folder of a line has of blobs of these names.
+fn contents_in<R: Files + SharedFiles + AllocGlobal + Threads + Sync>(
+    rt: &R,
+    line: &Line,
+    folder: &String,
+    names: &[Digest],
+) -> Result<Vec<Content>, ProgramFault>
+    requires folder { folder_in_parts line.now ≡ Some folder.now }
+    requires ascend { ascends digest_cmp names.now ≡ true }
+    ensures told { IfOk result (λ told. AreTold anything names.now told.items) }
+    ensures fault { IfErr result (λ fault. IsUnread (IsOfBlobs line.now) fault) }
+{
+    tell_blobs(rt, folder.as_str(), names, line.workers)
 }

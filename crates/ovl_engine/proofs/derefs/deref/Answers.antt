@@ -16,16 +16,16 @@ pub returns-clause-tree : goal.returns-clause-tree
 returns-clause-tree g c =
     let stack = c.args.stack in
     let some = subst (λ (n : ℕ). 0 < n) c.ordinary-layers.ensures.value c.ordinary-layers.ensures.some in
-    keeps_tree c.in_ok-rewritten.field-0 (c.in_ok-layer.layer ∷ []) stack c.in_ok-rewritten.ensures.back some
-    (deref_same stack c.ordinary-layers.ensures.each c.in_ok-layer.layer c.in_ok-rewritten.ensures.report.1 c.in_ok-layer.ensures.layer
+    keeps_tree c.in_ok-answer_telling.field-0 (c.in_ok-layer.layer ∷ []) stack c.in_ok-answer_telling.ensures.back some
+    (deref_same stack c.ordinary-layers.ensures.each c.in_ok-layer.layer c.in_ok-answer_telling.ensures.layer c.in_ok-layer.ensures.layer
     c.deref_keeps_the_tree.ensures some (c.requires.sound c.in_ok-expect_clean.ensures.clean)) Deref refl
 
 pub returns-clause-sound : goal.returns-clause-sound
 returns-clause-sound g c =
     let stack = c.args.stack in
     let some = subst (λ (n : ℕ). 0 < n) c.ordinary-layers.ensures.value c.ordinary-layers.ensures.some in
-    keeps_soundness c.in_ok-rewritten.field-0 (c.in_ok-layer.layer ∷ []) stack c.in_ok-rewritten.ensures.back some
-    (deref_sound stack c.ordinary-layers.ensures.each c.in_ok-layer.layer c.in_ok-rewritten.ensures.report.1 c.in_ok-layer.ensures.layer
+    keeps_soundness c.in_ok-answer_telling.field-0 (c.in_ok-layer.layer ∷ []) stack c.in_ok-answer_telling.ensures.back some
+    (deref_sound stack c.ordinary-layers.ensures.each c.in_ok-layer.layer c.in_ok-answer_telling.ensures.layer c.in_ok-layer.ensures.layer
     c.deref_keeps_soundness.ensures some (c.requires.sound c.in_ok-expect_clean.ensures.clean)) Deref refl
 
 pub returns-in_err-layer-clause-outcome : goal.returns-in_err-layer-clause-outcome

@@ -16,27 +16,27 @@ returns-in_err-expect_clean-clause-outcome g c =
 pub returns-clause-tree : goal.returns-clause-tree
 returns-clause-tree g c =
     let layer = c.in_ok-layer.layer in
-    keeps_whole_tree c.in_ok-rewritten.field-0 (layer ∷ []) c.args.stack c.in_ok-rewritten.ensures.back
+    keeps_whole_tree c.in_ok-answer_telling.field-0 (layer ∷ []) c.args.stack c.in_ok-answer_telling.ensures.back
     (c.flatten_keeps_the_tree.ensures c.args.stack c.ordinary-layers.ensures.each (c.requires.sound c.in_ok-expect_clean.ensures.clean)
-    layer c.in_ok-rewritten.ensures.report.1 c.in_ok-layer.ensures.layer) Flatten refl
+    layer c.in_ok-answer_telling.ensures.layer c.in_ok-layer.ensures.layer) Flatten refl
 
 pub returns-clause-sound : goal.returns-clause-sound
 returns-clause-sound g c =
     let layer = c.in_ok-layer.layer in
-    whole_soundness c.in_ok-rewritten.field-0 (layer ∷ []) c.args.stack c.in_ok-rewritten.ensures.back
+    whole_soundness c.in_ok-answer_telling.field-0 (layer ∷ []) c.args.stack c.in_ok-answer_telling.ensures.back
     (c.flatten_is_sound.ensures c.args.stack c.ordinary-layers.ensures.each (c.requires.sound c.in_ok-expect_clean.ensures.clean)
-    layer c.in_ok-rewritten.ensures.report.1 c.in_ok-layer.ensures.layer) Flatten refl
+    layer c.in_ok-answer_telling.ensures.layer c.in_ok-layer.ensures.layer) Flatten refl
 
 pub returns-clause-quiet : goal.returns-clause-quiet
 returns-clause-quiet g c =
     let layer = c.in_ok-layer.layer in
     let stack = c.args.stack in
     let each = c.ordinary-layers.ensures.each in
-    whole_quiet c.in_ok-rewritten.field-0 (layer ∷ []) stack c.in_ok-rewritten.ensures.back
-    (c.unmarked_layers_are_quiet.ensures layer c.in_ok-rewritten.ensures.report.1
+    whole_quiet c.in_ok-answer_telling.field-0 (layer ∷ []) stack c.in_ok-answer_telling.ensures.back
+    (c.unmarked_layers_are_quiet.ensures layer c.in_ok-answer_telling.ensures.layer
     (c.flatten_has_no_marks.ensures stack each (c.requires.sound c.in_ok-expect_clean.ensures.clean) layer c.in_ok-layer.ensures.layer))
     (λ blobs clean. c.shown_layers_are_clean.ensures blobs stack each (clean-faultless (findings blobs stack) clean)
-    layer c.in_ok-rewritten.ensures.report.1 c.in_ok-layer.ensures.layer)
+    layer c.in_ok-answer_telling.ensures.layer c.in_ok-layer.ensures.layer)
     Flatten refl
 
 pub returns-in_err-layer-clause-outcome : goal.returns-in_err-layer-clause-outcome

@@ -19,10 +19,10 @@ pub returns-clause-tree : goal.returns-clause-tree
 returns-clause-tree g c =
     let stack = c.args.stack in
     let lower = c.in_ok-top.field-0.lower in
-    keeps_tree c.in_ok-rewritten.field-0 (merged_top (merge_of stack) ∷ lower ∷ []) stack
-    (c.in_ok-rewritten.ensures.back ∙ ap (λ (top : Entries). Ok top ∷ Ok lower ∷ []) c.in_ok-top.ensures.top) c.requires.several
+    keeps_tree c.in_ok-answer_telling.field-0 (merged_top (merge_of stack) ∷ lower ∷ []) stack
+    (c.in_ok-answer_telling.ensures.back ∙ ap (λ (top : Entries). Ok top ∷ Ok lower ∷ []) c.in_ok-top.ensures.top) c.requires.several
     (merge_same stack c.ordinary-layers.ensures.each c.merge_keeps_the_tree.ensures c.requires.several (c.requires.sound c.in_ok-expect_clean.ensures.clean)
-    lower c.in_ok-rewritten.ensures.report.1 c.in_ok-top.ensures.lower) Merge refl
+    lower c.in_ok-answer_telling.ensures.layer c.in_ok-top.ensures.lower) Merge refl
 
 pub returns-clause-two : goal.returns-clause-two
 returns-clause-two g c =
@@ -31,9 +31,9 @@ returns-clause-two g c =
     record {
       top = merged_top (merge_of stack);
       lower = lower;
-      read = c.in_ok-rewritten.ensures.back ∙ ap (λ (top : Entries). Ok top ∷ Ok lower ∷ []) c.in_ok-top.ensures.top;
+      read = c.in_ok-answer_telling.ensures.back ∙ ap (λ (top : Entries). Ok top ∷ Ok lower ∷ []) c.in_ok-top.ensures.top;
       same = merge_same stack c.ordinary-layers.ensures.each c.merge_keeps_the_tree.ensures c.requires.several (c.requires.sound c.in_ok-expect_clean.ensures.clean)
-          lower c.in_ok-rewritten.ensures.report.1 c.in_ok-top.ensures.lower;
+          lower c.in_ok-answer_telling.ensures.layer c.in_ok-top.ensures.lower;
     }
 
 pub returns-in_err-top-clause-outcome : goal.returns-in_err-top-clause-outcome

@@ -1,4 +1,4 @@
-use Rattle.std.proofs.Common.{[], inl, inr}
+use Rattle.std.proofs.Common.{[], inl}
 use Rattle.std.proofs.lemmas.Result.{err_from_is_err_and}
 use Rattle.ovl_commands.specs.declared.requests.Command.TheVariants.{Merge}
 use Rattle.ovl_engine.specs.Requests.{Request, request_of}
