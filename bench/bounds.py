@@ -3,9 +3,11 @@
 
 Python 3.11, standard library, and valgrind; without valgrind it says so and ends with 0. No contract says what anything
 costs: a body that asks every code of every entry, makes a view anew for each name, digests a blob again for each name that
-it has, halves a list so that one half is all of it, or compares paths byte by byte, gives the same bytes. So the instructions of one run of each stack
-are counted, and may be no more than its bound, at most a few tenths over what it took as it was bounded. The same program
-takes the same number of instructions, but for some hundreds that come of the environment.
+it has, halves a list so that one half is all of it, or compares paths byte by byte, gives the same bytes. So the
+instructions of one run of each stack are counted, and may be no more than its bound, at most a few tenths over what it took
+as it was bounded. The same program takes the same number of instructions, but for some hundreds that come of the
+environment. Where a worker took a lock for each directory that would be few instructions more, so those that no other
+processor's may come between are counted apart.
 
     python3 bench/bounds.py --program crates/ovl_layers/out/ovl_layers
 """
@@ -19,7 +21,7 @@ from dataclasses import dataclass
 
 from entries import METACOPY, NSEC, REDIRECT, Entry, entry
 from growth import Layer, write
-from instructions import instructions
+from instructions import instructions, locked
 
 CONTENTS = b"x" * 65_536
 NAME = hashlib.sha256(CONTENTS).hexdigest()
@@ -95,8 +97,11 @@ BOUNDS = {
 }
 
 
-def counted(program: str, bound: Bound, folder: str) -> float:
-    """The instructions of a run, in millions."""
+# The locked instructions of a directory: a worker takes a lock once for many of them.
+DIRECTORIES, LOCKED = 4_000, 3.5
+
+
+def words_of(program: str, bound: Bound, folder: str) -> list[str]:
     blobs, new = os.path.join(folder, "blobs"), os.path.join(folder, "new")
     for it in (blobs, new):
         os.mkdir(it)
@@ -106,7 +111,17 @@ def counted(program: str, bound: Bound, folder: str) -> float:
     words = [program, bound.command, "--workers", "1"]
     words += ["--blobs", blobs] if bound.command != "show" else []
     words += ["--out", new] if bound.command not in ("show", "fsck") else []
-    return instructions(words + write(folder, bound.layers), (bound.status,)) / 1e6
+    return words + write(folder, bound.layers)
+
+
+def counted(program: str, bound: Bound, folder: str) -> float:
+    """The instructions of a run, in millions."""
+    return instructions(words_of(program, bound, folder), (bound.status,)) / 1e6
+
+
+def locked_each(program: str, folder: str) -> float:
+    """The locked instructions of a directory without entries."""
+    return locked(words_of(program, Bound("fsck", (directories(DIRECTORIES),), 0), folder), (0,)) / DIRECTORIES
 
 
 def main() -> None:
@@ -121,6 +136,10 @@ def main() -> None:
             millions = counted(program, bound, folder)
         over += millions > bound.millions
         print(f"{bound.command} of {name}: {millions:.1f} million instructions, at most {bound.millions:.1f}", flush=True)
+    with tempfile.TemporaryDirectory(prefix="ovl-bounds-") as folder:
+        each = locked_each(program, folder)
+    over += each > LOCKED
+    print(f"fsck of a directory without entries: {each:.2f} locked instructions, at most {LOCKED:.2f}")
     sys.exit(1 if over else 0)
 
 
