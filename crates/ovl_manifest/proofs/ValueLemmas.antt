@@ -2,9 +2,7 @@
 use Rattle.std.proofs.Common.{◌≡◌, ℕ, zero, suc, ◌-◌, ◌/◌, ◌%◌, ◌^◌, ◌<◌, ◌∙◌, ℤ, pos, negsuc, List, [], ◌∷◌, ◌++◌, Bool, true, false, Option, Some, None, refl, sym, ap, subst, append_assoc, append-nil, length, length-append, arith, ltb-true, le-leb, eqb-true, eq-eqb, cond}
 use Rattle.std.specs.Prelude.{◌||◌, ◌==◌, not, nat_eq, nat_lt, nat_le, is_some, is_none, if◌then◌else◌, slice_index, option_and_then, codes}
 use Rattle.std.specs.List.{list_all, list_any, starts_with, onto_first}
-use Rattle.std.specs.Ordering.{is_lt}
 use Rattle.std.specs.Result.{result_ok}
-use Rattle.std.specs.Cmp.Lexicographic.{nat_list_cmp_total}
 use Rattle.std.proofs.lemmas.Bool.Decides.{nat_tests}
 use Rattle.hex.specs.Hex.{lower_digits, encode_with, encode_lower, decode_of, IsBytes}
 use Rattle.hex.proofs.HexLemmas.{decode_of-encode_lower, length-encode_with}
@@ -17,7 +15,7 @@ use Rattle.ovl_names.specs.Order.{ascends}
 use Rattle.ovl_names.specs.Paths.{PathNames, path_fault, path_text, text_parts, parts_between, has_names, depth_limit, text_limit}
 use Rattle.ovl_names.specs.declared.paths.PathFault.{PathFault}
 use Rattle.ovl_names.specs.declared.paths.PathFault.TheVariants.{NotAbsolute, EmptyPart, BadPart, TooDeep, TooLong as TooLongPath}
-use Rattle.ovl_names.proofs.Ascending.{both, reversed, ascends-across}
+use Rattle.ovl_names.proofs.Ascending.{both, ascends-across}
 use Rattle.ovl_names.proofs.NameLemmas.{text_parts-rest}
 use Rattle.ovl_inode.specs.Bytes.{are_bytes, is_digest}
 use Rattle.ovl_inode.proofs.AttributeLemmas.{put-last}

@@ -5,6 +5,7 @@ use Rattle.hex.specs.Hex.{encode_lower}
 use Rattle.json.specs.Print.{quoted}
 use Rattle.serde_json.specs.Written.{comma_if, compact_text}
 use Rattle.ovl_inode.specs.declared.digests.Digest.{Digest}
+use Rattle.ovl_inode.specs.declared.inodes.Inode.{Inode}
 use Rattle.ovl_inode.specs.declared.inodes.Kind.{Kind}
 use Rattle.ovl_inode.specs.declared.inodes.Kind.TheVariants.{File, Symlink, Char, Block}
 use Rattle.ovl_inode.specs.Attributes.{Attributes}
@@ -26,6 +27,11 @@ device_text None = []
 device_text (Some numbers) =
     codes ",\"major\":" ++ (decimal numbers.0 ++ (codes ",\"minor\":" ++ decimal numbers.1))
 
+-- how an entry begins that has a blob
+abbrev pub blob_text : Option Digest → List ℕ
+blob_text None = []
+blob_text (Some blob) = codes "{\"blob\":" ++ quoted (encode_lower blob)
+
 -- the member that says the seconds of a time
 abbrev pub mtime_text : ℤ → List ℕ
 mtime_text seconds = codes ",\"mtime\":" ++ signed_decimal seconds
@@ -41,6 +47,15 @@ contents_text (File size blob) = codes ",\"size\":" ++ decimal size
 contents_text (Symlink target) = codes ",\"target\":" ++ quoted target
 contents_text _ = []
 
+-- of these the size of a file, and the target of a symlink
+abbrev pub size_text : Kind → List ℕ
+size_text (File size blob) = codes ",\"size\":" ++ decimal size
+size_text _ = []
+
+abbrev pub target_text : Kind → List ℕ
+target_text (Symlink target) = codes ",\"target\":" ++ quoted target
+target_text _ = []
+
 abbrev pub blob_of_kind : Kind → Option Digest
 blob_of_kind (File size blob) = blob
 blob_of_kind _ = None
@@ -49,6 +64,23 @@ abbrev pub device_of_kind : Kind → Option (ℕ × ℕ)
 device_of_kind (Char major minor) = Some (major, minor)
 device_of_kind (Block major minor) = Some (major, minor)
 device_of_kind _ = None
+
+-- the word of a kind and the numbers of a device, and what follows them
+abbrev pub kind_text : Kind → List ℕ → List ℕ
+kind_text kind rest =
+    codes ",\"kind\":" ++ (quoted (kind_word kind) ++ (device_text (device_of_kind kind) ++ rest))
+
+-- what an entry has between its blob and the text of its path
+abbrev pub gid_name : Option Digest → List ℕ
+gid_name None = codes "{\"gid\":"
+gid_name (Some blob) = codes ",\"gid\":"
+
+abbrev pub front_text : Inode → List ℕ
+front_text inode =
+    gid_name (blob_of_kind inode.kind) ++ (decimal inode.gid ++ kind_text inode.kind
+    (codes ",\"mode\":" ++ (decimal inode.mode ++ (codes ",\"mtime\":"
+    ++ (signed_decimal inode.mtime ++ (codes ",\"mtime-nsec\":" ++ (decimal inode.nsec
+    ++ codes ",\"path\":")))))))
 
 -- the kind has this word, blob and numbers
 pub record IsKindOf (word : List ℕ) (blob : Option Digest) (device : Option (ℕ × ℕ))

@@ -1,5 +1,5 @@
 -- The layer that a manifest states, or its first fault.
-use Rattle.std.specs.Prelude.{ℕ, Bool, ◌||◌, Option, Some, None, Result, Ok, Err, List, [], ◌∷◌, if◌then◌else◌, codes, is_some, option_and_then}
+use Rattle.std.specs.Prelude.{ℕ, Bool, ◌||◌, Option, Some, None, Result, Err, List, [], ◌∷◌, if◌then◌else◌, codes, is_some, option_and_then}
 use Rattle.std.specs.Str.{is_utf8}
 use Rattle.serde_json.specs.Data.{Num, Data, Items, no_items, item}
 use Rattle.serde_json.specs.Find.{get, as_number, as_u64, as_i64, as_array}

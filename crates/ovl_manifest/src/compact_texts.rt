@@ -2,6 +2,7 @@
 ghost use Rattle.std.specs.Prelude.{◌≡◌, ◌≤◌, [], ◌++◌, IsTrue, IfSome, MatchOption, decimal, length, string_bytes, take};
 ghost use Rattle.std.specs.Fmt.{signed_decimal};
 ghost use Rattle.std.specs.Cow.{cow_str_bytes};
+ghost use Rattle.std.specs.Str.Parse.{AllDigits, digits_value};
 ghost use Rattle.hex.specs.Hex.{encode_lower};
 ghost use Rattle.json.specs.Print.{quoted};
 
@@ -197,20 +198,32 @@ fn string_written(alloc: Global, own: &str) -> Option<String>
 fn leading_number(bytes: &[u8]) -> Option<(u64, usize)>
     ensures { IfSome result (λ read. decimal read.0 ≡ take read.1 bytes.now) }
 {
-    let mut number = 0;
-    let mut count = 0;
-    for byte in bytes {
-        if !byte.is_ascii_digit() {
-            break;
-        }
-        if count == DIGIT_LIMIT {
-            return None;
-        }
-        number = number * 10 + u64::from(*byte - b'0');
-        count += 1;
-    }
+    // Where that many bytes are left, no digit waits for the text's end.
+    let (number, count) = if bytes.len() >= DIGIT_LIMIT {
+        digits_within(bytes, DIGIT_LIMIT)
+    } else {
+        digits_within(bytes, bytes.len())
+    };
     if count == 0 || (count > 1 && bytes[0] == b'0') {
         return None;
     }
     Some((number, count))
+}
+
+// The number of the digits at the front, at most so many, and how many they are.
+#[inline(always)]
+fn digits_within(bytes: &[u8], limit: usize) -> (u64, usize)
+    requires inside { limit ≤ length bytes.now }
+    requires short { limit ≤ 19 }
+    ensures digits { AllDigits 10 (take result.1 bytes.now) }
+    ensures number { result.0 ≡ digits_value 10 (take result.1 bytes.now) }
+    ensures count { result.1 ≤ limit }
+{
+    let mut number = 0;
+    let mut count = 0;
+    while count < limit && bytes[count].is_ascii_digit() {
+        number = number * 10 + u64::from(bytes[count] - b'0');
+        count += 1;
+    }
+    (number, count)
 }

@@ -8,6 +8,7 @@ mod fields;
 mod lists;
 mod plain_runs;
 mod reading;
+mod short_texts;
 mod text_paths;
 mod versions;
 mod writing;

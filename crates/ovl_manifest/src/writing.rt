@@ -8,8 +8,9 @@ ghost use Rattle.ovl_manifest.specs.Text.{manifest_text, layer_value};
 ghost use Rattle.ovl_manifest.specs.Versions.{written};
 ghost use Rattle.ovl_layer.specs.TextPaths.{slashed};
 
+use crate::short_texts::ShortText;
 use crate::versions::Version;
-use crate::written_entries::{push_entry, push_number};
+use crate::written_entries::push_entry;
 use ovl_inode::Kind;
 use ovl_layer::{Layer, Node};
 use std::alloc::{AllocError, Global};
@@ -23,10 +24,14 @@ pub fn write_layer(alloc: Global, layer: &Layer) -> Result<Vec<u8>, AllocError>
 {
     // The type keeps that it is a layer.
     let _root = layer.root();
-    let mut text = String::with_capacity(alloc, room_for(layer))?;
+    let mut text = Vec::with_capacity(alloc, room_for(layer))?;
     push_layer(alloc, &mut text, layer)?;
-    text.push_str("\n")?;
-    Ok(text.into_bytes())
+    text.push(b'\n')?;
+    match String::from_utf8(text) {
+        Ok(text) => Ok(text.into_bytes()),
+        // What is written is a text, so that there is no other fault.
+        Err(_) => Err(AllocError),
+    }
 }
 
 // What the text of most entries takes at most, but for its path and its blob's name, and what such
@@ -58,21 +63,24 @@ fn room_under(node: &Node, above: usize) -> usize {
     room
 }
 
-fn push_layer(alloc: Global, text: &mut String, layer: &Layer) -> Result<(), AllocError>
+fn push_layer(alloc: Global, text: &mut Vec<u8>, layer: &Layer) -> Result<(), AllocError>
     ensures { OnOk result
-        (string_bytes text.new
-        ≡ string_bytes text.old ++ compact_text (layer_value written layer.now)) }
+        (text.new.items
+        ≡ text.old.items ++ compact_text (layer_value written layer.now)) }
 {
-    text.push_str("{\"entries\":[")?;
+    text.extend_from_slice("{\"entries\":[".as_bytes())?;
     push_entries(alloc, text, layer)?;
-    push_number(text, "],\"overlay-layer\":", Version::Two.number())?;
-    text.push_str("}")
+    let mut short = ShortText::new();
+    short.put("}");
+    short.put_number(Version::Two.number());
+    short.put("],\"overlay-layer\":");
+    text.extend_from_slice(short.as_slice())
 }
 
 // All entries, in path order.
-fn push_entries(alloc: Global, text: &mut String, layer: &Layer) -> Result<(), AllocError>
+fn push_entries(alloc: Global, text: &mut Vec<u8>, layer: &Layer) -> Result<(), AllocError>
     ensures { OnOk result
-        (string_bytes text.new ≡ string_bytes text.old ++ entries_text written false layer.now) }
+        (text.new.items ≡ text.old.items ++ entries_text written false layer.now) }
 {
     let root = layer.root();
     push_entry(alloc, text, "/", root.inode())?;
@@ -87,13 +95,13 @@ fn push_entries(alloc: Global, text: &mut String, layer: &Layer) -> Result<(), A
 // where that of the root is empty, and is left so.
 fn push_under(
     alloc: Global,
-    text: &mut String,
+    text: &mut Vec<u8>,
     path: &mut String,
     node: &Node,
 ) -> Result<(), AllocError>
     ensures text { OnOk result
         ((directory : PathNames) → string_bytes path.old ≡ slashed directory
-        → string_bytes text.new ≡ string_bytes text.old
+        → text.new.items ≡ text.old.items
         ++ entries_text written true
         (placed (child_path directory node.now.name)
         (entries_from node.now.inode node.now.below))) }
@@ -102,7 +110,7 @@ fn push_under(
     let length = path.len();
     path.push_str("/")?;
     path.push_str(node.name().as_str())?;
-    text.push_str(",")?;
+    text.push(b',')?;
     push_entry(alloc, text, path.as_str(), node.inode())?;
     for child in node.children() {
         push_under(alloc, text, path, child)?;

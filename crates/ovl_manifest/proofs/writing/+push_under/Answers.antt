@@ -47,7 +47,7 @@ loop-child-preserved n c = (
       let path : PathNames = child_path directory c.args.node.now.name in
       let done : Entries = entries_of_nodes (take c.loop-child.child-index nodes) in
       let own : Entries = under node.name (entries_from node.inode node.below) in
-      let before : List ℕ = string_bytes c.push_entry.new.text in
+      let before : List ℕ = c.push_entry.new.text.items in
       let more = entries_of_nodes-more nodes c.loop-child.child-index node c.loop-child-test.true c.child-item.is in
       let lies : LiesIn (string_bytes c.push_str-2.new.self) (string_bytes c.args.path.now) c.args.node.now.name =
       c.in_ok-push_str-2.ensures.bytes ∙ (λ j. c.in_ok-push_str.ensures.bytes j ++ (c.as_str.ensures.value ∙ c.name.ensures) j) in
@@ -68,7 +68,7 @@ returns-clause-text n c directory same =
     let nodes : List NodeView = c.children-child-items.result.now in
     let path : PathNames = child_path directory c.args.node.now.name in
     let inode : Inode = c.inode.result.now in
-    let before : List ℕ = string_bytes c.args.text.now in
+    let before : List ℕ = c.args.text.now.items in
     let below : Entries = entries_of_nodes (take c.loop-child.child-index nodes) in
     let lies : LiesIn (string_bytes c.push_str-2.new.self) (string_bytes c.args.path.now) c.args.node.now.name =
     c.in_ok-push_str-2.ensures.bytes ∙ (λ j. c.in_ok-push_str.ensures.bytes j ++ (c.as_str.ensures.value ∙ c.name.ensures) j) in
@@ -77,7 +77,7 @@ returns-clause-text n c directory same =
     let seen : below ≡ c.args.node.now.below = ap entries_of_nodes (take_all c.loop-child.child-index nodes c.loop-child-test.false) ∙ c.children-child-items.ensures in
     let whole : (path, inode) ∷ placed path below ≡ placed path (entries_from c.args.node.now.inode c.args.node.now.below) =
     λ j. (sym (append-nil path) j, c.inode.ensures j) ∷ placed path (seen j) in
-    let comma : Grows before (codes ",") (string_bytes c.push_str-3.new.self) = record { is = c.in_ok-push_str-3.ensures.bytes } in
-    let first : Grows (string_bytes c.push_str-3.new.self) (compact_text (entry_value written (path, inode))) (string_bytes c.push_entry.new.text) = record { is = c.in_ok-push_entry.ensures path text } in
-    let rest : Grows (string_bytes c.push_entry.new.text) (entries_text written true (placed path below)) (string_bytes c.loop-child.text) = record { is = c.loop-child.invariant.0 directory same } in
+    let comma : Grows before (codes ",") (c.push.new.self.items) = record { is = c.in_ok-push.ensures.items } in
+    let first : Grows (c.push.new.self.items) (compact_text (entry_value written (path, inode))) (c.push_entry.new.text.items) = record { is = c.in_ok-push_entry.ensures path text } in
+    let rest : Grows (c.push_entry.new.text.items) (entries_text written true (placed path below)) (c.loop-child.text.items) = record { is = c.loop-child.invariant.0 directory same } in
     (onto comma (onto first rest)).is ∙ ap (λ (es : Entries). before ++ entries_text written true es) whole

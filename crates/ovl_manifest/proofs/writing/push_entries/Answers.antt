@@ -1,4 +1,4 @@
-use Rattle.std.proofs.Common.{◌≡◌, ◌++◌, [], ◌∙◌, ℕ, List, Option, Some, true, false, take, refl, sym, ap, append_assoc, string_bytes}
+use Rattle.std.proofs.Common.{◌≡◌, ◌++◌, [], ◌∙◌, ℕ, List, Some, true, false, take, refl, sym, ap, append_assoc}
 use Rattle.std.proofs.lemmas.List.{take_all}
 use Rattle.serde_json.specs.Written.{compact_text}
 use Rattle.ovl_manifest.specs.Compact.{entries_text}
@@ -17,7 +17,7 @@ loop-child-preserved c =
     let node : NodeView = c.child-item.result in
     let done : Entries = entries_of_nodes (take c.loop-child.child-index nodes) in
     let own : Entries = under node.name (entries_from node.inode node.below) in
-    let before : List ℕ = string_bytes c.push_entry.new.text in
+    let before : List ℕ = c.push_entry.new.text.items in
     let more = entries_of_nodes-more nodes c.loop-child.child-index node c.loop-child-test.true c.child-item.is in
     let below = placed_at-under node.name (entries_from node.inode node.below) in (
       c.in_ok-push_under.ensures.text [] c.loop-child.invariant.1
@@ -30,7 +30,7 @@ loop-child-preserved c =
 pub returns : goal.returns
 returns c =
     let nodes : List NodeView = c.children-child-items.result.now in
-    let before : List ℕ = string_bytes c.args.text.now in
+    let before : List ℕ = c.args.text.now.items in
     let inode : Inode = c.children-child-items.ensures.0 in
     let below : Entries = entries_of_nodes (take c.loop-child.child-index nodes) in
     let whole : entries_from inode below ≡ c.args.layer.now =
@@ -38,7 +38,7 @@ returns c =
     ∙ (sym c.children-child-items.ensures.1 ∙ c.root-root.ensures.value) in
     let at : Some inode ≡ Some c.inode.result.now = ap (λ (entries : Entries). entry_at entries []) (sym c.children-child-items.ensures.1) ∙ c.inode.ensures in
     let same : c.inode.result.now ≡ inode = cc in
-    let root : Grows before (compact_text (entry_value written ([], inode))) (string_bytes c.push_entry.new.text) =
+    let root : Grows before (compact_text (entry_value written ([], inode))) (c.push_entry.new.text.items) =
     record { is = c.in_ok-push_entry.ensures [] refl ∙ ap (λ (own : Inode). before ++ compact_text (entry_value written ([], own))) same } in
-    let rest : Grows (string_bytes c.push_entry.new.text) (entries_text written true below) (string_bytes c.loop-child.text) = record { is = c.loop-child.invariant.0 } in
+    let rest : Grows (c.push_entry.new.text.items) (entries_text written true below) (c.loop-child.text.items) = record { is = c.loop-child.invariant.0 } in
     (onto root rest).is ∙ ap (λ (es : Entries). before ++ entries_text written false es) whole

@@ -1,5 +1,5 @@
-use Rattle.std.proofs.Common.{rules, ◌≡◌, ◌++◌, [], ◌∙◌, ℕ, List, false, sym, ap, append-nil, append_assoc, string_bytes}
-use Rattle.std.specs.Prelude.{codes, decimal}
+use Rattle.std.proofs.Common.{rules, ◌≡◌, ◌++◌, [], ◌∙◌, ℕ, List, false, sym, ap, append-nil, append_assoc}
+use Rattle.std.specs.Prelude.{codes, decimal, OnOk}
 use Rattle.std.proofs.lemmas.Result.{on_ok_weaker}
 use Rattle.serde_json.specs.Written.{compact_text}
 use Rattle.ovl_manifest.specs.Compact.{entries_text}
@@ -12,17 +12,24 @@ use Rattle.ovl_manifest.proofs.writing.push_layer.Goals as goal
 pub returns : goal.returns
 returns c =
     let layer : Entries = c.args.layer.now in
-    let text : List ℕ = string_bytes c.args.text.now in
+    let text : List ℕ = c.args.text.now.items in
     let entries : List ℕ = entries_text written false layer in
     let number : List ℕ = decimal (version_number written) in
-    let begin : Grows text (codes "{\"entries\":[") (string_bytes c.push_str.new.self) = record { is = c.in_ok-push_str.ensures.bytes } in
-    let listed : Grows (string_bytes c.push_str.new.self) entries (string_bytes c.push_entries.new.text) = record { is = search rules } in
-    let named : Grows (string_bytes c.push_entries.new.text) (codes "],\"overlay-layer\":" ++ number) (string_bytes c.push_number.new.text) =
-    record { is = c.in_ok-push_number.ensures ∙ ap (λ (n : ℕ). string_bytes c.push_entries.new.text ++ (codes "],\"overlay-layer\":" ++ decimal n)) c.number.ensures } in
-    on_ok_weaker c.push_str-2.result (λ e.
-    let end : Grows (string_bytes c.push_number.new.text) (codes "}") (string_bytes c.push_str-2.new.self) = record { is = e } in
+    let begin : Grows text (codes "{\"entries\":[") c.extend_from_slice.new.self.items =
+    record { is = c.in_ok-extend_from_slice.ensures.items ∙ ap (λ (t : List ℕ). text ++ t) c.as_bytes.ensures.value } in
+    let listed : Grows c.extend_from_slice.new.self.items entries c.push_entries.new.text.items = record { is = search rules } in
+    let short : c.as_slice.result.now ≡ codes "],\"overlay-layer\":" ++ (number ++ codes "}") =
+    c.as_slice.ensures
+    ∙ (c.put-2.ensures
+    ∙ ap (λ (t : List ℕ). codes "],\"overlay-layer\":" ++ t) (c.put_number.ensures.text
+    ∙ (ap (λ (n : ℕ). decimal n ++ c.put.new.self) c.number.ensures
+    ∙ ap (λ (t : List ℕ). number ++ t) (c.put.ensures ∙ ap (λ (t : List ℕ). codes "}" ++ t) c.new-short.ensures)))) in
+    let pushed : OnOk c.extend_from_slice-2.result (c.extend_from_slice-2.new.self.items ≡ c.push_entries.new.text.items ++ c.as_slice.result.now) = search rules in
+    on_ok_weaker c.extend_from_slice-2.result (λ e.
+    let end : Grows c.push_entries.new.text.items (codes "],\"overlay-layer\":" ++ (number ++ codes "}")) c.extend_from_slice-2.new.self.items =
+    record { is = e ∙ ap (λ (t : List ℕ). c.push_entries.new.text.items ++ t) short } in
     let closed : entries ++ (codes "],\"overlay-layer\":" ++ (number ++ codes "}")) ≡ (entries ++ codes "]") ++ (codes ",\"overlay-layer\":" ++ (number ++ codes "}")) =
     sym (append_assoc entries (codes "]") (codes ",\"overlay-layer\":" ++ (number ++ codes "}"))) in
-    (onto begin (onto listed (onto named end))).is
+    (onto begin (onto listed end)).is
     ∙ ap (λ (t : List ℕ). text ++ t) (ap (λ (t : List ℕ). codes "{\"entries\":[" ++ t) (closed ∙ ap (λ (t : List ℕ). t ++ (codes ",\"overlay-layer\":" ++ (number ++ codes "}"))) (sym (items-entries written false layer)))
-    ∙ (layer_text written layer [] ∙ append-nil (compact_text (layer_value written layer))))) (search rules)
+    ∙ (layer_text written layer [] ∙ append-nil (compact_text (layer_value written layer))))) pushed

@@ -1,4 +1,4 @@
-use Rattle.std.proofs.Common.{◌≡◌, ◌++◌, Bool, false, string_bytes}
+use Rattle.std.proofs.Common.{◌≡◌, ◌++◌, Bool, false}
 use Rattle.std.specs.Prelude.{codes}
 use Rattle.serde_json.specs.Written.{comma_if}
 use Rattle.ovl_manifest.specs.Compact.{attributes_text}
@@ -8,4 +8,4 @@ use Rattle.ovl_manifest.proofs.written_entries.push_attributes.Given as goal
 abbrev pub invariant-loop-name : goal.invariant-loop-name
 invariant-loop-name l =
     (before : Bool) × (l.comma ≡ comma_if before)
-    × (string_bytes l.text ++ attributes_text before l.name-iterator ≡ (string_bytes l.fn.text ++ codes "{") ++ attributes_text false l.attrs)
+    × (l.text.items ++ attributes_text before l.name-iterator ≡ (l.fn.text.items ++ codes "{") ++ attributes_text false l.attrs)
