@@ -4,7 +4,8 @@ ghost use Rattle.std.specs.Option.{option_map};
 ghost use Rattle.ovl_inode.specs.declared.attributes.AttrFault.TheVariants.{Name, Memory};
 ghost use Rattle.ovl_inode.specs.Equal.{attributes_eq};
 ghost use Rattle.ovl_inode.specs.EqualLaws.{attributes_eq_equiv};
-ghost use Rattle.ovl_inode.specs.Attributes.{attribute, with_attribute, attribute_fault, attribute_refusal, is_attribute_name, are_attributes, visible_attributes, is_overlay_name as overlay_name_test};
+ghost use Rattle.ovl_inode.specs.Attributes.{attribute, with_attribute, attribute_fault, attribute_refusal, is_attribute_name, are_attributes, visible_attributes};
+ghost use Rattle.ovl_inode.specs.Attributes as attributes;
 
 use crate::overlay;
 use crate::tables::{Pairs, Table};
@@ -205,7 +206,7 @@ fn check_name(name: &str) -> Result<(), AttrFault>
 
 // Whether the name begins with `trusted.overlay.`.
 fn is_overlay_name(name: &str) -> bool
-    ensures { result ≡ overlay_name_test name.now }
+    ensures { result ≡ attributes.is_overlay_name name.now }
 {
     name.as_bytes().starts_with(overlay::PREFIX.as_bytes())
 }

@@ -3,7 +3,7 @@ ghost use Rattle.std.specs.Prelude.{◌≡◌, ◌++◌, ◌≤◌, drop, length
 ghost use Rattle.std.specs.List.{list_all};
 ghost use Rattle.std.specs.Simd.Lanes.{mask_l};
 ghost use Rattle.hex.specs.Hex.{decode_sized, encode_lower};
-ghost use Rattle.ovl_inode.specs.Hexadecimal.{is_lower_digit as lower_digit_test};
+ghost use Rattle.ovl_inode.specs.Hexadecimal as hexadecimal;
 ghost use Rattle.ovl_inode.specs.DigitLanes.{lane_value, lane_digit, block_bytes};
 
 use std::simd::prelude::*;
@@ -11,7 +11,7 @@ use std::simd::prelude::*;
 // The lanes that hold a digit, a bit each.
 #[inline(always)]
 fn lower_lanes(lanes: u8x16) -> u64
-    ensures { result ≡ mask_l (map lower_digit_test lanes) }
+    ensures { result ≡ mask_l (map hexadecimal.is_lower_digit lanes) }
 {
     ((lanes.simd_ge(u8x16::splat(b'0')) & lanes.simd_le(u8x16::splat(b'9')))
         | (lanes.simd_ge(u8x16::splat(b'a')) & lanes.simd_le(u8x16::splat(b'f')))).to_bitmask()
@@ -19,14 +19,14 @@ fn lower_lanes(lanes: u8x16) -> u64
 
 #[inline(always)]
 fn is_lower_block(lanes: u8x16) -> bool
-    ensures { result ≡ list_all lower_digit_test lanes }
+    ensures { result ≡ list_all hexadecimal.is_lower_digit lanes }
 {
     lower_lanes(lanes) == 0xffff
 }
 
 #[inline(always)]
 fn is_lower_digit(byte: u8) -> bool
-    ensures { result ≡ lower_digit_test byte }
+    ensures { result ≡ hexadecimal.is_lower_digit byte }
 {
     ((b'0' <= byte) & (byte <= b'9')) | ((b'a' <= byte) & (byte <= b'f'))
 }
@@ -35,7 +35,7 @@ fn is_lower_digit(byte: u8) -> bool
 #[inline(always)]
 fn are_lower_tail(text: &[u8], from: usize) -> bool
     requires { from ≤ length text.now }
-    ensures { result ≡ list_all lower_digit_test (drop from text.now) }
+    ensures { result ≡ list_all hexadecimal.is_lower_digit (drop from text.now) }
 {
     let mut are = true;
     let mut i = text.len();
@@ -48,7 +48,7 @@ fn are_lower_tail(text: &[u8], from: usize) -> bool
 
 /// Whether each byte is one of `0` to `9` and `a` to `f`.
 pub fn are_lower_digits(text: &[u8]) -> bool
-    ensures { result ≡ list_all lower_digit_test text.now }
+    ensures { result ≡ list_all hexadecimal.is_lower_digit text.now }
 {
     let mut are = true;
     let mut place = 0;
@@ -89,7 +89,7 @@ fn pair_block(first: u8x16, second: u8x16) -> u8x16
 /// The 32 bytes that 64 digits spell.
 pub(crate) fn bytes_of_digits(digits: &[u8]) -> [u8; 32]
     requires count { length digits.now ≡ 64 }
-    requires lower { list_all lower_digit_test digits.now ≡ true }
+    requires lower { list_all hexadecimal.is_lower_digit digits.now ≡ true }
     ensures { decode_sized digits.now 32 ≡ Ok result }
 {
     let front = pair_block(

@@ -3,8 +3,10 @@ ghost use Rattle.std.specs.Cmp.{partial_equiv_from_equiv};
 ghost use Rattle.std.specs.Cmp.Lexicographic.{nat_list_eq_equiv};
 ghost use Rattle.std.specs.Str.{bytes_eq};
 ghost use Rattle.ovl_inode.specs.Sound.{is_sound_inode, is_sound_kind, has_sound_blob, is_target};
-ghost use Rattle.ovl_inode.specs.Kinds.{kind_word, size_of, blob_of as the_blob};
-ghost use Rattle.ovl_inode.specs.Inodes.{inode_with, visible as visible_inode};
+ghost use Rattle.ovl_inode.specs.Kinds.{kind_word, size_of};
+ghost use Rattle.ovl_inode.specs.Kinds as kinds;
+ghost use Rattle.ovl_inode.specs.Inodes.{inode_with};
+ghost use Rattle.ovl_inode.specs.Inodes as inodes;
 ghost use Rattle.ovl_inode.specs.Equal.{kind_eq, inode_eq};
 ghost use Rattle.ovl_inode.specs.EqualLaws.{kind_eq_equiv, inode_eq_equiv};
 
@@ -259,7 +261,7 @@ pub fn file_size(inode: &Inode) -> u64
 
 /// The digest that a regular file names as its contents, if it names one.
 pub fn blob_of(inode: &Inode) -> Option<Digest>
-    ensures { result ≡ the_blob inode.now }
+    ensures { result ≡ kinds.blob_of inode.now }
 {
     match &inode.kind {
         Kind::File { blob, .. } => *blob,
@@ -270,7 +272,7 @@ pub fn blob_of(inode: &Inode) -> Option<Digest>
 /// The inode as the merged tree shows it: without the attributes whose name begins with
 /// `trusted.overlay.`. Fails only when out of memory.
 pub fn visible(alloc: Global, inode: &Inode) -> Result<Inode, AllocError>
-    ensures { IfOk result (λ shown. shown ≡ visible_inode inode.now) }
+    ensures { IfOk result (λ shown. shown ≡ inodes.visible inode.now) }
 {
     Ok(inode.with(inode.kind.copy(alloc)?, inode.attrs.visible(alloc)?))
 }

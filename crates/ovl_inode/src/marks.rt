@@ -4,8 +4,10 @@ ghost use Rattle.std.specs.Str.{is_utf8};
 ghost use Rattle.ovl_names.specs.Names.{slash};
 ghost use Rattle.ovl_names.specs.Paths.{parts_between};
 ghost use Rattle.ovl_inode.specs.declared.marks.RedirectFault.TheVariants.{Memory};
-ghost use Rattle.ovl_inode.specs.Redirects.{redirect_fault, redirect_of, redirect_refusal, is_absolute, is_bad_part as bad_part_test};
-ghost use Rattle.ovl_inode.specs.Marks.{mark_of as the_mark, is_whiteout as the_whiteout, is_directory as the_directory, is_regular as the_regular, is_data as data_test, redirect_reading as the_reading};
+ghost use Rattle.ovl_inode.specs.Redirects.{redirect_fault, redirect_of, redirect_refusal, is_absolute};
+ghost use Rattle.ovl_inode.specs.Redirects as redirects;
+ghost use Rattle.ovl_inode.specs.Marks.{is_regular};
+ghost use Rattle.ovl_inode.specs.Marks as marks;
 
 use crate::{Inode, Kind, overlay};
 use ovl_names::{NAME_LIMIT, Name, Path, has_empty_part};
@@ -121,7 +123,7 @@ fn path_to(alloc: Global, rest: &str) -> Result<Path, RedirectFault>
 }
 
 fn has_bad_part(rest: &str) -> bool
-    ensures { result ≡ list_any bad_part_test (parts_between rest.now) }
+    ensures { result ≡ list_any redirects.is_bad_part (parts_between rest.now) }
 {
     rest.split('/').any(|part| is_bad_part(part))
 }
@@ -149,14 +151,14 @@ fn name_beside(alloc: Global, text: &str) -> Result<Name, RedirectFault>
 }
 
 fn is_bad_part(part: &str) -> bool
-    ensures { result ≡ bad_part_test part.now }
+    ensures { result ≡ redirects.is_bad_part part.now }
 {
     part == "." || part == ".." || part.len() > NAME_LIMIT
 }
 
 /// What an inode means to the overlay, see [`Mark`]; fails only when out of memory.
 pub fn mark_of(alloc: Global, inode: &Inode) -> Result<Mark, AllocError>
-    ensures { IfOk result (λ mark. mark ≡ the_mark inode.now) }
+    ensures { IfOk result (λ mark. mark ≡ marks.mark_of inode.now) }
 {
     if is_whiteout(inode) {
         return Ok(Mark::Whiteout);
@@ -172,7 +174,7 @@ pub fn mark_of(alloc: Global, inode: &Inode) -> Result<Mark, AllocError>
 /// of size 0 with the attribute `trusted.overlay.whiteout` of any value. overlayfs.rst: "whiteouts
 /// and opaque directories".
 pub fn is_whiteout(inode: &Inode) -> bool
-    ensures { result ≡ the_whiteout inode.now }
+    ensures { result ≡ marks.is_whiteout inode.now }
 {
     match &inode.kind {
         Kind::Char { major, minor } => *major == 0 && *minor == 0,
@@ -183,7 +185,7 @@ pub fn is_whiteout(inode: &Inode) -> bool
 
 /// Whether the inode is a directory.
 pub fn is_directory(inode: &Inode) -> bool
-    ensures { result ≡ the_directory inode.now }
+    ensures { result ≡ marks.is_directory inode.now }
 {
     matches!(&inode.kind, Kind::Dir)
 }
@@ -191,14 +193,14 @@ pub fn is_directory(inode: &Inode) -> bool
 /// Whether the inode is a regular file without the attribute `metacopy`, whose contents are its
 /// own. overlayfs.rst: "Metadata only copy up".
 pub fn is_data(inode: &Inode) -> bool
-    ensures { result ≡ data_test inode.now }
+    ensures { result ≡ marks.is_data inode.now }
 {
     matches!(&inode.kind, Kind::File { .. }) && inode.attrs.get(overlay::METACOPY).is_none()
 }
 
 fn directory_mark(alloc: Global, inode: &Inode) -> Result<Mark, AllocError>
-    requires { the_directory inode.now ≡ true }
-    ensures { IfOk result (λ mark. mark ≡ the_mark inode.now) }
+    requires { marks.is_directory inode.now ≡ true }
+    ensures { IfOk result (λ mark. mark ≡ marks.mark_of inode.now) }
 {
     if inode.attrs.get(overlay::OPAQUE) == Some(b"y".as_slice()) {
         return Ok(Mark::DirOpaque);
@@ -211,9 +213,9 @@ fn directory_mark(alloc: Global, inode: &Inode) -> Result<Mark, AllocError>
 }
 
 fn file_mark(alloc: Global, inode: &Inode) -> Result<Mark, AllocError>
-    requires file { the_regular inode.now ≡ true }
-    requires no_whiteout { the_whiteout inode.now ≡ false }
-    ensures { IfOk result (λ mark. mark ≡ the_mark inode.now) }
+    requires file { is_regular inode.now ≡ true }
+    requires no_whiteout { marks.is_whiteout inode.now ≡ false }
+    ensures { IfOk result (λ mark. mark ≡ marks.mark_of inode.now) }
 {
     if inode.attrs.get(overlay::METACOPY).is_none() {
         return Ok(Mark::Leaf);
@@ -234,7 +236,7 @@ enum RedirectReading {
 }
 
 fn redirect_reading(alloc: Global, inode: &Inode) -> Result<RedirectReading, AllocError>
-    ensures { IfOk result (λ reading. reading ≡ the_reading inode.now) }
+    ensures { IfOk result (λ reading. reading ≡ marks.redirect_reading inode.now) }
 {
     let Some(value) = inode.attrs.get(overlay::REDIRECT) else {
         return Ok(RedirectReading::Absent);

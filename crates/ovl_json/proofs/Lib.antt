@@ -1,3 +1,4 @@
 pub mod Turns
 pub mod NumberLemmas
 pub mod ViewLemmas
+pub mod MemberLemmas

@@ -5,7 +5,8 @@ ghost use Rattle.serde_json.specs.Events.{members_len};
 ghost use Rattle.serde_json.specs.Find.{get, as_str, as_number, as_object, as_array};
 ghost use Rattle.serde_json.specs.View.{number_view};
 ghost use Rattle.ovl_json.specs.Kept.{kept, text_kept, texts_kept, object_kept};
-ghost use Rattle.ovl_json.specs.Reading.{read_value, read_members as members_read};
+ghost use Rattle.ovl_json.specs.Reading.{read_value};
+ghost use Rattle.ovl_json.specs.Reading as reading;
 ghost use Rattle.ovl_json.specs.Views.{text_view, texts_view, member_view, object_view};
 
 use crate::beginnings::{Beginning, begin};
@@ -128,9 +129,9 @@ fn read_members<'a>(
     reader: &mut Reader<'a>,
     depth: usize,
 ) -> Result<Option<Object<'a>>, Unread>
-    requires { is_some (members_read depth no_members reader.old) ≡ true }
-    ensures { IfOk result (λ own. IsSomeAnd (members_read depth no_members reader.old) (λ read.
-        (read.1 ≡ reader.new)
+    requires { is_some (reading.read_members depth no_members reader.old) ≡ true }
+    ensures { IfOk result (λ own. IsSomeAnd (reading.read_members depth no_members reader.old)
+        (λ read. (read.1 ≡ reader.new)
         × (option_map object_view own ≡ object_kept (object read.0)))) }
 {
     let mut members = BTreeMap::new(alloc);
@@ -169,9 +170,9 @@ fn read_member<'a>(
 
 // The texts of an object whose brace was read.
 fn read_texts<'a>(alloc: Global, reader: &mut Reader<'a>, depth: usize) -> Result<Texts<'a>, Unread>
-    requires { is_some (members_read depth no_members reader.old) ≡ true }
-    ensures { IfOk result (λ own. IsSomeAnd (members_read depth no_members reader.old) (λ read.
-        (read.1 ≡ reader.new) × (texts_view own.entries ≡ texts_kept read.0))) }
+    requires { is_some (reading.read_members depth no_members reader.old) ≡ true }
+    ensures { IfOk result (λ own. IsSomeAnd (reading.read_members depth no_members reader.old)
+        (λ read. (read.1 ≡ reader.new) × (texts_view own.entries ≡ texts_kept read.0))) }
 {
     let mut texts = BTreeMap::new(alloc);
     while let Some(name) = reader.next_key()? {

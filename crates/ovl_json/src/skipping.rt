@@ -1,5 +1,5 @@
 ghost use Rattle.std.specs.Prelude.{◌≡◌, ◌<◌, Some, OnOk, length};
-ghost use Rattle.json.specs.Reads.{skip_items as items_skipped, skip_members as members_skipped};
+ghost use Rattle.json.specs.Reads as reads;
 
 use json::{Invalid, Reader};
 use std::alloc::{AllocError, AllocFailed};
@@ -30,7 +30,7 @@ impl From<Invalid> for Unread {
 /// Skips the items of an array whose bracket was read, each nested at most `depth` deep, and the
 /// bracket that closes it.
 pub fn skip_items(reader: &mut Reader<'_>, depth: usize) -> Result<(), Unread>
-    ensures value { OnOk result (items_skipped depth reader.old ≡ Some reader.new) }
+    ensures value { OnOk result (reads.skip_items depth reader.old ≡ Some reader.new) }
     ensures shorter { OnOk result (length reader.new < length reader.old) }
 {
     while !reader.take_end_array() {
@@ -42,7 +42,7 @@ pub fn skip_items(reader: &mut Reader<'_>, depth: usize) -> Result<(), Unread>
 /// Skips the members of an object whose brace was read, each nested at most `depth` deep, and the
 /// brace that closes it.
 pub fn skip_members(reader: &mut Reader<'_>, depth: usize) -> Result<(), Unread>
-    ensures value { OnOk result (members_skipped depth reader.old ≡ Some reader.new) }
+    ensures value { OnOk result (reads.skip_members depth reader.old ≡ Some reader.new) }
     ensures shorter { OnOk result (length reader.new < length reader.old) }
 {
     while let Some(_) = reader.next_key()? {

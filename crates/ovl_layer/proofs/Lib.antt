@@ -7,6 +7,7 @@ pub mod KidListLemmas
 pub mod LayerLemmas
 pub mod NodeLemmas
 pub mod OpenLemmas
+pub mod PlaceLemmas
 pub mod SheetDraftLemmas
 pub mod SheetLemmas
 pub mod SheetPassLemmas

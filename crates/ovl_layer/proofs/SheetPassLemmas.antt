@@ -288,13 +288,21 @@ parents-count directory before old entries is =
 
 -- ---- one node after another, as a vector of them is used up
 
-pub yielded-room : (nodes front rest kids : List NodeView) (node : NodeView) → front ++ node ∷ rest ≡ nodes → entries_of_nodes kids ≡ node.below → length (entries_of_nodes front) + suc (length (entries_of_nodes kids)) ≤ length (entries_of_nodes nodes)
+yielded-room : (nodes front rest kids : List NodeView) (node : NodeView) → front ++ node ∷ rest ≡ nodes → entries_of_nodes kids ≡ node.below → length (entries_of_nodes front) + suc (length (entries_of_nodes kids)) ≤ length (entries_of_nodes nodes)
 yielded-room nodes front rest kids node whole below =
     omega (arith, ap (λ (ns : List NodeView). length (entries_of_nodes ns)) whole, ap length (entries_of_nodes-append front (node ∷ rest)), length-append (entries_of_nodes front) (entries_of_nodes (node ∷ rest)), length-append (under node.name (entries_from node.inode node.below)) (entries_of_nodes rest), length-under node.name (entries_from node.inode node.below), ap length below)
 
-pub rows-count : (before old : List SheetRow) (parents afters : List ℕ) (entries : Entries) → old ≡ before ++ rows_from parents afters (length before) entries → length old ≡ length before + length entries
+rows-count : (before old : List SheetRow) (parents afters : List ℕ) (entries : Entries) → old ≡ before ++ rows_from parents afters (length before) entries → length old ≡ length before + length entries
 rows-count before old parents afters entries is =
     ap length is ∙ (length-append before (rows_from parents afters (length before) entries) ∙ omega (arith, rows-length parents afters (length before) entries))
+
+-- how many rows there are before a node, and that there is room for it and those below it
+pub node-room : (nodes front left rest kids : List NodeView) (node : NodeView) (before old : List SheetRow) (parents afters : List ℕ) → left ≡ node ∷ rest → front ++ left ≡ nodes → entries_of_nodes kids ≡ node.below → old ≡ before ++ rows_from parents afters (length before) (entries_of_nodes front)
+    → (length old ≡ length before + length (entries_of_nodes front)) × (length (entries_of_nodes front) + suc (length (entries_of_nodes kids)) ≤ length (entries_of_nodes nodes))
+node-room nodes front left rest kids node before old parents afters next whole below rows = (
+  rows-count before old parents afters (entries_of_nodes front) rows,
+  yielded-room nodes front rest kids node (ap (λ (ns : List NodeView). front ++ ns) (sym next) ∙ whole) below,
+)
 
 pub rows-more : (before old pushed new : List SheetRow) (parents afters : List ℕ) (front kids : List NodeView) (node : NodeView) → entries_of_nodes kids ≡ node.below
     → old ≡ before ++ rows_from parents afters (length before) (entries_of_nodes front)

@@ -10,7 +10,7 @@ ghost use Rattle.std.specs.Ordering.{is_lt};
 ghost use Rattle.ovl_layer.specs.Layers.{entry_cmp, is_directory_at};
 ghost use Rattle.ovl_layer.specs.LayerTrees.{under, entries_from, grown};
 ghost use Rattle.ovl_layer.specs.Entries.{comes_after};
-ghost use Rattle.ovl_layer.specs.Drafts.{draft_entries, inode_on_way as way_inode, IsDraft, CanTake};
+ghost use Rattle.ovl_layer.specs.Drafts.{draft_entries, inode_on_way, IsDraft, CanTake};
 
 use crate::trees::{Layer, Node};
 use ovl_inode::{Inode, is_directory};
@@ -72,7 +72,7 @@ impl Draft {
     // The inode of the directory on the way to the last entry that has `depth` names.
     fn inode_on_way(&self, depth: usize) -> &Inode
         requires { depth ≤ vec_len self.now.spine }
-        ensures { result.now ≡ way_inode self.now.inode self.now.spine.items depth }
+        ensures { result.now ≡ inode_on_way self.now.inode self.now.spine.items depth }
     {
         if depth == 0 {
             &self.inode

@@ -1,7 +1,8 @@
 ghost use Rattle.std.specs.Prelude.{◌≡◌, ◌<◌, ◌≤◌, ◌↔◌, Ok, Err, Some, IfSome, IsTrue, MatchResult, [], length, take};
 ghost use Rattle.ovl_names.specs.Paths.{child_path};
-ghost use Rattle.ovl_inode.specs.Attributes.{has_escaped_name as escaped_test, is_escaped_name as escaped_name_test};
-ghost use Rattle.ovl_layer.specs.Layers.{entry_limit, is_within_limits as within_limits_test};
+ghost use Rattle.ovl_inode.specs.Attributes as attributes;
+ghost use Rattle.ovl_layer.specs.Layers.{entry_limit};
+ghost use Rattle.ovl_layer.specs.Layers as layers;
 ghost use Rattle.ovl_layer.specs.Entries.{is_statable, stated_pair, entry_after, layer_of_pairs, is_miscounted, first_fault, is_of_first, IsFaultOf};
 ghost use Rattle.ovl_layer.specs.declared.faults.LayerFault.{LayerFault};
 ghost use Rattle.ovl_layer.specs.declared.faults.LayerFault.TheVariants.{Count};
@@ -192,7 +193,7 @@ pub(crate) fn stated(entry: (Path, Inode)) -> Option<(Path, Inode)>
 
 // Whether the path has at most `DEPTH_LIMIT` names, and its text at most `TEXT_LIMIT` bytes.
 fn is_within_limits(path: &Path) -> bool
-    ensures { result ≡ within_limits_test path.now }
+    ensures { result ≡ layers.is_within_limits path.now }
 {
     if path.len() > DEPTH_LIMIT {
         return false;
@@ -210,7 +211,7 @@ const SHORT: usize = 15;
 
 // The same of the path of the entry `name` of a directory.
 fn is_child_within_limits(directory: &Path, name: &Name) -> bool
-    ensures { result ≡ within_limits_test (child_path directory.now name.now) }
+    ensures { result ≡ layers.is_within_limits (child_path directory.now name.now) }
 {
     let names = directory.names();
     let last = name.as_str();
@@ -229,13 +230,13 @@ fn is_child_within_limits(directory: &Path, name: &Name) -> bool
 
 /// Whether the name of some attribute begins with `overlay::ESCAPED_PREFIX`.
 pub fn has_escaped_name(attrs: &Attrs) -> bool
-    ensures { result ≡ escaped_test attrs.now }
+    ensures { result ≡ attributes.has_escaped_name attrs.now }
 {
     attrs.pairs().any(|(name, _)| is_escaped_name(name))
 }
 
 fn is_escaped_name(name: &str) -> bool
-    ensures { result ≡ escaped_name_test name.now }
+    ensures { result ≡ attributes.is_escaped_name name.now }
 {
     name.as_bytes()
         .starts_with(overlay::ESCAPED_PREFIX.as_bytes())

@@ -1,5 +1,5 @@
 ghost use Rattle.std.specs.Prelude.{◌≡◌, ◌<◌, ◌++◌, [], ◌∷◌, length, slice_get, Some, IfOk, IfSome, OnOk};
-ghost use Rattle.ovl_inode.specs.Marks.{mark_of as the_mark};
+ghost use Rattle.ovl_inode.specs.Marks.{mark_of};
 ghost use Rattle.ovl_layer.specs.Layers.{entry_limit};
 ghost use Rattle.ovl_layer.specs.MarkLists.{plain_marks};
 
@@ -48,7 +48,7 @@ impl MarkList {
     /// Adds the mark of the next row, by its inode.
     pub(crate) fn push_of(&mut self, alloc: Global, inode: &Inode) -> Result<(), AllocError>
         requires { length self.old < entry_limit }
-        ensures { OnOk result (self.new ≡ self.old ++ the_mark inode.now ∷ []) }
+        ensures { OnOk result (self.new ≡ self.old ++ mark_of inode.now ∷ []) }
     {
         if let Some(number) = bare_number(inode) {
             self.numbers.push(number)?;
@@ -85,7 +85,7 @@ impl MarkList {
 // The number of the mark of an inode without attributes. A device may be a whiteout, and is left to
 // `mark_of`.
 fn bare_number(inode: &Inode) -> Option<u32>
-    ensures { IfSome result (λ number. slice_get plain_marks number ≡ Some (the_mark inode.now)) }
+    ensures { IfSome result (λ number. slice_get plain_marks number ≡ Some (mark_of inode.now)) }
 {
     if !inode.attrs.pairs().is_empty() {
         return None;

@@ -3,11 +3,12 @@ ghost use Rattle.std.specs.Option.{option_map};
 ghost use Rattle.std.specs.List.{All};
 ghost use Rattle.std.specs.Vec.{vec_capacity};
 ghost use Rattle.ovl_names.specs.Paths.{child_path};
-ghost use Rattle.ovl_inode.specs.Marks.{mark_of as the_mark};
+ghost use Rattle.ovl_inode.specs.Marks.{mark_of};
 ghost use Rattle.ovl_layer.specs.Layers.{IsLayer, entry_at, names_below, entry_limit};
 ghost use Rattle.ovl_layer.specs.LayerTrees.{entries_in, entries_under, entries_of_nodes};
 ghost use Rattle.ovl_layer.specs.Sheets.{IsRowOf, AreRows, path_at, last_name, entries_of_rows, afters_from};
-ghost use Rattle.ovl_layer.specs.SheetPasses.{AddsParents, IsRoomFor, rows_from, kid_order, depths_of as the_depths, with_afters};
+ghost use Rattle.ovl_layer.specs.SheetPasses.{AddsParents, IsRoomFor, rows_from, kid_order, with_afters};
+ghost use Rattle.ovl_layer.specs.SheetPasses as sheet_passes;
 
 use crate::kid_lists::KidLists;
 use crate::mark_lists::MarkList;
@@ -150,7 +151,7 @@ impl Sheet {
     /// rows. Takes no memory.
     pub fn mark(&self, number: u32) -> &Mark
         requires { number < length self.now }
-        ensures { option_map the_mark (entry_at self.now (path_at self.now number))
+        ensures { option_map mark_of (entry_at self.now (path_at self.now number))
             ≡ Some result.now }
     {
         self.marks.at(number)
@@ -262,7 +263,7 @@ impl<'a> SheetPlace<'a> {
 
     /// The mark of the place, as its inode alone says it; takes no memory.
     pub fn mark(&self) -> &'a Mark
-        ensures { option_map the_mark (entry_at self.now []) ≡ Some result.now }
+        ensures { option_map mark_of (entry_at self.now []) ≡ Some result.now }
     {
         let sheet = self.sheet;
         sheet.mark(self.number)
@@ -372,7 +373,7 @@ fn push_afters(nodes: &[Node], afters: &mut Vec<u32>) -> Result<(), AllocError>
 fn push_marks(alloc: Global, nodes: &[Node], marks: &mut MarkList) -> Result<(), AllocError>
     requires limit { length marks.old + length (entries_of_nodes nodes.now) ≤ entry_limit }
     ensures { OnOk result (marks.new
-        ≡ marks.old ++ map (λ entry. the_mark entry.1) (entries_of_nodes nodes.now)) }
+        ≡ marks.old ++ map (λ entry. mark_of entry.1) (entries_of_nodes nodes.now)) }
 {
     for node in nodes {
         marks.push_of(alloc, &node.inode)?;
@@ -385,7 +386,8 @@ fn push_marks(alloc: Global, nodes: &[Node], marks: &mut MarkList) -> Result<(),
 fn depths_of(alloc: Global, rows: &[SheetRow]) -> Result<Vec<u32>, AllocError>
     requires rows { AreRows rows.now }
     requires limit { length rows.now < 2 ^ 32 }
-    ensures { IfOk result (λ depths. depths.items ≡ the_depths (entries_of_rows rows.now)) }
+    ensures { IfOk result
+        (λ depths. depths.items ≡ sheet_passes.depths_of (entries_of_rows rows.now)) }
 {
     let mut depths = Vec::with_capacity(alloc, rows.len())?;
     for row in rows {
@@ -401,7 +403,7 @@ fn depths_of(alloc: Global, rows: &[SheetRow]) -> Result<Vec<u32>, AllocError>
 // Sets the number after the subtree of each row: those under a row follow it and have more names.
 fn set_afters(depths: &[u32], rows: &mut Vec<SheetRow>)
     requires limit { vec_len rows.old < 2 ^ 32 }
-    requires depths { depths.now ≡ the_depths (entries_of_rows rows.old.items) }
+    requires depths { depths.now ≡ sheet_passes.depths_of (entries_of_rows rows.old.items) }
     ensures { rows.new.items
         ≡ with_afters (afters_from 0 (entries_of_rows rows.old.items)) rows.old.items }
 {

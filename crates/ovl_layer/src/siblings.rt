@@ -1,5 +1,5 @@
 ghost use Rattle.std.specs.Prelude.{◌≡◌, ◌↔◌, ◌&&◌, not, false, [], ◌∷◌, ◌++◌, Err, IfOk, OnErr, IsTrue, MatchOption};
-ghost use Rattle.ovl_inode.specs.Attributes.{has_escaped_name as has_escaped};
+ghost use Rattle.ovl_inode.specs.Attributes.{has_escaped_name};
 ghost use Rattle.ovl_inode.specs.Marks.{is_directory};
 ghost use Rattle.ovl_inode.specs.Sound.{is_sound_inode};
 ghost use Rattle.ovl_layer.specs.Layers.{Entries, IsLayer};
@@ -97,7 +97,7 @@ impl Siblings {
     fn takes(&self, name: &Name, inode: &Inode) -> bool
         ensures { result
             ≡ comes_after self.now (name.now ∷ []) && is_sound_inode inode.now
-            && not (has_escaped inode.now.attrs) }
+            && not (has_escaped_name inode.now.attrs) }
     {
         self.comes_last(name) && sound(inode) && !has_escaped_name(&inode.attrs)
     }

@@ -3,7 +3,7 @@ use Rattle.std.proofs.Common.{◌≡◌, ℕ, suc, ◌+◌, ◌<◌, ◌≤◌, 
 use Rattle.std.specs.Prelude.{is_some, IfSome, IsTrue, IsSomeAnd, IfOk, if◌then◌else◌, option_and_then, codes}
 use Rattle.std.specs.Option.{option_map}
 use Rattle.json.specs.Token.{Token}
-use Rattle.json.specs.Json.{parse_map}
+use Rattle.json.specs.Json.{after_end_array, parse_map}
 use Rattle.serde_json.specs.Data.{Num, Data, object, Items, no_items, item, Members, put}
 use Rattle.serde_json.specs.Events.{items_len}
 use Rattle.serde_json.specs.Find.{get, get_member, as_number, as_u64, as_array}
@@ -12,8 +12,8 @@ use Rattle.serde_json.specs.Read.{read, max_depth}
 use Rattle.serde_json.proofs.Views.{get_member-put, get_member-put_other}
 use Rattle.std.specs.Str.{IsUtf8, bytes_eq}
 use Rattle.std.proofs.lemmas.Slice.Eq.{bytes_eq-Decides}
-use Rattle.ovl_json.specs.Reading.{read_value}
-use Rattle.ovl_json.proofs.Turns.{read_is}
+use Rattle.ovl_json.specs.Reading.{read_value, read_items}
+use Rattle.ovl_json.proofs.Turns.{item_end, read_is}
 use Rattle.ovl_json.specs.Kept.{kept, object_kept}
 use Rattle.ovl_json.specs.declared.skipping.Unread.{Unread}
 use Rattle.ovl_layer.specs.Layers.{Entry, Entries, entry_limit}
@@ -22,7 +22,7 @@ use Rattle.ovl_manifest.specs.Versions.{version_of}
 use Rattle.ovl_manifest.specs.Manifest.{is_whole, stated_entries, layer_of_fields, layer_of_value, read_layer}
 use Rattle.ovl_layer.specs.Entries.{entry_after, entries_after, layer_of_entries, is_statable, IsFaultOf}
 use Rattle.ovl_layer.specs.Drafts.{draft_entries, IsDraft}
-use Rattle.ovl_manifest.specs.Lists.{listed, outline_of, outline, entry_on, entries_on, made, IsProgress, IsProgressOf, Tells}
+use Rattle.ovl_manifest.specs.Lists.{listed, outline_of, outline, entry_on, entries_on, made, IsProgress, IsProgressOf, Tells, item_depth}
 use Rattle.ovl_manifest.specs.declared.versions.Version.{Version}
 use Rattle.ovl_layer.specs.declared.drafts.Draft.{Draft}
 use Rattle.ovl_manifest.specs.declared.lists.Progress.{Progress}
@@ -271,9 +271,14 @@ told-draft None version draft is = absurd is
 told-draft (Some items) version draft is = is.1
 
 -- nothing more is made of no items
-pub told-end : (version : Version) (count : ℕ) (result : Result Entries LayerFault) (rest : List Token) → told version count result (Some (no_items, rest)) ≡ Some (result, count, rest)
+told-end : (version : Version) (count : ℕ) (result : Result Entries LayerFault) (rest : List Token) → told version count result (Some (no_items, rest)) ≡ Some (result, count, rest)
 told-end version count (Ok before) rest = let same : count + 0 ≡ count = omega arith in λ j. Some (Ok before, same j, rest)
 told-end version count (Err fault) rest = let same : count + 0 ≡ count = omega arith in λ j. Some (Err fault, same j, rest)
+
+-- what was told once no item is left
+pub told_at_end : (version : Version) (read : Option (Items × List Token)) (count : ℕ) (result : Result Entries LayerFault) (ts rest : List Token) → told version 0 (Ok []) read ≡ told version count result (read_items item_depth ts) → after_end_array ts ≡ Some rest
+    → told version 0 (Ok []) read ≡ Some (result, count, rest)
+told_at_end version read count result ts rest same ended = same ∙ (ap (told version count result) (item_end item_depth ts rest ended) ∙ told-end version count result rest)
 
 -- ---- the outline of a text
 

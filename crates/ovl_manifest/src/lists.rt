@@ -3,7 +3,8 @@ ghost use Rattle.std.specs.Prelude.{◌≡◌, ◌+◌, ◌<◌, true, Ok, IfOk,
 ghost use Rattle.serde_json.specs.Data.{object, no_members};
 ghost use Rattle.serde_json.specs.Find.{as_array};
 ghost use Rattle.serde_json.specs.Read.{read};
-ghost use Rattle.ovl_json.specs.Reading.{read_value, read_items as items_read, read_members as members_read};
+ghost use Rattle.ovl_json.specs.Reading.{read_value, read_members};
+ghost use Rattle.ovl_json.specs.Reading as reading;
 ghost use Rattle.ovl_layer.specs.Layers.{entry_limit};
 ghost use Rattle.ovl_manifest.specs.Fields.{entry_of};
 ghost use Rattle.ovl_layer.specs.Entries.{is_statable, entry_after, layer_of_entries, IsFaultOf};
@@ -79,9 +80,9 @@ fn read_lists(
     version: Version,
     reader: &mut Reader<'_>,
 ) -> Result<Option<Result<Draft, LayerFault>>, Unread>
-    requires { is_some (members_read member_depth no_members reader.old) ≡ true }
+    requires { is_some (read_members member_depth no_members reader.old) ≡ true }
     ensures { IfOk result
-        (λ last. IsSomeAnd (members_read member_depth no_members reader.old) (λ read.
+        (λ last. IsSomeAnd (read_members member_depth no_members reader.old) (λ read.
         TellsLast version (listed (object read.0)) last)) }
 {
     let mut last = None;
@@ -123,8 +124,8 @@ fn read_items(
     version: Version,
     reader: &mut Reader<'_>,
 ) -> Result<Result<Draft, LayerFault>, Unread>
-    requires { is_some (items_read item_depth reader.old) ≡ true }
-    ensures { IfOk result (λ told. IsSomeAnd (items_read item_depth reader.old) (λ read.
+    requires { is_some (reading.read_items item_depth reader.old) ≡ true }
+    ensures { IfOk result (λ told. IsSomeAnd (reading.read_items item_depth reader.old) (λ read.
         (read.1 ≡ reader.new) × Tells told (layer_of_entries (stated_entries version read.0)))) }
 {
     let mut progress = Progress::Nothing;

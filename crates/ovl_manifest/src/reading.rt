@@ -4,7 +4,8 @@ ghost use Rattle.serde_json.specs.Read.{read};
 ghost use Rattle.serde_json.specs.View.{number_view};
 ghost use Rattle.ovl_json.specs.Views.{object_view};
 ghost use Rattle.ovl_manifest.specs.Versions.{version_of};
-ghost use Rattle.ovl_manifest.specs.Manifest.{layer_of_value, read_layer as layer_stated};
+ghost use Rattle.ovl_manifest.specs.Manifest.{layer_of_value};
+ghost use Rattle.ovl_manifest.specs.Manifest as manifest;
 ghost use Rattle.ovl_layer.specs.Entries.{IsFaultOf};
 ghost use Rattle.ovl_manifest.specs.Lists.{outline};
 
@@ -26,8 +27,8 @@ use std::alloc::Global;
 /// but that of one entry is made at a time.
 pub fn read_layer(alloc: Global, bytes: &[u8]) -> Result<Layer, LayerFault>
     ensures { MatchResult result
-        (λ layer. layer_stated bytes.now ≡ Ok layer)
-        (λ fault. IsFaultOf (layer_stated bytes.now) fault) }
+        (λ layer. manifest.read_layer bytes.now ≡ Ok layer)
+        (λ fault. IsFaultOf (manifest.read_layer bytes.now) fault) }
 {
     match from_utf8(bytes) {
         Ok(text) => read_text(alloc, text),
@@ -38,8 +39,8 @@ pub fn read_layer(alloc: Global, bytes: &[u8]) -> Result<Layer, LayerFault>
 // The layer that a text states.
 fn read_text(alloc: Global, text: &str) -> Result<Layer, LayerFault>
     ensures { MatchResult result
-        (λ layer. layer_stated text.now ≡ Ok layer)
-        (λ fault. IsFaultOf (layer_stated text.now) fault) }
+        (λ layer. manifest.read_layer text.now ≡ Ok layer)
+        (λ fault. IsFaultOf (manifest.read_layer text.now) fault) }
 {
     if !is_json(alloc, text)? {
         return Err(LayerFault::NotJson);
@@ -55,8 +56,8 @@ fn read_text(alloc: Global, text: &str) -> Result<Layer, LayerFault>
 /// value of each entry.
 pub fn read_sheet(alloc: Global, bytes: &[u8]) -> Result<Sheet, LayerFault>
     ensures { MatchResult result
-        (λ sheet. layer_stated bytes.now ≡ Ok sheet)
-        (λ fault. IsFaultOf (layer_stated bytes.now) fault) }
+        (λ sheet. manifest.read_layer bytes.now ≡ Ok sheet)
+        (λ fault. IsFaultOf (manifest.read_layer bytes.now) fault) }
 {
     if let Some(sheet) = read_compact(alloc, bytes) {
         return Ok(sheet);

@@ -1,6 +1,6 @@
 //! The versions of a manifest's form.
 ghost use Rattle.std.specs.Prelude.{◌≡◌, map};
-ghost use Rattle.ovl_manifest.specs.Versions.{version_of, version_number, depth_of, common_members as members_of};
+ghost use Rattle.ovl_manifest.specs.Versions.{version_of, version_number, depth_of, common_members};
 
 use ovl_names::DEPTH_LIMIT;
 
@@ -50,7 +50,7 @@ impl Version {
 
     /// The members of entries of all kinds.
     pub(crate) fn common_members(self) -> &'static [&'static str]
-        ensures { map (λ name. name.now) result.now ≡ members_of self }
+        ensures { map (λ name. name.now) result.now ≡ common_members self }
     {
         match self {
             Version::One => &["gid", "kind", "mode", "mtime", "path", "uid", "xattrs"],

@@ -120,7 +120,7 @@ take_up thieves workers i w v other within is s pass same others =
     (omega (arith, n i, ap (λ l. (account_of l).split) same, ap (λ l. (account_of l).joined) same))
 
 -- a worker lays a pass down, which is loose then
-pub lay_down : (thieves : List Thief) (workers : List Worker) (i : ℕ) (w v : Worker) (other : Other) → i < length workers → w ≡ get_or workers i w → AreSeated thieves workers → v.lane ≡ w.lane → w.others.items ≡ v.others.items ++ other ∷ []
+lay_down : (thieves : List Thief) (workers : List Worker) (i : ℕ) (w v : Worker) (other : Other) → i < length workers → w ≡ get_or workers i w → AreSeated thieves workers → v.lane ≡ w.lane → w.others.items ≡ v.others.items ++ other ∷ []
     → AreSeatedBut (other.lane ∷ []) thieves (set workers i v) × IsOther thieves other
 lay_down thieves workers i w v other within is s same others =
     let n = λ (lane : ℕ). ap (λ os. times_named lane (names_of os)) others ∙ named_snoc lane v.others.items other in
@@ -182,9 +182,18 @@ new_other thieves workers i w other within is s lane of = (
 )
 
 -- a pass is one of the lane that it names
-pub other_within : (loose : List ℕ) (thieves : List Thief) (workers : List Worker) (other : Other) → AreSeatedBut loose thieves workers → IsOther thieves other → other.lane < length workers
+other_within : (loose : List ℕ) (thieves : List Thief) (workers : List Worker) (other : Other) → AreSeatedBut loose thieves workers → IsOther thieves other → other.lane < length workers
 unfolding IsOther
 other_within loose thieves workers other s of = omega (arith, of.0, as_many_but loose thieves workers s)
+
+-- so where a worker lays its last pass down
+pub last_laid : (thieves : List Thief) (workers : List Worker) (i : ℕ) (w v : Worker) (other : Other) → i < length workers → w ≡ get_or workers i w → AreSeated thieves workers → v.lane ≡ w.lane → w.others.items ≡ v.others.items ++ other ∷ []
+    → (AreSeatedBut (other.lane ∷ []) thieves (set workers i v) × IsOther thieves other) × (other.lane < length (set workers i v))
+last_laid thieves workers i w v other within is s same others =
+    let laid = lay_down thieves workers i w v other within is s same others in (
+      laid,
+      other_within (other.lane ∷ []) thieves (set workers i v) other laid.0 laid.1,
+    )
 
 pub other_of_lane : (loose : List ℕ) (thieves : List Thief) (workers : List Worker) (w : Worker) (other : Other) → other.lane < length workers → w ≡ get_or workers other.lane w → AreSeatedBut loose thieves workers → IsOther thieves other → IsOfLane w.lane other.pass
 unfolding IsOther

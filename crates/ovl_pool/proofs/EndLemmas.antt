@@ -3,23 +3,23 @@ use Rattle.std.proofs.Common.{◌≡◌, ℕ, List, [], ◌∷◌, ◌++◌, len
 use Rattle.std.proofs.lemmas.List.{map-append, take-append-drop}
 use Rattle.std.proofs.lemmas.List.Elements.{All-append, All-push, All-pop}
 use Rattle.ovl_board.specs.declared.pieces.Piece.{Piece}
-use Rattle.ovl_lanes.specs.declared.ends.Thief.{Thief}
 use Rattle.ovl_pool.specs.declared.hauls.Haul.{Haul}
 use Rattle.ovl_pool.specs.declared.shares.Shares.{Shares}
 use Rattle.ovl_pool.specs.declared.workers.Worker.{Worker}
+use Rattle.ovl_pool.specs.declared.workers.Workshop.{Workshop}
 use Rattle.ovl_pool.specs.Crews.{IsWorkerEnd, IsCrewStart, IsCrewEnd, AreSharesOfBoth}
 use Rattle.ovl_pool.specs.Hauls.{IsHaulOfBoth, IsClean, AreInPieceOrder}
 use Rattle.ovl_pool.specs.Passes.{HasPasses, post_of}
 use Rattle.ovl_pool.proofs.FlowLemmas.{last_tied, last_within, last_foreknown, halves_tied, halves_within, halves_foreknown, counted_both}
 use Rattle.ovl_pool.proofs.MergeLemmas.{clean_both, haul_merged, posts_joined}
 
-module _ {O S K D : Type 0} (seen : O → S) (kids : Piece → List Piece) (out : Piece → S) (may_refuse : Piece → Type 0) (thieves : List Thief) where
+module _ {W G R O S K D : Type 0} (seen : O → S) (kids_of : W → Piece → List Piece) (out_of : W → Piece → S) (may_refuse : G → Piece → Type 0) (shop : Workshop W G R K D) where
   -- one worker ended, the last of several, of whom the others did nothing
-  pub last_ended : (rest : List Worker) (w v : Worker) (shares : Shares K D) (brought : Haul O) (noted : Shares K D) → IsCrewStart thieves (rest ++ w ∷ []) shares → IsWorkerEnd seen kids out may_refuse thieves w shares v brought noted
-      → (IsClean brought → AreInPieceOrder brought.parcels.items) → IsCrewEnd seen kids out may_refuse thieves (rest ++ w ∷ []) (rest ++ v ∷ []) brought noted
+  pub last_ended : (rest : List Worker) (w v : Worker) (shares : Shares K D) (brought : Haul O) (noted : Shares K D) → IsCrewStart shop.thieves.now (rest ++ w ∷ []) shares → IsWorkerEnd seen kids_of out_of may_refuse shop w shares v brought noted
+      → (IsClean brought → AreInPieceOrder brought.parcels.items) → IsCrewEnd seen kids_of out_of may_refuse shop (rest ++ w ∷ []) (rest ++ v ∷ []) brought noted
   last_ended rest w v shares brought noted begun ended order = record {
     haul = ended.haul;
-    passes = All-push (HasPasses thieves) rest v (All-pop (HasPasses thieves) (rest ++ w ∷ []) rest (Some w) refl begun.passes).0 ended.passes;
+    passes = All-push (HasPasses shop.thieves.now) rest v (All-pop (HasPasses shop.thieves.now) (rest ++ w ∷ []) rest (Some w) refl begun.passes).0 ended.passes;
     same = map-append post_of rest (v ∷ []) ∙ (ap (λ post. map post_of rest ++ post ∷ []) ended.same ∙ sym (map-append post_of rest (w ∷ [])));
     parts = (ended.parts.0 ∙ begun.parts.0, ended.parts.1 ∙ begun.parts.1);
     within = last_within rest w v brought ended.within;
@@ -30,12 +30,12 @@ module _ {O S K D : Type 0} (seen : O → S) (kids : Piece → List Piece) (out 
   }
 
   -- both halves of a crew ended
-  pub both_ended : (all first later ended more : List Worker) (a b both : Haul O) (noted beside every : Shares K D) → all ≡ first ++ later → IsCrewEnd seen kids out may_refuse thieves first ended a noted → IsCrewEnd seen kids out may_refuse thieves later more b beside
-      → IsHaulOfBoth a b both → AreSharesOfBoth noted beside every → IsCrewEnd seen kids out may_refuse thieves all (ended ++ more) both every
+  pub both_ended : (all first later ended more : List Worker) (a b both : Haul O) (noted beside every : Shares K D) → all ≡ first ++ later → IsCrewEnd seen kids_of out_of may_refuse shop first ended a noted → IsCrewEnd seen kids_of out_of may_refuse shop later more b beside
+      → IsHaulOfBoth a b both → AreSharesOfBoth noted beside every → IsCrewEnd seen kids_of out_of may_refuse shop all (ended ++ more) both every
   both_ended all first later ended more a b both noted beside every halved left right haul shares =
       let clean_each : IsClean both → IsClean a × IsClean b = clean_both a b both haul.starved haul.refused in record {
-        haul = haul_merged seen kids out may_refuse a b both left.haul right.haul haul.parcels haul.refused;
-        passes = All-append (HasPasses thieves) ended more left.passes right.passes;
+        haul = haul_merged seen (kids_of shop.work.now) (out_of shop.work.now) (may_refuse shop.gate.now) a b both left.haul right.haul haul.parcels haul.refused;
+        passes = All-append (HasPasses shop.thieves.now) ended more left.passes right.passes;
         same = posts_joined all first later ended more halved left.same right.same;
         parts = (
           omega (arith, shares.parts.0, left.parts.0, right.parts.0, ap length halved, length-append first later),

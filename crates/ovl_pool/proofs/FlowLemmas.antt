@@ -1,7 +1,8 @@
 -- Pieces that are pushed and taken, weighed step by step.
-use Rattle.std.proofs.Common.{◌≡◌, ℕ, ◌+◌, ◌<◌, ◌≤◌, Option, Some, None, List, [], ◌∷◌, ◌++◌, length, get_or, set, refl, ap, arith, IsPermutation}
+use Rattle.std.proofs.Common.{◌≡◌, ℕ, ◌+◌, ◌<◌, ◌≤◌, Option, Some, None, List, [], ◌∷◌, ◌++◌, length, get_or, set, All, refl, ap, arith, IsPermutation}
 use Rattle.std.specs.List.{sum_by}
 use Rattle.std.specs.Option.{option_or}
+use Rattle.std.proofs.lemmas.List.Elements.{All-pop}
 use Rattle.std.proofs.lemmas.List.Sums.{sum_by-cons, sum_by-append, sum_by_push, sum_by-set}
 use Rattle.std.proofs.lemmas.List.Sorted.{sum_by-IsPermutation}
 use Rattle.ovl_board.specs.declared.pieces.Piece.{Piece}
@@ -17,6 +18,7 @@ use Rattle.ovl_pool.specs.declared.hauls.Haul.{Haul}
 use Rattle.ovl_pool.specs.declared.workers.Worker.{Worker}
 use Rattle.ovl_pool.specs.declared.workers.Other.{Other}
 use Rattle.ovl_pool.specs.Flows.{lane_pushed, lane_taken, stolen, pushed, taken, all_pushed, all_taken, delivered, below, refused_weight, each_one, indicator, IsPushedOf, IsUntouched, IsTied, IsWithin, AreTied, AreWithin, AreCounted, HaveNothing, HaveGone, AreUntouched, AreSettled}
+use Rattle.ovl_pool.specs.Passes.{HasNone}
 use Rattle.ovl_pool.proofs.CrewLemmas.{IsApart}
 
 -- pieces that all weigh 1 weigh their number
@@ -245,12 +247,12 @@ halves_foreknown all first second ended more known beside every e left right sum
     omega (arith, left, right, sum, sum_by-append (pushed each_one) ended more, sum_by-append (pushed each_one) first second, ap (all_pushed each_one) e)
 
 -- the next worker is closed
-pub closed_numbers : (ws rest all : List Worker) (w : Worker) (pushed_all taken_now taken_so_far left_so_far left_now : ℕ) → ws ≡ rest ++ w ∷ [] → w.others.items ≡ []
+pub closed_numbers : (ws rest all : List Worker) (w : Worker) (pushed_all taken_now taken_so_far left_so_far left_now : ℕ) → ws ≡ rest ++ w ∷ [] → All HasNone ws
     → length (account_of w.lane).pushed ≡ pushed_all → length (account_of w.lane).taken ≡ taken_now → pushed_all ≡ taken_now + left_now
     → taken_so_far + all_taken each_one ws ≡ all_taken each_one all → taken_so_far + left_so_far + all_pushed each_one ws ≡ all_pushed each_one all
     → (taken_so_far + taken_now + all_taken each_one rest ≡ all_taken each_one all) × (taken_so_far + taken_now + (left_so_far + left_now) + all_pushed each_one rest ≡ all_pushed each_one all)
 closed_numbers ws rest all w pushed_all taken_now taken_so_far left_so_far left_now items none p t whole counted numbers =
-    let more = counted_more rest w none in (
+    let more = counted_more rest w (All-pop HasNone ws rest (Some w) items none).1 in (
       omega (arith, more.0, ap (all_taken each_one) items, counted, t),
       omega (arith, more.1, ap (all_pushed each_one) items, numbers, p, t, whole),
     )

@@ -3,3 +3,4 @@ pub mod EndLemmas
 pub mod FlowLemmas
 pub mod MergeLemmas
 pub mod ToldLemmas
+pub mod TurnLemmas

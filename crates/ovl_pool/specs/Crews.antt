@@ -5,9 +5,11 @@ use Rattle.ovl_lanes.specs.declared.ends.Thief.{Thief}
 use Rattle.ovl_pool.specs.declared.hauls.Haul.{Haul}
 use Rattle.ovl_pool.specs.declared.shares.Shares.{Shares}
 use Rattle.ovl_pool.specs.declared.workers.Worker.{Worker}
+use Rattle.ovl_pool.specs.declared.workers.Workshop.{Workshop}
 use Rattle.ovl_pool.specs.Flows.{IsTied, IsWithin, AreTied, AreWithin, AreCounted, pushed, all_pushed, each_one}
-use Rattle.ovl_pool.specs.Hauls.{IsOwnHaul, IsClean, AreInPieceOrder}
+use Rattle.ovl_pool.specs.Hauls.{IsClean, AreInPieceOrder}
 use Rattle.ovl_pool.specs.Passes.{HasPasses, post_of}
+use Rattle.ovl_pool.specs.Turns.{IsHaulOf}
 
 -- a worker may begin: each of its passes is one of the lane that it names, and its shares have
 -- parts and count nothing yet
@@ -19,11 +21,12 @@ pub record IsWorkerStart {K D : Type 0} (thieves : List Thief) (worker : Worker)
 
 -- a worker's end: its haul is the work's own, it took at least what that accounts for, and pushed
 -- only kids in it that were noted; where the haul is clean it took, pushed and noted just that
-pub record IsWorkerEnd {O S K D : Type 0} (seen : O → S) (kids : Piece → List Piece)
-    (out : Piece → S) (may_refuse : Piece → Type 0) (thieves : List Thief) (worker : Worker)
-    (shares : Shares K D) (ended : Worker) (brought : Haul O) (noted : Shares K D) : Type 0 where
-  pub haul : IsOwnHaul seen kids out may_refuse brought
-  pub passes : HasPasses thieves ended
+pub record IsWorkerEnd {W G R O S K D : Type 0} (seen : O → S) (kids_of : W → Piece → List Piece)
+    (out_of : W → Piece → S) (may_refuse : G → Piece → Type 0) (shop : Workshop W G R K D)
+    (worker : Worker) (shares : Shares K D) (ended : Worker) (brought : Haul O)
+    (noted : Shares K D) : Type 0 where
+  pub haul : IsHaulOf seen kids_of out_of may_refuse shop brought
+  pub passes : HasPasses shop.thieves.now ended
   pub same : post_of ended ≡ post_of worker
   pub parts : (noted.known.parts ≡ shares.known.parts)
       × (noted.delivered.parts ≡ shares.delivered.parts)
@@ -42,11 +45,11 @@ pub record IsCrewStart {K D : Type 0} (thieves : List Thief) (workers : List Wor
   pub fresh : (shares.known.amount ≡ 0) × (shares.delivered.amount ≡ 0)
 
 -- the same of a crew whose workers all ended, and whose haul is in order where it is clean
-pub record IsCrewEnd {O S K D : Type 0} (seen : O → S) (kids : Piece → List Piece) (out : Piece → S)
-    (may_refuse : Piece → Type 0) (thieves : List Thief) (workers ended : List Worker)
-    (brought : Haul O) (noted : Shares K D) : Type 0 where
-  pub haul : IsOwnHaul seen kids out may_refuse brought
-  pub passes : All (HasPasses thieves) ended
+pub record IsCrewEnd {W G R O S K D : Type 0} (seen : O → S) (kids_of : W → Piece → List Piece)
+    (out_of : W → Piece → S) (may_refuse : G → Piece → Type 0) (shop : Workshop W G R K D)
+    (workers ended : List Worker) (brought : Haul O) (noted : Shares K D) : Type 0 where
+  pub haul : IsHaulOf seen kids_of out_of may_refuse shop brought
+  pub passes : All (HasPasses shop.thieves.now) ended
   pub same : map post_of ended ≡ map post_of workers
   pub parts : (noted.known.parts ≡ length workers) × (noted.delivered.parts ≡ length workers)
   pub within : AreWithin workers ended brought

@@ -3,3 +3,4 @@ pub mod Flows
 pub mod Hauls
 pub mod Passes
 pub mod Runs
+pub mod Turns

@@ -1,102 +1,86 @@
-ghost use Rattle.std.specs.Prelude.{◌≡◌, ◌<◌, ◌++◌, IfOk, vec_len};
-ghost use Rattle.std.specs.Thread.{IsSync, IsSend};
-ghost use Rattle.ovl_pool.specs.Crews.{IsCrewStart, IsCrewEnd, AreSharesOfBoth};
+ghost use Rattle.std.specs.Prelude.{◌≡◌, ◌++◌, IfOk};
+ghost use Rattle.ovl_pool.specs.Crews.{AreSharesOfBoth};
 ghost use Rattle.ovl_pool.specs.Hauls.{IsHaulOfBoth};
 
 use crate::gates::Gate;
 use crate::hauls::Haul;
 use crate::shares::Shares;
-use crate::tallies::Tally;
-use crate::workers::{Worker, labor};
+use crate::workers::{Worker, Workshop};
 use ovl_board::Work;
-use ovl_lanes::Thief;
 use std::alloc::{AllocError, Global};
+use std::sync::Wait;
 use std::sync::ledger::Ledger;
-use std::sync::{Mutex, Wait};
 use std::thread::{Threads, join};
 
-/// The labor of these workers, one of them in this thread and each other one in a thread of its
-/// own, and their hauls in one. It ends when all of them ended, and gives them back.
-#[cycle(crew)]
-pub(crate) fn crew<
+impl<
     W: Work + Sync,
     G: Gate + Sync,
     R: Threads + Wait + Sync,
     K: Ledger + Send + Sync,
     D: Ledger + Send + Sync,
->(
-    rt: &R,
-    alloc: Global,
-    work: &W,
-    gate: &G,
-    tally: &Mutex<Tally<K, D>>,
-    thieves: &[Thief],
-    mut workers: Vec<Worker>,
-    shares: Shares<K, D>,
-) -> Result<(Vec<Worker>, Haul<W::Out>, Shares<K, D>), AllocError>
+> Workshop<'_, W, G, R, K, D>
 where
     W::Out: Send,
-    requires begun { IsCrewStart thieves.now workers.items shares }
-    ensures ended { IfOk result
-        (λ r. IsCrewEnd W.seen (W.kids_of work.now) (W.out_of work.now) (G.may_refuse gate.now)
-        thieves.now workers.items r.0.items r.1 r.2) }
 {
-    if workers.len() > 1 {
-        return halves(rt, alloc, work, gate, tally, thieves, workers, shares);
-    }
-    let Some(worker) = workers.pop() else {
-        return Ok((workers, Haul::empty(alloc), shares));
-    };
-    let (worker, haul, shares) = labor(rt, alloc, work, gate, tally, thieves, worker, shares);
-    workers.push(worker)?;
-    Ok((workers, haul, shares))
-}
+    ghost use Rattle.std.specs.Prelude.{◌<◌, IfOk, vec_len};
+    ghost use Rattle.std.specs.Thread.{IsSync, IsSend};
+    ghost use Rattle.ovl_pool.specs.Crews.{IsCrewStart, IsCrewEnd};
 
-// The labor of two workers or more, of whom the later half is in another thread. Each half brings
-// one haul in order, so that only two are merged here.
-#[cycle(crew)]
-fn halves<
-    W: Work + Sync,
-    G: Gate + Sync,
-    R: Threads + Wait + Sync,
-    K: Ledger + Send + Sync,
-    D: Ledger + Send + Sync,
->(
-    rt: &R,
-    alloc: Global,
-    work: &W,
-    gate: &G,
-    tally: &Mutex<Tally<K, D>>,
-    thieves: &[Thief],
-    mut workers: Vec<Worker>,
-    mut shares: Shares<K, D>,
-) -> Result<(Vec<Worker>, Haul<W::Out>, Shares<K, D>), AllocError>
-where
-    W::Out: Send,
-    requires several { 1 < vec_len workers }
-    requires begun { IsCrewStart thieves.now workers.items shares }
-    ensures ended { IfOk result
-        (λ r. IsCrewEnd W.seen (W.kids_of work.now) (W.out_of work.now) (G.may_refuse gate.now)
-        thieves.now workers.items r.0.items r.1 r.2) }
-{
-    let later = workers.split_off(workers.len() / 2)?;
-    let latter = shares.split_off(later.len() as u64);
-    let second = || -> Result<(Vec<Worker>, Haul<W::Out>, Shares<K, D>), AllocError>
-        requires shared { IsSync R.row × IsSync W.row × IsSync G.row × IsSend W.Out.row }
-        requires begun { IsCrewStart thieves.now later.items latter }
-        ensures ended { IfOk result
-            (λ r. IsCrewEnd W.seen (W.kids_of work.entry.now) (W.out_of work.entry.now)
-            (G.may_refuse gate.entry.now) thieves.entry.now later.items r.0.items r.1 r.2) }
-    { crew(rt, alloc, work, gate, tally, thieves, later, latter) };
-    let first = || -> Result<(Vec<Worker>, Haul<W::Out>, Shares<K, D>), AllocError>
-        requires shared { IsSync R.row × IsSync W.row × IsSync G.row × IsSend W.Out.row }
-        requires begun { IsCrewStart thieves.now workers.items shares }
-        ensures ended { IfOk result
-            (λ r. IsCrewEnd W.seen (W.kids_of work.entry.now) (W.out_of work.entry.now)
-            (G.may_refuse gate.entry.now) thieves.entry.now workers.items r.0.items r.1 r.2) }
-    { crew(rt, alloc, work, gate, tally, thieves, workers, shares) };
-    let (after, before) = join(rt, second, first);
-    in_one(alloc, before?, after?)
+    /// The labor of these workers, one of them in this thread and each other one in a thread of
+    /// its own, and their hauls in one. It ends when all of them ended, and gives them back.
+    #[cycle(crew)]
+    pub(crate) fn crew(
+        &self,
+        mut workers: Vec<Worker>,
+        shares: Shares<K, D>,
+    ) -> Result<(Vec<Worker>, Haul<W::Out>, Shares<K, D>), AllocError>
+        requires begun { IsCrewStart self.now.thieves.now workers.items shares }
+        ensures ended { IfOk result (λ r. IsCrewEnd W.seen W.kids_of W.out_of G.may_refuse self.now
+            workers.items r.0.items r.1 r.2) }
+    {
+        if workers.len() > 1 {
+            return self.halves(workers, shares);
+        }
+        let Some(worker) = workers.pop() else {
+            return Ok((workers, Haul::empty(self.alloc), shares));
+        };
+        let (worker, haul, shares) = self.labor(worker, shares);
+        workers.push(worker)?;
+        Ok((workers, haul, shares))
+    }
+
+    // The labor of two workers or more, of whom the later half is in another thread. Each half
+    // brings one haul in order, so that only two are merged here.
+    #[cycle(crew)]
+    fn halves(
+        &self,
+        mut workers: Vec<Worker>,
+        mut shares: Shares<K, D>,
+    ) -> Result<(Vec<Worker>, Haul<W::Out>, Shares<K, D>), AllocError>
+        requires several { 1 < vec_len workers }
+        requires begun { IsCrewStart self.now.thieves.now workers.items shares }
+        ensures ended { IfOk result (λ r. IsCrewEnd W.seen W.kids_of W.out_of G.may_refuse self.now
+            workers.items r.0.items r.1 r.2) }
+    {
+        let later = workers.split_off(workers.len() / 2)?;
+        let latter = shares.split_off(later.len() as u64);
+        let second = || -> Result<(Vec<Worker>, Haul<W::Out>, Shares<K, D>), AllocError>
+            requires shared { IsSync R.row × IsSync W.row × IsSync G.row × IsSend W.Out.row }
+            requires begun { IsCrewStart self.now.thieves.now later.items latter }
+            ensures ended { IfOk result
+                (λ r. IsCrewEnd W.seen W.kids_of W.out_of G.may_refuse self.entry.now
+                later.items r.0.items r.1 r.2) }
+        { self.crew(later, latter) };
+        let first = || -> Result<(Vec<Worker>, Haul<W::Out>, Shares<K, D>), AllocError>
+            requires shared { IsSync R.row × IsSync W.row × IsSync G.row × IsSend W.Out.row }
+            requires begun { IsCrewStart self.now.thieves.now workers.items shares }
+            ensures ended { IfOk result
+                (λ r. IsCrewEnd W.seen W.kids_of W.out_of G.may_refuse self.entry.now
+                workers.items r.0.items r.1 r.2) }
+        { self.crew(workers, shares) };
+        let (after, before) = join(self.rt, second, first);
+        in_one(self.alloc, before?, after?)
+    }
 }
 
 // What both halves brought and noted, in one.

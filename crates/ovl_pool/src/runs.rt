@@ -10,13 +10,12 @@ ghost use Rattle.ovl_pool.specs.Hauls.{IsClean};
 ghost use Rattle.ovl_pool.specs.Passes.{AreSeated};
 ghost use Rattle.ovl_pool.specs.Runs.{MayBeRefused, IsBoardMemory, IsEndFault, IsRunFault, CountsAll, no_lanes};
 
-use crate::crews::crew;
 use crate::gates::Gate;
 use crate::hauls::Haul;
 use crate::seating::{close_lanes, seat_workers};
 use crate::shares::Shares;
 use crate::tallies::Tally;
-use crate::workers::Worker;
+use crate::workers::{Worker, Workshop};
 use ovl_board::laws::balanced_parcels_have_no_fault;
 use ovl_board::{BoardFault, Parcel, Piece, Work, assemble};
 use ovl_lanes::{LaneFault, Thief, lanes};
@@ -115,9 +114,18 @@ where
         → MayBeRefused (W.kids_of work.now) (G.may_refuse gate.now) root }
     ensures board { IfErr result IsBoardMemory }
 {
-    let kids = Blank::new(workers as u64);
-    let parcels = Blank::new(workers as u64);
-    run_noted::<W, G, R, Brand, Brand>(rt, alloc, work, root, workers, gate, kids, parcels)
+    let blanks = Blanks {
+        kids: Blank::new(workers as u64),
+        parcels: Blank::new(workers as u64),
+    };
+    run_noted::<W, G, R, Brand, Brand>(rt, alloc, work, root, workers, gate, blanks)
+}
+
+// The blanks of a run's two ledgers: of the kids that workers note, and of the parcels.
+#[derive(Drop)]
+struct Blanks {
+    kids: Blank,
+    parcels: Blank,
 }
 
 // As `run`, by two ledgers of which each worker has a part.
@@ -134,14 +142,14 @@ fn run_noted<
     root: Piece,
     workers: usize,
     gate: &G,
-    kids: Blank,
-    parcels: Blank,
+    blanks: Blanks,
 ) -> Result<(Vec<Parcel<W::Out>>, RunCount), RunFault>
 where
     W::Out: Send,
-    requires kids { (kids.name ≡ K.name) × (kids.parts ≡ K.parts) × (kids.parts ≡ workers) }
-    requires parcels { (parcels.name ≡ D.name) × (parcels.parts ≡ D.parts)
-        × (parcels.parts ≡ workers) }
+    requires kids { (blanks.kids.name ≡ K.name) × (blanks.kids.parts ≡ K.parts)
+        × (blanks.kids.parts ≡ workers) }
+    requires parcels { (blanks.parcels.name ≡ D.name) × (blanks.parcels.parts ≡ D.parts)
+        × (blanks.parcels.parts ≡ workers) }
     ensures plain { IfOk result (λ done.
         IsPlain (W.kids_of work.now) (W.out_of work.now) root (parcel_views W.seen done.0.items)) }
     ensures balance { IfOk result (λ done. IsBalanced root (bare done.0.items) []) }
@@ -155,11 +163,18 @@ where
     let seats = lanes(alloc, workers)?;
     let first = root.copy(alloc)?;
     let (crowd, thieves) = seat_workers(alloc, seats, first)?;
-    let (kids, known) = kids.open::<K>();
-    let (parcels, delivered) = parcels.open::<D>();
+    let (kids, known) = blanks.kids.open::<K>();
+    let (parcels, delivered) = blanks.parcels.open::<D>();
     let tally = Mutex::new(Tally::start(kids, parcels));
-    let shares = Shares { known, delivered };
-    let (ended, haul, shares) = crew(rt, alloc, work, gate, &tally, &thieves, crowd, shares)?;
+    let shop = Workshop {
+        rt,
+        alloc,
+        work,
+        gate,
+        tally: &tally,
+        thieves: &thieves,
+    };
+    let (ended, haul, shares) = shop.crew(crowd, Shares { known, delivered })?;
     let count = run_count(tally.into_inner(), shares, ended, thieves);
     outcome(alloc, &root, haul, count)
 }

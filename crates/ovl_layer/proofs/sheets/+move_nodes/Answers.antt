@@ -2,58 +2,46 @@ use Rattle.std.proofs.Common.{◌∙◌, ◌++◌, ◌∷◌, [], Some, List, le
 use Rattle.std.specs.Prelude.{slice_index}
 use Rattle.ovl_layer.specs.LayerTrees.{NodeView, entries_of_nodes}
 use Rattle.ovl_layer.specs.SheetPasses.{rows_from}
-use Rattle.ovl_layer.proofs.SheetPassLemmas.{yielded-room, rows-count, rows-more}
+use Rattle.ovl_layer.proofs.SheetPassLemmas.{node-room, rows-more}
 use Rattle.ovl_layer.proofs.sheets.+move_nodes.Goals as goal
 
 pub offset_bounds-parents-number : goal.offset_bounds-parents-number
 offset_bounds-parents-number t c =
-    let whole = ap (λ (rest : List NodeView). c.loop-node.yielded ++ rest) (sym c.in-Some.ensures.steps.0) ∙ c.loop-node.invariant.rest in
-    let room = yielded-room c.args.nodes.items c.loop-node.yielded c.next.new.self.rest.items c.node.inside.children.items c.in-Some.node whole (ap (λ (node : NodeView). node.below) c.node.view_is) in
-    let count = rows-count c.args.rows.now.items c.loop-node.rows.items c.args.parents.now c.args.afters.now (entries_of_nodes c.loop-node.yielded) c.loop-node.invariant.rows in
-    omega (arith, c.len-number.ensures, c.requires.limit, room, count, c.loop-node.rows.ok.0, c.args.rows.now.ok.0)
+    let room = node-room c.args.nodes.items c.loop-node.yielded _ c.next.new.self.rest.items c.node.inside.children.items c.in-Some.node c.args.rows.now.items c.loop-node.rows.items c.args.parents.now c.args.afters.now c.in-Some.ensures.steps.0 c.loop-node.invariant.rest (ap (λ (node : NodeView). node.below) c.node.view_is) c.loop-node.invariant.rows in
+    omega (arith, c.len-number.ensures, c.requires.limit, room.0, room.1, c.loop-node.rows.ok.0, c.args.rows.now.ok.0)
 
 pub bounds-parents-number : goal.bounds-parents-number
 bounds-parents-number t c =
-    let whole = ap (λ (rest : List NodeView). c.loop-node.yielded ++ rest) (sym c.in-Some.ensures.steps.0) ∙ c.loop-node.invariant.rest in
-    let room = yielded-room c.args.nodes.items c.loop-node.yielded c.next.new.self.rest.items c.node.inside.children.items c.in-Some.node whole (ap (λ (node : NodeView). node.below) c.node.view_is) in
-    let count = rows-count c.args.rows.now.items c.loop-node.rows.items c.args.parents.now c.args.afters.now (entries_of_nodes c.loop-node.yielded) c.loop-node.invariant.rows in
-    omega (arith, c.len-number.ensures, c.requires.parents, room, count, c.loop-node.rows.ok.0, c.args.rows.now.ok.0)
+    let room = node-room c.args.nodes.items c.loop-node.yielded _ c.next.new.self.rest.items c.node.inside.children.items c.in-Some.node c.args.rows.now.items c.loop-node.rows.items c.args.parents.now c.args.afters.now c.in-Some.ensures.steps.0 c.loop-node.invariant.rest (ap (λ (node : NodeView). node.below) c.node.view_is) c.loop-node.invariant.rows in
+    omega (arith, c.len-number.ensures, c.requires.parents, room.0, room.1, c.loop-node.rows.ok.0, c.args.rows.now.ok.0)
 
 pub offset_bounds-afters-number : goal.offset_bounds-afters-number
 offset_bounds-afters-number t c =
-    let whole = ap (λ (rest : List NodeView). c.loop-node.yielded ++ rest) (sym c.in-Some.ensures.steps.0) ∙ c.loop-node.invariant.rest in
-    let room = yielded-room c.args.nodes.items c.loop-node.yielded c.next.new.self.rest.items c.node.inside.children.items c.in-Some.node whole (ap (λ (node : NodeView). node.below) c.node.view_is) in
-    let count = rows-count c.args.rows.now.items c.loop-node.rows.items c.args.parents.now c.args.afters.now (entries_of_nodes c.loop-node.yielded) c.loop-node.invariant.rows in
-    omega (arith, c.len-number.ensures, c.requires.limit, room, count, c.loop-node.rows.ok.0, c.args.rows.now.ok.0)
+    let room = node-room c.args.nodes.items c.loop-node.yielded _ c.next.new.self.rest.items c.node.inside.children.items c.in-Some.node c.args.rows.now.items c.loop-node.rows.items c.args.parents.now c.args.afters.now c.in-Some.ensures.steps.0 c.loop-node.invariant.rest (ap (λ (node : NodeView). node.below) c.node.view_is) c.loop-node.invariant.rows in
+    omega (arith, c.len-number.ensures, c.requires.limit, room.0, room.1, c.loop-node.rows.ok.0, c.args.rows.now.ok.0)
 
 pub bounds-afters-number : goal.bounds-afters-number
 bounds-afters-number t c =
-    let whole = ap (λ (rest : List NodeView). c.loop-node.yielded ++ rest) (sym c.in-Some.ensures.steps.0) ∙ c.loop-node.invariant.rest in
-    let room = yielded-room c.args.nodes.items c.loop-node.yielded c.next.new.self.rest.items c.node.inside.children.items c.in-Some.node whole (ap (λ (node : NodeView). node.below) c.node.view_is) in
-    let count = rows-count c.args.rows.now.items c.loop-node.rows.items c.args.parents.now c.args.afters.now (entries_of_nodes c.loop-node.yielded) c.loop-node.invariant.rows in
-    omega (arith, c.len-number.ensures, c.requires.afters, room, count, c.loop-node.rows.ok.0, c.args.rows.now.ok.0)
+    let room = node-room c.args.nodes.items c.loop-node.yielded _ c.next.new.self.rest.items c.node.inside.children.items c.in-Some.node c.args.rows.now.items c.loop-node.rows.items c.args.parents.now c.args.afters.now c.in-Some.ensures.steps.0 c.loop-node.invariant.rest (ap (λ (node : NodeView). node.below) c.node.view_is) c.loop-node.invariant.rows in
+    omega (arith, c.len-number.ensures, c.requires.afters, room.0, room.1, c.loop-node.rows.ok.0, c.args.rows.now.ok.0)
 
 pub put_row-requires : goal.put_row-requires
 put_row-requires t c =
-    let whole = ap (λ (rest : List NodeView). c.loop-node.yielded ++ rest) (sym c.in-Some.ensures.steps.0) ∙ c.loop-node.invariant.rest in
-    let room = yielded-room c.args.nodes.items c.loop-node.yielded c.next.new.self.rest.items c.node.inside.children.items c.in-Some.node whole (ap (λ (node : NodeView). node.below) c.node.view_is) in
-    let count = rows-count c.args.rows.now.items c.loop-node.rows.items c.args.parents.now c.args.afters.now (entries_of_nodes c.loop-node.yielded) c.loop-node.invariant.rows in
-    omega (arith, c.requires.room, c.loop-node.invariant.room, room, count, c.loop-node.rows.ok.0, c.args.rows.now.ok.0)
+    let room = node-room c.args.nodes.items c.loop-node.yielded _ c.next.new.self.rest.items c.node.inside.children.items c.in-Some.node c.args.rows.now.items c.loop-node.rows.items c.args.parents.now c.args.afters.now c.in-Some.ensures.steps.0 c.loop-node.invariant.rest (ap (λ (node : NodeView). node.below) c.node.view_is) c.loop-node.invariant.rows in
+    omega (arith, c.requires.room, c.loop-node.invariant.room, room.0, room.1, c.loop-node.rows.ok.0, c.args.rows.now.ok.0)
 
 pub move_nodes-requires : goal.move_nodes-requires
 move_nodes-requires t c =
-    let whole = ap (λ (rest : List NodeView). c.loop-node.yielded ++ rest) (sym c.in-Some.ensures.steps.0) ∙ c.loop-node.invariant.rest in
-    let room = yielded-room c.args.nodes.items c.loop-node.yielded c.next.new.self.rest.items c.node.inside.children.items c.in-Some.node whole (ap (λ (node : NodeView). node.below) c.node.view_is) in
-    let count = rows-count c.args.rows.now.items c.loop-node.rows.items c.args.parents.now c.args.afters.now (entries_of_nodes c.loop-node.yielded) c.loop-node.invariant.rows in
+    let room = node-room c.args.nodes.items c.loop-node.yielded _ c.next.new.self.rest.items c.node.inside.children.items c.in-Some.node c.args.rows.now.items c.loop-node.rows.items c.args.parents.now c.args.afters.now c.in-Some.ensures.steps.0 c.loop-node.invariant.rest (ap (λ (node : NodeView). node.below) c.node.view_is) c.loop-node.invariant.rows in
     let more = ap length c.put_row.ensures.rows ∙ length-append c.loop-node.rows.items _ in (
-      omega (arith, c.decreases, room),
+      omega (arith, c.decreases, room.0, room.1),
       (
-        omega (arith, c.requires.limit, room, count, more, c.put_row.new.rows.ok.0, c.args.rows.now.ok.0),
+        omega (arith, c.requires.limit, room.0, room.1, more, c.put_row.new.rows.ok.0, c.args.rows.now.ok.0),
         (
-          omega (arith, c.requires.room, c.loop-node.invariant.room, c.put_row.ensures.room, room, count, more, c.put_row.new.rows.ok.0, c.args.rows.now.ok.0),
+          omega (arith, c.requires.room, c.loop-node.invariant.room, c.put_row.ensures.room, room.0, room.1, more, c.put_row.new.rows.ok.0, c.args.rows.now.ok.0),
           (
-            omega (arith, c.requires.parents, room, count, more, c.put_row.new.rows.ok.0, c.args.rows.now.ok.0),
-            omega (arith, c.requires.afters, room, count, more, c.put_row.new.rows.ok.0, c.args.rows.now.ok.0),
+            omega (arith, c.requires.parents, room.0, room.1, more, c.put_row.new.rows.ok.0, c.args.rows.now.ok.0),
+            omega (arith, c.requires.afters, room.0, room.1, more, c.put_row.new.rows.ok.0, c.args.rows.now.ok.0),
           ),
         ),
       ),

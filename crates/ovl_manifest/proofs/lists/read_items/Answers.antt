@@ -5,11 +5,11 @@ use Rattle.json.specs.Reads.{skip_items}
 use Rattle.serde_json.specs.Data.{item}
 use Rattle.serde_json.specs.Read.{of_items}
 use Rattle.ovl_json.specs.Reading.{read_items}
-use Rattle.ovl_json.proofs.Turns.{item_turn, item_end, end_of_skipped}
+use Rattle.ovl_json.proofs.Turns.{item_turn, end_of_skipped}
 use Rattle.ovl_layer.specs.Layers.{entry_limit}
 use Rattle.ovl_manifest.specs.Fields.{entry_of}
 use Rattle.ovl_manifest.specs.Lists.{made, entry_on, IsProgress, item_depth}
-use Rattle.ovl_manifest.proofs.ListLemmas.{told, told-one, told-end, some-list, nothing_at_end, made_at_end, refused_at_end, too_many_items}
+use Rattle.ovl_manifest.proofs.ListLemmas.{told, told-one, told_at_end, some-list, nothing_at_end, made_at_end, refused_at_end, too_many_items}
 use Rattle.ovl_manifest.proofs.lists.read_items.Goals as goal
 
 pub loop-alloc-init : goal.loop-alloc-init
@@ -64,25 +64,19 @@ pub returns-in-Nothing : goal.returns-in-Nothing
 returns-in-Nothing c =
     let l = c.loop-alloc in
     let rest = c.take_end_array.new.self in
-    let ended : after_end_array l.reader ≡ Some rest = grind arith in
-    let same : told c.args.version 0 (Ok []) (read_items item_depth c.args.reader.now) ≡ Some (made l.progress, l.count, rest) =
-    l.invariant.same ∙ (ap (told c.args.version l.count (made l.progress)) (item_end item_depth l.reader rest ended) ∙ told-end c.args.version l.count (made l.progress) rest) in
+    let same = told_at_end c.args.version (read_items item_depth c.args.reader.now) l.count (made l.progress) l.reader rest l.invariant.same (grind arith) in
     nothing_at_end c.args.version (read_items item_depth c.args.reader.now) (made l.progress) l.count rest same (subst (λ p. IsProgress p l.count) c.in-Nothing.is l.invariant.progress)
 
 pub returns-in-Made : goal.returns-in-Made
 returns-in-Made c =
     let l = c.loop-alloc in
     let rest = c.take_end_array.new.self in
-    let ended : after_end_array l.reader ≡ Some rest = grind arith in
-    let same : told c.args.version 0 (Ok []) (read_items item_depth c.args.reader.now) ≡ Some (made l.progress, l.count, rest) =
-    l.invariant.same ∙ (ap (told c.args.version l.count (made l.progress)) (item_end item_depth l.reader rest ended) ∙ told-end c.args.version l.count (made l.progress) rest) in
+    let same = told_at_end c.args.version (read_items item_depth c.args.reader.now) l.count (made l.progress) l.reader rest l.invariant.same (grind arith) in
     made_at_end c.args.version (read_items item_depth c.args.reader.now) c.in-Made.draft l.count rest (same ∙ ap (λ p. Some (made p, l.count, rest)) c.in-Made.is) (subst (λ p. IsProgress p l.count) c.in-Made.is l.invariant.progress) l.invariant.few
 
 pub returns-in-Refused : goal.returns-in-Refused
 returns-in-Refused c =
     let l = c.loop-alloc in
     let rest = c.take_end_array.new.self in
-    let ended : after_end_array l.reader ≡ Some rest = grind arith in
-    let same : told c.args.version 0 (Ok []) (read_items item_depth c.args.reader.now) ≡ Some (made l.progress, l.count, rest) =
-    l.invariant.same ∙ (ap (told c.args.version l.count (made l.progress)) (item_end item_depth l.reader rest ended) ∙ told-end c.args.version l.count (made l.progress) rest) in
+    let same = told_at_end c.args.version (read_items item_depth c.args.reader.now) l.count (made l.progress) l.reader rest l.invariant.same (grind arith) in
     refused_at_end c.args.version (read_items item_depth c.args.reader.now) c.in-Refused.fault l.count rest (same ∙ ap (λ p. Some (made p, l.count, rest)) c.in-Refused.is) (subst (λ p. IsProgress p l.count) c.in-Refused.is l.invariant.progress) l.invariant.few

@@ -1,7 +1,7 @@
 use Rattle.ovl_pool.proofs.runs.run.Given as goal
 
 abbrev pub ghosts-run_noted-K-Ledger : goal.ghosts-run_noted-K-Ledger
-ghosts-run_noted-K-Ledger g a = record { name = a.kids.name; parts = a.kids.parts }
+ghosts-run_noted-K-Ledger g a = record { name = a.blanks.kids.name; parts = a.blanks.kids.parts }
 
 abbrev pub ghosts-run_noted-D-Ledger : goal.ghosts-run_noted-D-Ledger
-ghosts-run_noted-D-Ledger g a = record { name = a.parcels.name; parts = a.parcels.parts }
+ghosts-run_noted-D-Ledger g a = record { name = a.blanks.parcels.name; parts = a.blanks.parcels.parts }

@@ -32,7 +32,7 @@ loop-lane-preserved c =
     let empty : w.others.items ≡ [] = subst (λ o. IfSome o HasNone) c.in-Some.is none.1 in
     let pushed = c.close-gathered.ensures.pushed in
     let taken = c.close-gathered.ensures.taken in
-    let numbers = closed_numbers ws rest c.args.workers.items w gathered.pushed gathered.taken c.loop-lane.taken c.loop-lane.left gathered.left items empty pushed taken gathered.whole held.counted held.numbers in
+    let numbers = closed_numbers ws rest c.args.workers.items w gathered.pushed gathered.taken c.loop-lane.taken c.loop-lane.left gathered.left items held.none pushed taken gathered.whole held.counted held.numbers in
     let more = c.close-gathered.ensures.left in
     let left = held.settled in
     record {
@@ -55,31 +55,17 @@ loop-lane-preserved c =
 pub overflow_add-taken : goal.overflow_add-taken
 overflow_add-taken c =
     let held = c.loop-lane.invariant in
-    let ws : List Worker = c.loop-lane.workers.items in
-    let rest : List Worker = c.pop.new.self.items in
-    let w : Worker = c.in-Some.field-0 in
-    let items : ws ≡ rest ++ w ∷ [] = search rules in
     let gathered = c.close-gathered.result in
-    let none = All-pop HasNone ws rest c.pop.result c.pop.ensures.items held.none in
-    let empty : w.others.items ≡ [] = subst (λ o. IfSome o HasNone) c.in-Some.is none.1 in
-    let pushed = c.close-gathered.ensures.pushed in
-    let taken = c.close-gathered.ensures.taken in
-    let numbers = closed_numbers ws rest c.args.workers.items w gathered.pushed gathered.taken c.loop-lane.taken c.loop-lane.left gathered.left items empty pushed taken gathered.whole held.counted held.numbers in
+    let items : c.loop-lane.workers.items ≡ c.pop.new.self.items ++ c.in-Some.field-0 ∷ [] = search rules in
+    let numbers = closed_numbers c.loop-lane.workers.items c.pop.new.self.items c.args.workers.items c.in-Some.field-0 gathered.pushed gathered.taken c.loop-lane.taken c.loop-lane.left gathered.left items held.none c.close-gathered.ensures.pushed c.close-gathered.ensures.taken gathered.whole held.counted held.numbers in
     omega (arith, numbers.1, c.requires.fits)
 
 pub overflow_add-left : goal.overflow_add-left
 overflow_add-left c =
     let held = c.loop-lane.invariant in
-    let ws : List Worker = c.loop-lane.workers.items in
-    let rest : List Worker = c.pop.new.self.items in
-    let w : Worker = c.in-Some.field-0 in
-    let items : ws ≡ rest ++ w ∷ [] = search rules in
     let gathered = c.close-gathered.result in
-    let none = All-pop HasNone ws rest c.pop.result c.pop.ensures.items held.none in
-    let empty : w.others.items ≡ [] = subst (λ o. IfSome o HasNone) c.in-Some.is none.1 in
-    let pushed = c.close-gathered.ensures.pushed in
-    let taken = c.close-gathered.ensures.taken in
-    let numbers = closed_numbers ws rest c.args.workers.items w gathered.pushed gathered.taken c.loop-lane.taken c.loop-lane.left gathered.left items empty pushed taken gathered.whole held.counted held.numbers in
+    let items : c.loop-lane.workers.items ≡ c.pop.new.self.items ++ c.in-Some.field-0 ∷ [] = search rules in
+    let numbers = closed_numbers c.loop-lane.workers.items c.pop.new.self.items c.args.workers.items c.in-Some.field-0 gathered.pushed gathered.taken c.loop-lane.taken c.loop-lane.left gathered.left items held.none c.close-gathered.ensures.pushed c.close-gathered.ensures.taken gathered.whole held.counted held.numbers in
     omega (arith, numbers.1, c.requires.fits)
 
 pub returns-clause-left : goal.returns-clause-left

@@ -1,20 +1,11 @@
-use Rattle.std.proofs.Common.{sym, ◌∙◌, ap}
-use Rattle.ovl_names.specs.Paths.{PathNames}
-use Rattle.ovl_layer.specs.LayerTrees.{entries_under}
-use Rattle.ovl_layer.proofs.NodeLemmas.{entries_under-nothing}
+use Rattle.ovl_layer.proofs.PlaceLemmas.{goes_nowhere, goes_on}
 use Rattle.ovl_layer.proofs.sheets.Sheet.place.Goals as goal
 
 pub returns-in_default : goal.returns-in_default
-returns-in_default c =
-    let rest : PathNames = c.next.new.self in
-    sym c.loop-name.invariant.same
-    ∙ (ap (λ (names : PathNames). entries_under names c.loop-name.place) c.in-Some.ensures.steps
-    ∙ (ap (entries_under rest) c.in_default.ensures ∙ entries_under-nothing rest))
+returns-in_default c = goes_nowhere c.loop-name.place _ _ _ _ c.in-Some.ensures.steps c.loop-name.invariant.same c.in_default.ensures
 
 pub loop-name-preserved : goal.loop-name-preserved
 loop-name-preserved c = record {
-  same =
-      ap (entries_under c.next.new.self) c.in-Some-child.ensures.0
-      ∙ (sym (ap (λ (names : PathNames). entries_under names c.loop-name.place) c.in-Some.ensures.steps) ∙ c.loop-name.invariant.same);
+  same = goes_on c.loop-name.place _ _ _ _ _ c.in-Some.ensures.steps c.loop-name.invariant.same c.in-Some-child.ensures.0;
   some = c.in-Some-child.ensures.1;
 }

@@ -3,7 +3,7 @@ use Rattle.ovl_board.proofs.LawsOfWalks.{own_permuted}
 use Rattle.ovl_pool.specs.declared.hauls.Haul.{Haul}
 use Rattle.ovl_pool.specs.Hauls.{IsClean, AreInPieceOrder}
 use Rattle.ovl_pool.proofs.FlowLemmas.{tied_permuted, within_permuted, counted_permuted}
-use Rattle.ovl_pool.proofs.workers.labor.Goals as goal
+use Rattle.ovl_pool.proofs.workers.Workshop.labor.Goals as goal
 
 -- where a haul is clean it was clean before it was sorted
 was_clean : {O : Type 0} (haul sorted : Haul O) → (sorted.starved ≡ false → (haul.starved ≡ false) × AreInPieceOrder sorted.parcels.items) → sorted.refused ≡ haul.refused → IsClean sorted → IsClean haul
@@ -12,7 +12,7 @@ was_clean haul sorted fed refused clean = ((fed clean.0).0, sym refused ∙ clea
 -- the haul is the worker's own in any order
 pub returns-clause-ended : goal.returns-clause-ended
 returns-clause-ended g c =
-    let work = c.args.work.now in
+    let work = c.args.self.now.work.now in
     let served = c.serve_all-worker in
     let ended = served.ensures.ended in
     let haul = served.result.1 in
@@ -21,7 +21,7 @@ returns-clause-ended g c =
     let refused = c.sorted.ensures.refused in record {
       haul = (
         own_permuted g.W.Work.seen (g.W.Work.kids_of work) (g.W.Work.out_of work) haul.parcels.items sorted.parcels.items same ended.haul.0,
-        subst (λ o. IfSome o (g.G.Gate.may_refuse c.args.gate.now)) (sym refused) ended.haul.1,
+        subst (λ o. IfSome o (g.G.Gate.may_refuse c.args.self.now.gate.now)) (sym refused) ended.haul.1,
       );
       passes = ended.passes;
       same = ended.same;
