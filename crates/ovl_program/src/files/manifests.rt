@@ -1,4 +1,4 @@
-ghost use Rattle.std.specs.Prelude.{◌≡◌, ◌<◌, ◌≤◌, ◌*◌, max, IfOk, IfErr, MatchResult, string_bytes, vec_len, length, map, All, Contains};
+ghost use Rattle.std.specs.Prelude.{◌≡◌, ◌<◌, ◌≤◌, ◌*◌, max, IfOk, IfErr, IfSome, MatchResult, string_bytes, vec_len, length, map, All, Contains};
 ghost use Rattle.std.specs.Thread.{IsSync};
 ghost use Rattle.ovl_program.specs.BlobFolders.{IsToldOf};
 ghost use Rattle.ovl_program.specs.Faults.{IsUnread};
@@ -13,17 +13,18 @@ use std::fs::{self, OpenFile};
 use std::rt::Files;
 use std::thread::{Threads, map_chunks};
 
-/// The bytes of a file, at most [`INPUT_LIMIT`]. Links are followed. A folder can't be read. Room
-/// is made for the length that is expected, and where none is, for the one that the open file
-/// tells; there may be fewer bytes or more.
+/// The bytes of a file, all that it has, at most [`INPUT_LIMIT`]. Links are followed. A folder
+/// can't be read. Room is made for the length that is expected, and where none is, for the one that
+/// the open file tells; there may be fewer bytes or more.
 pub fn read_file<R: Files + AllocGlobal>(
     rt: &R,
     path: &str,
     expected: Option<u64>,
 ) -> Result<Vec<u8>, ProgramFault>
-    ensures { MatchResult result
-        (λ bytes. vec_len bytes ≤ INPUT_LIMIT)
-        (λ fault. IsUnread (λ told. told ≡ path.now) fault) }
+    ensures within { IfOk result (λ bytes. vec_len bytes ≤ INPUT_LIMIT) }
+    ensures fault { IfErr result (λ fault. IsUnread (λ told. told ≡ path.now) fault) }
+    ensures whole { IfOk result
+        (λ bytes. (file : R.File) × IfSome (R.File.remaining file) (λ left. bytes.items ≡ left)) }
 {
     match read_bytes(rt, path, expected) {
         Ok(bytes) => Ok(bytes),
@@ -37,7 +38,9 @@ fn read_bytes<R: Files + AllocGlobal>(
     path: &str,
     expected: Option<u64>,
 ) -> Result<Vec<u8>, ReadFault>
-    ensures { IfOk result (λ bytes. vec_len bytes ≤ INPUT_LIMIT) }
+    ensures within { IfOk result (λ bytes. vec_len bytes ≤ INPUT_LIMIT) }
+    ensures whole { IfOk result
+        (λ bytes. (file : R.File) × IfSome (R.File.remaining file) (λ left. bytes.items ≡ left)) }
 {
     let mut file = fs::open(rt, path)?;
     // A length that isn't told, or is wrong, as 0 is in /proc, changes only how room is made.
