@@ -1,17 +1,15 @@
 -- Entries that are put together, directory by directory.
-use Rattle.std.proofs.Common.{◌≡◌, ◌∙◌, ◌+◌, ◌-◌, ◌<◌, ◌≤◌, ℕ, suc, Bool, true, false, List, [], ◌∷◌, ◌++◌, Option, Some, None, refl, sym, ap, subst, append-nil, append_assoc, length, map, take, length-append, arith, le-leb, leb-true}
-use Rattle.std.specs.Prelude.{◌&&◌, ◌||◌, not, max, nat_le}
+use Rattle.std.proofs.Common.{◌≡◌, ◌∙◌, ◌+◌, ◌-◌, ◌<◌, ◌≤◌, ℕ, suc, Bool, true, false, List, [], ◌∷◌, ◌++◌, Option, Some, None, refl, sym, ap, subst, length, take, length-append, arith, le-leb, leb-true}
+use Rattle.std.specs.Prelude.{◌&&◌, not, max, nat_le}
 use Rattle.std.specs.List.{list_all}
 use Rattle.std.specs.Ordering.{is_lt}
 use Rattle.std.specs.Cmp.Lexicographic.{nat_list_cmp_total}
 use Rattle.std.specs.declared.cmp.Ordering.{Ordering}
-use Rattle.std.specs.declared.cmp.Ordering.TheVariants.{Less, Equal, Greater}
-use Rattle.std.proofs.lemmas.List.{length-map}
 use Rattle.std.proofs.lemmas.List.Folds.{list_all-append}
 use Rattle.std.proofs.lemmas.List.Elements.{filter_map-append}
 use Rattle.ovl_names.specs.Names.{PathName, is_name, name_cmp, slash}
 use Rattle.ovl_names.specs.Order.{ascends}
-use Rattle.ovl_names.specs.Paths.{PathNames, path_cmp, path_text, parent_path, is_root, has_names, depth_limit, text_limit}
+use Rattle.ovl_names.specs.Paths.{PathNames, path_cmp, path_text, parent_path, has_names, depth_limit, text_limit}
 use Rattle.ovl_names.proofs.Ascending.{both, not_true, is_lt-Less, list_all-front, ascends-across, ascends-back, ascends-more}
 use Rattle.ovl_inode.specs.declared.inodes.Inode.{Inode}
 use Rattle.ovl_inode.specs.Attributes.{has_escaped_name}
@@ -25,7 +23,7 @@ use Rattle.ovl_layer.specs.TreeFalls.{length-under}
 use Rattle.ovl_layer.specs.declared.siblings.Extent.{Extent}
 use Rattle.ovl_layer.specs.Siblings.{AreBelow, CanStand, most_names, most_bytes, IsExtent, Fits}
 use Rattle.ovl_layer.proofs.EntryLemmas.{limits}
-use Rattle.ovl_layer.proofs.NodeLemmas.{name_eq-same, entries_in-under_same, entry_at-in, entries_of_nodes-push, placed-root}
+use Rattle.ovl_layer.proofs.NodeLemmas.{name_eq-same, entries_in-under_same, entry_at-in, placed-root}
 use Rattle.ovl_layer.proofs.OpenLemmas.{path_cmp-under, ascends-under, nothing_earlier, single, placed-deeper}
 use Rattle.ovl_layer.proofs.LayerLemmas.{path_order, closed-kept, IsLayer-root}
 

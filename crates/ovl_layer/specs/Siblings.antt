@@ -1,5 +1,5 @@
 -- The entries of a directory with all that lies under them, their paths counted from it.
-use Rattle.std.specs.Prelude.{◌≡◌, ◌<◌, ◌≤◌, ℕ, true, not, max, List, [], ◌∷◌, length}
+use Rattle.std.specs.Prelude.{◌≡◌, ◌<◌, ◌≤◌, ℕ, true, not, max, [], ◌∷◌, length}
 use Rattle.std.specs.List.{list_all}
 use Rattle.ovl_names.specs.Order.{ascends}
 use Rattle.ovl_names.specs.Paths.{depth_limit, text_limit}

@@ -3,7 +3,7 @@ use Rattle.std.proofs.Common.{◌≡◌, ℕ, ◌+◌, ◌<◌, length, arith, B
 use Rattle.std.specs.Prelude.{unwrap_or, slice_get, IsSomeAnd}
 use Rattle.std.specs.Option.{option_map}
 use Rattle.std.proofs.lemmas.Option.{slice_get-map, slice_get-get_or, slice_get_within}
-use Rattle.std.proofs.lemmas.List.{map_push}
+use Rattle.std.proofs.lemmas.List.{append-nil, map_push}
 use Rattle.std.proofs.lemmas.List.Elements.{All-push}
 use Rattle.std.specs.List.{All}
 use Rattle.ovl_names.specs.Names.{PathName}
@@ -13,7 +13,7 @@ use Rattle.ovl_inode.specs.Marks.{mark_of, is_directory}
 use Rattle.ovl_inode.specs.declared.marks.Mark.{Mark}
 use Rattle.ovl_inode.specs.declared.marks.Mark.TheVariants.{Whiteout, DirOpaque, DirMoved, DirBad, DirPlain, Meta, MetaBad, Leaf}
 use Rattle.ovl_inode.specs.declared.marks.Redirect.TheVariants.{To, Beside}
-use Rattle.ovl_layer.specs.Layers.{Entries, entry_at}
+use Rattle.ovl_layer.specs.Layers.{Entries, IsLayer, entry_at}
 use Rattle.ovl_layer.specs.Sheets.{path_at}
 use Rattle.ovl_lookup.specs.declared.steps.Step.{Step}
 use Rattle.ovl_lookup.specs.declared.views.DirPlace.{DirPlace}
@@ -24,6 +24,7 @@ use Rattle.ovl_lookup.specs.Stacks.{StackView}
 use Rattle.ovl_lookup.specs.Views.{Reached, reached, is_reached, entry_in, entered, below_entry, reached_below}
 use Rattle.ovl_lookup.specs.Onwards.{path_on, name_on}
 use Rattle.ovl_lookup.specs.DirViews.{IsEntryIn, place_below, place_in, places_in, IsPlaceOver}
+use Rattle.ovl_lookup.proofs.ViewLemmas.{views-go_on}
 use Rattle.ovl_lookup.proofs.ViewSteps.{arrives-directory, arrives-past, below-directory}
 use Rattle.ovl_lookup.proofs.LawsOfWalks.{is_shut-entered, mark_at-child, turn-entered, walk-whole}
 
@@ -35,6 +36,11 @@ pub entry-here : (stack : StackView) (name : PathName) (place : DirPlace) (layer
 entry-here stack name place layer at = λ j. elim (at j) as (λ _. Option Inode) [ Some own ↦ entry_at own (child_path (elim (at j) as (λ _. PathNames) [ Some entries ↦ path_at entries place.row | None ↦ [] ]) name) | None ↦ None ]
 
 -- ---- places that were added
+
+-- the place that a layer has, by its row
+abbrev pub places_of : ℕ → Option ℕ → List DirPlace
+places_of layer None = []
+places_of layer (Some row) = (record { layer = layer; row = row }) ∷ []
 
 -- a place, by what there is of its layer
 abbrev placed_by : DirPlace → Option Entries → Reached
@@ -66,7 +72,7 @@ module _ (stack : StackView) where
       ∙ (λ j. record { layer = place.layer; path = is j; next = turn layer (is j); closed = is_shut layer (is j) })
 
   -- a layer that has the directory, or doesn't, and then the layers below it
-  pub directory-step : (i : ℕ) (layer : Entries) (path : PathNames) (row : ℕ) (next : PathNames) (closed : Bool) → slice_get stack.layers i ≡ Some layer → IsArrivalAt layer path (Some row) next closed
+  directory-step : (i : ℕ) (layer : Entries) (path : PathNames) (row : ℕ) (next : PathNames) (closed : Bool) → slice_get stack.layers i ≡ Some layer → IsArrivalAt layer path (Some row) next closed
       → (old so_far new : List DirPlace) (more : List Reached) → new ≡ so_far ++ (record { layer = i; row = row }) ∷ [] → places_in stack so_far ++ reached (drop i stack.layers) i path ≡ places_in stack old ++ more
       → places_in stack new ++ cond closed [] (reached (drop (i + 1) stack.layers) (i + 1) next) ≡ places_in stack old ++ more
   directory-step i layer path row next closed at arrival old so_far new more is same =
@@ -81,15 +87,36 @@ module _ (stack : StackView) where
       ∙ (ap (λ (ps : List Reached). places_in stack so_far ++ ps) (sym (arrives-directory stack.layers i layer at path next closed arrival.directory arrival.next arrival.closed))
       ∙ same)))
 
-  pub past-step : (i : ℕ) (layer : Entries) (path : PathNames) (next : PathNames) (closed : Bool) → slice_get stack.layers i ≡ Some layer → IsArrivalAt layer path None next closed
+  past-step : (i : ℕ) (layer : Entries) (path : PathNames) (next : PathNames) (closed : Bool) → slice_get stack.layers i ≡ Some layer → IsArrivalAt layer path None next closed
       → (old so_far : List DirPlace) (more : List Reached) → places_in stack so_far ++ reached (drop i stack.layers) i path ≡ places_in stack old ++ more
       → places_in stack so_far ++ cond closed [] (reached (drop (i + 1) stack.layers) (i + 1) next) ≡ places_in stack old ++ more
   past-step i layer path next closed at arrival old so_far more same =
       ap (λ (ps : List Reached). places_in stack so_far ++ ps) (sym (arrives-past stack.layers i layer at path next closed arrival)) ∙ same
 
-  pub over-push : (old so_far new : List DirPlace) (own : DirPlace) (layer : Entries) → slice_get stack.layers own.layer ≡ Some layer → own.row < length layer → new ≡ so_far ++ own ∷ [] → (All (IsPlaceOver stack) old → All (IsPlaceOver stack) so_far) → All (IsPlaceOver stack) old → All (IsPlaceOver stack) new
+  over-push : (old so_far new : List DirPlace) (own : DirPlace) (layer : Entries) → slice_get stack.layers own.layer ≡ Some layer → own.row < length layer → new ≡ so_far ++ own ∷ [] → (All (IsPlaceOver stack) old → All (IsPlaceOver stack) so_far) → All (IsPlaceOver stack) old → All (IsPlaceOver stack) new
   over-push old so_far new own layer at inside is over all =
       subst (λ (ps : List DirPlace). All (IsPlaceOver stack) ps) (sym is) (All-push (IsPlaceOver stack) so_far own (over all) (row-over own layer at inside))
+
+  -- the walk of a layer has arrived: its place is added where it has the directory, and the layers below go on where it isn't closed
+  pub arrival-step : (i : ℕ) (layer : Entries) (path : PathNames) (row : Option ℕ) (next : PathNames) (closed shut : Bool) → slice_get stack.layers i ≡ Some layer → IsArrivalAt layer path row next closed → closed ≡ shut → (old so_far new : List DirPlace) (more : List Reached)
+      → new ≡ so_far ++ places_of i row → (All (IsPlaceOver stack) old → All (IsPlaceOver stack) so_far) → places_in stack so_far ++ reached (drop i stack.layers) i path ≡ places_in stack old ++ more
+      → (places_in stack new ++ cond shut [] (reached (drop (i + 1) stack.layers) (i + 1) next) ≡ places_in stack old ++ more) × (All (IsPlaceOver stack) old → All (IsPlaceOver stack) new)
+  arrival-step i layer path row next closed shut at arrival is_shut old so_far new more is over same =
+      let rest : List Reached = reached (drop (i + 1) stack.layers) (i + 1) next in
+      let step = by row arrival is in
+      (ap (λ b. places_in stack new ++ cond b [] rest) (sym is_shut) ∙ step.0, step.1)
+    where
+      by : (o : Option ℕ) → IsArrivalAt layer path o next closed → new ≡ so_far ++ places_of i o
+          → (places_in stack new ++ cond closed [] (reached (drop (i + 1) stack.layers) (i + 1) next) ≡ places_in stack old ++ more) × (All (IsPlaceOver stack) old → All (IsPlaceOver stack) new)
+      by (Some own) here pushed = (
+        directory-step i layer path own next closed at here old so_far new more pushed same,
+        over-push old so_far new (record { layer = i; row = own }) layer at here.inside pushed over,
+      )
+      by None here kept =
+          let e : new ≡ so_far = kept ∙ append-nil so_far in (
+            subst (λ (ps : List DirPlace). places_in stack ps ++ cond closed [] (reached (drop (i + 1) stack.layers) (i + 1) next) ≡ places_in stack old ++ more) (sym e) (past-step i layer path next closed at here old so_far more same),
+            λ all. subst (λ (ps : List DirPlace). All (IsPlaceOver stack) ps) (sym e) (over all),
+          )
 
 -- ---- what goes on below an entry
 
@@ -171,11 +198,11 @@ module _ (stack : StackView) (name : PathName) (places : List DirPlace) (k : ℕ
       by None row = absurd row
       by (Some layer) row = row.0
 
-  pub over-below : (entry : PlaceEntry) → IsEntryIn stack name own entry → (old so_far new : List DirPlace) → new ≡ so_far ++ place_below own entry ∷ [] → (All (IsPlaceOver stack) old → All (IsPlaceOver stack) so_far) → All (IsPlaceOver stack) old → All (IsPlaceOver stack) new
+  over-below : (entry : PlaceEntry) → IsEntryIn stack name own entry → (old so_far new : List DirPlace) → new ≡ so_far ++ place_below own entry ∷ [] → (All (IsPlaceOver stack) old → All (IsPlaceOver stack) so_far) → All (IsPlaceOver stack) old → All (IsPlaceOver stack) new
   over-below entry is old so_far new pushes over all =
       subst (λ (ps : List DirPlace). All (IsPlaceOver stack) ps) (sym pushes) (All-push (IsPlaceOver stack) so_far (place_below own entry) (over all) (over-there entry is))
 
-  pub below-step : (entry : PlaceEntry) → IsEntryIn stack name own entry → is_directory entry.inode.now ≡ true
+  below-step : (entry : PlaceEntry) → IsEntryIn stack name own entry → is_directory entry.inode.now ≡ true
       → (old so_far new : List DirPlace) (rest more : List Reached) → new ≡ so_far ++ place_below own entry ∷ []
       → below_entry entry.mark.now name (reached (drop (own.layer + 1) stack.layers) (own.layer + 1)) (λ other. reached_below stack.layers other (left (k + 1))) ≡ rest
       → places_in stack so_far ++ reached_below stack.layers name (left k) ≡ places_in stack old ++ more
@@ -185,6 +212,16 @@ module _ (stack : StackView) (name : PathName) (places : List DirPlace) (k : ℕ
       ((λ j. places_in stack so_far ++ entered-there entry is j ∷ sym onward j)
       ∙ (ap (λ (ps : List Reached). places_in stack so_far ++ ps) (sym (below-directory stack.layers name (places_in stack places) k (place_in stack own) (place-read stack places k inside) entry.inode.now entry.mark.now is.inode holds (sym is.mark)))
       ∙ same))
+
+  -- the place that was pushed is over the stack, and what its mark leads to comes after it
+  pub below-pushed : (entry : PlaceEntry) → IsEntryIn stack name own entry → is_directory entry.inode.now ≡ true → (old so_far new : List DirPlace) (more : List Reached) → new ≡ so_far ++ place_below own entry ∷ []
+      → (All (IsPlaceOver stack) old → All (IsPlaceOver stack) so_far) → places_in stack so_far ++ reached_below stack.layers name (left k) ≡ places_in stack old ++ more
+      → ((rest : List Reached) → below_entry entry.mark.now name (reached (drop (own.layer + 1) stack.layers) (own.layer + 1)) (λ other. reached_below stack.layers other (left (k + 1))) ≡ rest → places_in stack new ++ rest ≡ places_in stack old ++ more)
+      × (All (IsPlaceOver stack) old → All (IsPlaceOver stack) new)
+  below-pushed entry is holds old so_far new more pushes over same = (
+    λ rest onward. below-step entry is holds old so_far new rest more pushes onward same,
+    over-below entry is old so_far new pushes over,
+  )
 
 -- the layer of a place is one of the stack
 layer-inside : (stack : StackView) (place : DirPlace) → IsPlaceOver stack place → place.layer < length stack.layers
@@ -199,6 +236,12 @@ over-read stack places k all inside = all k (record { layer = 0; row = 0 }) insi
 
 pub layer-read : (stack : StackView) (places : List DirPlace) (k : ℕ) → All (IsPlaceOver stack) places → k < length places → (place_read places k).layer < length stack.layers
 layer-read stack places k all inside = layer-inside stack (place_read places k) (over-read stack places k all inside)
+
+-- the places below those of a view, by a name, are where walks come to with it
+pub child-places : (stack : StackView) (from : ℕ) (path : PathNames) (name : PathName) (none places items : List DirPlace) → All IsLayer stack.layers → none ≡ [] → places_in stack places ≡ reached (drop from stack.layers) from path
+    → places_in stack items ≡ places_in stack none ++ reached_below stack.layers name (places_in stack places) → places_in stack items ≡ reached (drop from stack.layers) from (child_path path name)
+child-places stack from path name none places items each empty below adds =
+    adds ∙ ((λ j. places_in stack (empty j) ++ reached_below stack.layers name (below j)) ∙ sym (views-go_on stack each from path name))
 
 -- a view has a place exactly where a directory is shown
 pub no-places : (stack : StackView) (places : List DirPlace) (more : List Reached) → places_in stack places ≡ more → length places ≡ 0 → is_reached more ≡ false

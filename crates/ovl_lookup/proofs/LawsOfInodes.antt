@@ -50,19 +50,25 @@ visible-with (attr ∷ attrs) name value own = by (visible-with attrs name value
         ∙ sym (ap (λ b. cond (not b) (attr ∷ visible_attributes attrs) (visible_attributes attrs)) hidden)
     by later Greater e = ap (λ (rest : Attributes). cond (not (is_overlay_name attr.0)) (attr ∷ rest) rest) later
 
+-- ---- the marks of a directory and of a metacopy file, by how their redirect reads
+
+pub by_reading : (P : Mark → Mark → Type 0) → P DirPlain (Meta None) → P DirBad MetaBad → ((redirect : Redirect) → P (DirMoved redirect) (Meta (Some redirect)))
+    → (inode : Inode) → P (directory_mark (redirect_reading inode)) (metacopy_mark (redirect_reading inode))
+by_reading P absent malformed says inode = by (attribute inode.attrs redirect_name) refl
+  where
+    said : (value : List ℕ) → attribute inode.attrs redirect_name ≡ Some value → (redirect : Option Redirect) → read_redirect value ≡ redirect → P (directory_mark (redirect_reading inode)) (metacopy_mark (redirect_reading inode))
+    said value e None f = rw (e, redirect_reading) (rw f malformed)
+    said value e (Some redirect) f = rw (e, redirect_reading) (rw f (says redirect))
+
+    by : (found : Option (List ℕ)) → attribute inode.attrs redirect_name ≡ found → P (directory_mark (redirect_reading inode)) (metacopy_mark (redirect_reading inode))
+    by None e = rw (e, redirect_reading) absent
+    by (Some value) e = said value e (read_redirect value) refl
+
 -- ---- the mark and the kind of a metacopy file
 
 -- however its `redirect` reads, a directory's mark is that of no metacopy file
 directory_mark-plain : (inode : Inode) → is_metacopy_mark (directory_mark (redirect_reading inode)) ≡ false
-directory_mark-plain inode = by (attribute inode.attrs redirect_name) refl
-  where
-    said : (value : List ℕ) → attribute inode.attrs redirect_name ≡ Some value → (redirect : Option Redirect) → read_redirect value ≡ redirect → is_metacopy_mark (directory_mark (redirect_reading inode)) ≡ false
-    said value e None f = rw (e, redirect_reading) (rw f refl)
-    said value e (Some redirect) f = rw (e, redirect_reading) (rw f refl)
-
-    by : (found : Option (List ℕ)) → attribute inode.attrs redirect_name ≡ found → is_metacopy_mark (directory_mark (redirect_reading inode)) ≡ false
-    by None e = rw (e, redirect_reading) refl
-    by (Some value) e = said value e (read_redirect value) refl
+directory_mark-plain inode = by_reading (λ own meta. is_metacopy_mark own ≡ false) refl refl (λ redirect. refl) inode
 
 -- a metacopy file's mark is that of no directory, and says `metacopy`
 metacopy_cases : (whiteout directory opaque file : Bool) (of_directory of_file : Mark) → is_metacopy_mark of_directory ≡ false → is_metacopy_mark (cond whiteout Whiteout (cond (directory && opaque) DirOpaque (cond directory of_directory (cond file of_file Leaf)))) ≡ true → (directory ≡ false) × (file ≡ true)
@@ -92,20 +98,6 @@ pub bare_file : (inode : Inode) → (is_regular inode && has_metacopy inode) ≡
 bare_file inode bare =
     let parts = both {a = is_regular inode} {b = has_metacopy inode} bare in
     (regular_kind inode.kind parts.0, (λ j. parts.0 j && not (parts.1 j)))
-
--- ---- the marks of a directory and of a metacopy file, by how their redirect reads
-
-pub by_reading : (P : Mark → Mark → Type 0) → P DirPlain (Meta None) → P DirBad MetaBad → ((redirect : Redirect) → P (DirMoved redirect) (Meta (Some redirect)))
-    → (inode : Inode) → P (directory_mark (redirect_reading inode)) (metacopy_mark (redirect_reading inode))
-by_reading P absent malformed says inode = by (attribute inode.attrs redirect_name) refl
-  where
-    said : (value : List ℕ) → attribute inode.attrs redirect_name ≡ Some value → (redirect : Option Redirect) → read_redirect value ≡ redirect → P (directory_mark (redirect_reading inode)) (metacopy_mark (redirect_reading inode))
-    said value e None f = rw (e, redirect_reading) (rw f malformed)
-    said value e (Some redirect) f = rw (e, redirect_reading) (rw f (says redirect))
-
-    by : (found : Option (List ℕ)) → attribute inode.attrs redirect_name ≡ found → P (directory_mark (redirect_reading inode)) (metacopy_mark (redirect_reading inode))
-    by None e = rw (e, redirect_reading) absent
-    by (Some value) e = said value e (read_redirect value) refl
 
 -- ---- a directory is no whiteout
 
@@ -200,26 +192,10 @@ is_directory_mark _ = false
 
 -- however its `redirect` reads
 directory_mark-is : (inode : Inode) → is_directory_mark (directory_mark (redirect_reading inode)) ≡ true
-directory_mark-is inode = by (attribute inode.attrs redirect_name) refl
-  where
-    said : (value : List ℕ) → attribute inode.attrs redirect_name ≡ Some value → (redirect : Option Redirect) → read_redirect value ≡ redirect → is_directory_mark (directory_mark (redirect_reading inode)) ≡ true
-    said value e None f = rw (e, redirect_reading) (rw f refl)
-    said value e (Some redirect) f = rw (e, redirect_reading) (rw f refl)
-
-    by : (found : Option (List ℕ)) → attribute inode.attrs redirect_name ≡ found → is_directory_mark (directory_mark (redirect_reading inode)) ≡ true
-    by None e = rw (e, redirect_reading) refl
-    by (Some value) e = said value e (read_redirect value) refl
+directory_mark-is inode = by_reading (λ own meta. is_directory_mark own ≡ true) refl refl (λ redirect. refl) inode
 
 metacopy_mark-isnt : (inode : Inode) → is_directory_mark (metacopy_mark (redirect_reading inode)) ≡ false
-metacopy_mark-isnt inode = by (attribute inode.attrs redirect_name) refl
-  where
-    said : (value : List ℕ) → attribute inode.attrs redirect_name ≡ Some value → (redirect : Option Redirect) → read_redirect value ≡ redirect → is_directory_mark (metacopy_mark (redirect_reading inode)) ≡ false
-    said value e None f = rw (e, redirect_reading) (rw f refl)
-    said value e (Some redirect) f = rw (e, redirect_reading) (rw f refl)
-
-    by : (found : Option (List ℕ)) → attribute inode.attrs redirect_name ≡ found → is_directory_mark (metacopy_mark (redirect_reading inode)) ≡ false
-    by None e = rw (e, redirect_reading) refl
-    by (Some value) e = said value e (read_redirect value) refl
+metacopy_mark-isnt inode = by_reading (λ own meta. is_directory_mark meta ≡ false) refl refl (λ redirect. refl) inode
 
 mark-cases : (whiteout directory opaque file : Bool) (of_directory of_file : Mark) → is_directory_mark of_directory ≡ true → is_directory_mark of_file ≡ false → whiteout ≡ false → is_directory_mark (cond whiteout Whiteout (cond (directory && opaque) DirOpaque (cond directory of_directory (cond file of_file Leaf)))) ≡ directory
 mark-cases true directory opaque file of_directory of_file marked unmarked none = let bad : true ≡ false = none in cc

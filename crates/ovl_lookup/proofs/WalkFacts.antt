@@ -189,10 +189,10 @@ module _ (layer : Entries) (path : PathNames) (d : Descent) (is : IsDescent laye
           by [] e = ap (λ (names : PathNames). is.above ++ stopped.name ∷ names) (sym e) ∙ at-rest
           by (other ∷ tail) e = absurd (last (omega (arith, longer stopped.name stopped.tail stopped.rest, ap length e)))
 
-      pub walked-to : (d.depth + 1 < length path → ⊥) → (end : OwnDirectory) → IsOwnEntry layer (child_path is.above stopped.name) end → (inode : Inode) → entry_at layer (path_at layer number) ≡ Some inode
-          → record { found = cond (is_whiteout inode) None (Some inode); next = unwrap_or end.turned path; closed = end.closed } ≡ walk layer path
-      walked-to last end ends inode here =
+      pub walked-to : (d.depth + 1 < length path → ⊥) → (end : OwnDirectory) → IsOwnEntry layer (child_path is.above stopped.name) end → (inode : Inode) → entry_at layer (path_at layer number) ≡ Some inode → (white : Bool) → is_whiteout inode ≡ white
+          → record { found = cond white None (Some inode); next = unwrap_or end.turned path; closed = end.closed } ≡ walk layer path
+      walked-to last end ends inode here white is_white =
           let whole = last-name last in
           let step = walk-child layer is.above stopped.name is.layered inode (ap (entry_at layer) (sym row-there.1) ∙ here) in
-          (λ j. record { found = cond (is_whiteout inode) None (Some inode); next = (ap (unwrap_or end.turned) (sym whole) ∙ (ends.next ∙ ap (λ (s : Step). s.next) step)) j; closed = (ends.closed ∙ ap (λ (s : Step). s.closed) step) j })
+          (λ j. record { found = cond (sym is_white j) None (Some inode); next = (ap (unwrap_or end.turned) (sym whole) ∙ (ends.next ∙ ap (λ (s : Step). s.next) step)) j; closed = (ends.closed ∙ ap (λ (s : Step). s.closed) step) j })
           ∙ (sym step ∙ ap (walk layer) whole)

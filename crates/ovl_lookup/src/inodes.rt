@@ -1,6 +1,7 @@
 ghost use Rattle.std.specs.Prelude.{◌≡◌, IfOk};
 ghost use Rattle.std.specs.List.{filter_map};
-ghost use Rattle.ovl_lookup.specs.ShownInodes.{named_shown, shown_inodes as the_inodes};
+ghost use Rattle.ovl_lookup.specs.ShownInodes.{named_shown};
+ghost use Rattle.ovl_lookup.specs.ShownInodes as shown;
 
 use crate::{DirView, Look, Stack};
 use ovl_inode::Inode;
@@ -14,7 +15,7 @@ pub fn shown_inodes(
     stack: &Stack,
     dir: &Path,
 ) -> Result<Vec<(Name, Inode)>, AllocError>
-    ensures { IfOk result (λ inodes. inodes.items ≡ the_inodes stack.now dir.now) }
+    ensures { IfOk result (λ inodes. inodes.items ≡ shown.shown_inodes stack.now dir.now) }
 {
     // Each layer of a stack is one.
     let _layers = stack.ordinary();

@@ -1,11 +1,12 @@
 ghost use Rattle.std.specs.Prelude.{◌≡◌, ◌<◌, ◌≤◌, [], ◌∷◌, ◌&&◌, true, length, drop, slice_get, IfOk, IfSome, MatchOption};
 ghost use Rattle.std.specs.Option.{option_map};
 ghost use Rattle.std.specs.Cmp.{partial_equiv_from_equiv};
-ghost use Rattle.ovl_inode.specs.Marks.{mark_of as the_mark, is_metacopy_mark, is_regular, has_metacopy};
+ghost use Rattle.ovl_inode.specs.Marks.{mark_of, is_metacopy_mark, is_regular, has_metacopy};
 ghost use Rattle.ovl_lookup.specs.Stacks.{from_layer};
 ghost use Rattle.ovl_lookup.specs.Trace.{things_found};
-ghost use Rattle.ovl_lookup.specs.Merged.{look as the_look, shown_of, data_of as the_data, place_of_data as the_place, place_told as the_place_told, data_at_place, is_full_file as full_file_test, full_file_in as the_file, is_nothing as nothing_test, is_shown_directory as directory_test, without_blob as kind_without_blob};
-ghost use Rattle.ovl_lookup.specs.Walk.{walk as the_walk};
+ghost use Rattle.ovl_lookup.specs.Merged.{look, shown_of, data_of, place_told, data_at_place, is_full_file, is_nothing, is_shown_directory};
+ghost use Rattle.ovl_lookup.specs.Merged as merged;
+ghost use Rattle.ovl_lookup.specs.Walk.{walk};
 ghost use Rattle.ovl_lookup.specs.ShownInodes.{inode_shown};
 ghost use Rattle.ovl_lookup.specs.Passes.{IsMarked, IsHit, step_of, found_on, shown_with, data_below};
 ghost use Rattle.ovl_lookup.specs.Sights.{sight_of};
@@ -57,14 +58,14 @@ impl Eq for Look {
 impl Look {
     /// Whether nothing is shown.
     pub fn is_nothing(&self) -> bool
-        ensures { result ≡ nothing_test self.now }
+        ensures { result ≡ is_nothing self.now }
     {
         matches!(self, Look::Nothing)
     }
 
     /// Whether a directory is shown.
     pub fn is_shown_directory(&self) -> bool
-        ensures { result ≡ directory_test self.now }
+        ensures { result ≡ is_shown_directory self.now }
     {
         match self {
             Look::Shown(inode) => is_directory(inode),
@@ -99,7 +100,7 @@ impl Stack {
     /// "Directories", "Multiple lower layers", "Metadata only copy up", "Data-only lower layers".
     pub fn look(&self, alloc: Global, from: usize, path: &Path) -> Result<Look, AllocError>
         requires { from ≤ length self.now.layers }
-        ensures { IfOk result (λ look. look ≡ the_look (from_layer from self.now) path.now) }
+        ensures { IfOk result (λ shown. shown ≡ look (from_layer from self.now) path.now) }
     {
         let trail = Trail::of(alloc, &path.names())?;
         match self.first_hit(alloc, from, trail)? {
@@ -117,7 +118,7 @@ impl Stack {
     ) -> Result<Sight, AllocError>
         requires { from ≤ length self.now.layers }
         ensures { IfOk result
-            (λ sight. sight ≡ sight_of (the_look (from_layer from self.now) path.entry)) }
+            (λ sight. sight ≡ sight_of (look (from_layer from self.now) path.entry)) }
     {
         match self.first_hit(alloc, from, path)? {
             Some(hit) => Ok(Sight::of(hit.found.inode)),
@@ -169,7 +170,7 @@ impl Stack {
     ) -> Result<TrailStep<'a>, AllocError>
         requires { i < length self.now.layers }
         ensures value { IfSome (slice_get self.now.layers i)
-            (λ layer. IfOk result (λ step. step_of step ≡ the_walk layer trail.entry)) }
+            (λ layer. IfOk result (λ step. step_of step ≡ walk layer trail.entry)) }
         ensures marked { IfOk result IsMarked }
     {
         follow(alloc, &self.layers[i], trail)
@@ -178,41 +179,37 @@ impl Stack {
     // What is shown where this is the first thing found.
     fn shown<'a>(&'a self, alloc: Global, hit: Hit<'a>) -> Result<Look, AllocError>
         requires layers { hit.below ≤ length self.now.layers }
-        requires marked { hit.found.mark.now ≡ the_mark hit.found.inode.now }
+        requires marked { hit.found.mark.now ≡ mark_of hit.found.inode.now }
         ensures { IfOk result (λ look. look
             ≡ shown_of self.now.data_only
             (hit.entry.found.inode.now
             ∷ found_on self.now hit.entry.below hit.entry.next hit.entry.closed)) }
     {
+        let inode = hit.found.inode;
+        if !lacks_contents(inode) {
+            return Ok(Look::Shown(visible(alloc, inode)?));
+        }
+        let contents = self.data_of(alloc, hit)?;
+        metacopy_shown(alloc, inode, contents)
+    }
+
+    // The data of a metacopy file that is the first thing found.
+    fn data_of<'a>(&'a self, alloc: Global, hit: Hit<'a>) -> Result<Option<&'a Inode>, AllocError>
+        requires layers { hit.below ≤ length self.now.layers }
+        requires marked { hit.found.mark.now ≡ mark_of hit.found.inode.now }
+        requires bare { (is_regular hit.found.inode.now && has_metacopy hit.found.inode.now)
+            ≡ true }
+        ensures { IfOk result (λ found. option_map (λ inode. inode.now) found
+            ≡ data_of self.now.data_only
+            (hit.entry.found.inode.now
+            ∷ found_on self.now hit.entry.below hit.entry.next hit.entry.closed)) }
+    {
         let Hit {
-            found: Found { inode, mark },
+            found: Found { inode: _, mark },
             below,
             next,
             closed,
         } = hit;
-        if !lacks_contents(inode) {
-            return Ok(Look::Shown(visible(alloc, inode)?));
-        }
-        let contents = self.data_of(alloc, inode, mark, below, next, closed)?;
-        metacopy_shown(alloc, inode, contents)
-    }
-
-    // The data of a metacopy file that is the first thing found, where the walks go on like that.
-    fn data_of<'a>(
-        &'a self,
-        alloc: Global,
-        _inode: &Inode,
-        mark: &'a Mark,
-        i: usize,
-        next: Trail<'a>,
-        closed: bool,
-    ) -> Result<Option<&'a Inode>, AllocError>
-        requires layers { i ≤ length self.now.layers }
-        requires marked { mark.now ≡ the_mark _inode.now }
-        requires bare { (is_regular _inode.now && has_metacopy _inode.now) ≡ true }
-        ensures { IfOk result (λ found. option_map (λ inode. inode.now) found
-            ≡ the_data self.now.data_only (_inode.now ∷ found_on self.now i next.entry closed)) }
-    {
         if !is_well_formed_metacopy(mark) {
             return Ok(None);
         }
@@ -220,7 +217,7 @@ impl Stack {
         if closed {
             return Ok(self.data_at(origin));
         }
-        self.data(alloc, i, next, origin)
+        self.data(alloc, below, next, origin)
     }
 
     /// The data that the layers with index `from` and up have at a path, below metacopy files, of
@@ -269,7 +266,7 @@ impl Stack {
     /// lower layers".
     pub fn data_place(&self, alloc: Global, path: &Path) -> Result<Option<Path>, AllocError>
         ensures { IfOk result
-            (λ place. place ≡ the_place_told (things_found self.now.layers path.now)) }
+            (λ place. place ≡ place_told (things_found self.now.layers path.now)) }
     {
         let mut next = Trail::of(alloc, &path.names())?;
         let mut told = None;
@@ -307,7 +304,8 @@ impl Stack {
     /// The first full file that the data-only layers have at a path: a regular file with its
     /// contents itself, and no whiteout. Takes no memory. overlayfs.rst: "Data-only lower layers".
     pub fn full_file(&self, path: &Path) -> Option<&Inode>
-        ensures { option_map (λ inode. inode.now) result ≡ the_file self.now.data_only path.now }
+        ensures { option_map (λ inode. inode.now) result
+            ≡ merged.full_file_in self.now.data_only path.now }
     {
         full_file_in(&self.data_only, path)
     }
@@ -325,7 +323,7 @@ fn copied(alloc: Global, path: Option<&Path>) -> Result<Option<Path>, AllocError
 
 // The first full file that these layers have at a path.
 fn full_file_in<'a>(layers: &'a [Sheet], path: &Path) -> Option<&'a Inode>
-    ensures { option_map (λ inode. inode.now) result ≡ the_file layers.now path.now }
+    ensures { option_map (λ inode. inode.now) result ≡ merged.full_file_in layers.now path.now }
 {
     for layer in layers {
         if let Some(inode) = layer.at(path) {
@@ -339,14 +337,14 @@ fn full_file_in<'a>(layers: &'a [Sheet], path: &Path) -> Option<&'a Inode>
 
 // Whether the inode is a regular file with its contents itself, and no whiteout.
 fn is_full(inode: &Inode) -> bool
-    ensures { result ≡ full_file_test inode.now }
+    ensures { result ≡ is_full_file inode.now }
 {
     is_data(inode) && !is_whiteout(inode)
 }
 
 /// Where data-only layers have the data of a metacopy file of this mark.
 pub(crate) fn place_of_data(mark: &Mark) -> Option<&Path>
-    ensures { option_map (λ path. path.now) result ≡ the_place mark.now }
+    ensures { option_map (λ path. path.now) result ≡ merged.place_of_data mark.now }
 {
     match mark {
         Mark::Meta(Some(Redirect::To(place))) => Some(place),
@@ -400,7 +398,7 @@ pub fn is_moved(mark: &Mark) -> bool
 }
 
 fn without_blob(alloc: Global, kind: &Kind) -> Result<Kind, AllocError>
-    ensures { IfOk result (λ bare. bare ≡ kind_without_blob kind.now) }
+    ensures { IfOk result (λ bare. bare ≡ merged.without_blob kind.now) }
 {
     match kind {
         Kind::File { size, .. } => Ok(Kind::File {

@@ -1,6 +1,6 @@
 ghost use Rattle.std.specs.Prelude.{◌≡◌};
 ghost use Rattle.ovl_lookup.specs.declared.looks.Look.{Look};
-ghost use Rattle.ovl_lookup.specs.Merged.{is_nothing as nothing_test, is_shown_directory as directory_test};
+ghost use Rattle.ovl_lookup.specs.Merged.{is_nothing, is_shown_directory};
 ghost use Rattle.ovl_lookup.specs.Sights.{sight_of, sight_of_kind};
 
 use ovl_inode::{Inode, Kind};
@@ -32,14 +32,14 @@ impl Sight {
 
     /// Whether nothing is shown.
     pub fn is_nothing(self) -> bool
-        ensures { (look : Look) → self ≡ sight_of look → result ≡ nothing_test look }
+        ensures { (look : Look) → self ≡ sight_of look → result ≡ is_nothing look }
     {
         matches!(self, Sight::Nothing)
     }
 
     /// Whether a directory is shown.
     pub fn is_directory(self) -> bool
-        ensures { (look : Look) → self ≡ sight_of look → result ≡ directory_test look }
+        ensures { (look : Look) → self ≡ sight_of look → result ≡ is_shown_directory look }
     {
         matches!(self, Sight::Directory)
     }

@@ -3,7 +3,7 @@ ghost use Rattle.std.specs.Option.{option_map};
 ghost use Rattle.std.specs.List.{All};
 ghost use Rattle.ovl_layer.specs.Layers.{IsLayer, entry_at, is_directory_at, names_below};
 ghost use Rattle.ovl_lookup.specs.Passes.{IsMarked, IsOwnMarked, IsOwnDirectory, step_of, own_step_of};
-ghost use Rattle.ovl_lookup.specs.Walk.{walk as the_walk};
+ghost use Rattle.ovl_lookup.specs.Walk.{walk};
 ghost use Rattle.ovl_lookup.specs.declared.stacks.StackFault.TheVariants.{Layers, Memory, DataCount};
 ghost use Rattle.ovl_lookup.specs.Stacks.{layer_limit, all_layers, stack_with};
 ghost use Rattle.ovl_lookup.specs.Words.{top_layer};
@@ -215,7 +215,7 @@ impl Stack {
     ) -> Result<TrailStep<'a>, AllocError>
         requires { i < length (all_layers self.now) }
         ensures value { IfSome (slice_get (all_layers self.now) i)
-            (λ layer. IfOk result (λ step. step_of step ≡ the_walk layer trail.entry)) }
+            (λ layer. IfOk result (λ step. step_of step ≡ walk layer trail.entry)) }
         ensures marked { IfOk result IsMarked }
     {
         follow(alloc, self.any_sheet(i), trail)
@@ -230,7 +230,7 @@ impl Stack {
     ) -> Result<OwnStep<'a>, AllocError>
         requires { i < length (all_layers self.now) }
         ensures value { IfSome (slice_get (all_layers self.now) i)
-            (λ layer. IfOk result (λ step. own_step_of trail.now step ≡ the_walk layer trail.now)) }
+            (λ layer. IfOk result (λ step. own_step_of trail.now step ≡ walk layer trail.now)) }
         ensures marked { IfOk result IsOwnMarked }
     {
         OwnStep::at(alloc, self.any_sheet(i), trail)

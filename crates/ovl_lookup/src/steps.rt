@@ -1,12 +1,12 @@
 ghost use Rattle.std.specs.Prelude.{◌≡◌, ◌<◌, ◌++◌, [], false, Some, length, take, drop, unwrap_or, IfOk, MatchOption};
 ghost use Rattle.ovl_names.specs.Names.{PathName};
 ghost use Rattle.ovl_names.specs.Paths.{PathNames, child_path};
-ghost use Rattle.ovl_inode.specs.Marks.{mark_of as the_mark};
+ghost use Rattle.ovl_inode.specs.Marks.{mark_of};
 ghost use Rattle.ovl_layer.specs.Layers.{entry_at, is_directory_at};
 ghost use Rattle.ovl_layer.specs.Sheets.{path_at};
 ghost use Rattle.ovl_lookup.specs.Onwards.{next_on, closed_on};
 ghost use Rattle.ovl_lookup.specs.Passes.{IsDescent, IsArrival, IsOwnDirectory, IsOwnEntry, IsMarked, IsOwnMarked, step_of, own_step_of};
-ghost use Rattle.ovl_lookup.specs.Walk.{walk as the_walk};
+ghost use Rattle.ovl_lookup.specs.Walk as walks;
 
 use crate::trails::Trail;
 use ovl_inode::{Inode, Mark, Redirect, is_directory, is_whiteout};
@@ -30,7 +30,7 @@ pub struct Step {
 /// overlayfs.rst: "whiteouts and opaque directories", "renaming directories", "Metadata only copy
 /// up", "Data-only lower layers"; a redirect of one name, beside the old one, is this profile's.
 pub fn walk(alloc: Global, sheet: &Sheet, path: &Path) -> Result<Step, AllocError>
-    ensures { IfOk result (λ step. step ≡ the_walk sheet.now path.now) }
+    ensures { IfOk result (λ step. step ≡ walks.walk sheet.now path.now) }
 {
     let step = follow(alloc, sheet, Trail::of(alloc, &path.names())?)?;
     step.copied(alloc)
@@ -61,7 +61,7 @@ impl<'a> Found<'a> {
     pub fn in_row(sheet: &'a Sheet, number: u32) -> Found<'a>
         requires { number < length sheet.now }
         ensures value { entry_at sheet.now (path_at sheet.now number) ≡ Some result.inode.now }
-        ensures marked { result.mark.now ≡ the_mark result.inode.now }
+        ensures marked { result.mark.now ≡ mark_of result.inode.now }
     {
         Found {
             inode: sheet.inode(number),
@@ -100,7 +100,7 @@ pub fn follow<'a>(
     sheet: &'a Sheet,
     trail: Trail<'a>,
 ) -> Result<TrailStep<'a>, AllocError>
-    ensures value { IfOk result (λ step. step_of step ≡ the_walk sheet.now trail.entry) }
+    ensures value { IfOk result (λ step. step_of step ≡ walks.walk sheet.now trail.entry) }
     ensures marked { IfOk result IsMarked }
 {
     let OwnStep {
@@ -130,7 +130,7 @@ impl<'a> OwnStep<'a> {
     /// The walk of a trail in one layer, see [`walk`]. Fails only when out of memory.
     pub fn at(alloc: Global, sheet: &'a Sheet, trail: &Trail<'a>) -> Result<OwnStep<'a>, AllocError>
         ensures value { IfOk result
-            (λ step. own_step_of trail.now step ≡ the_walk sheet.now trail.now) }
+            (λ step. own_step_of trail.now step ≡ walks.walk sheet.now trail.now) }
         ensures marked { IfOk result IsOwnMarked }
     {
         let Descent { own, depth, number } = descend(alloc, sheet, trail)?;

@@ -4,7 +4,7 @@ ghost use Rattle.std.specs.List.{All};
 ghost use Rattle.ovl_names.specs.Paths.{child_path};
 ghost use Rattle.ovl_lookup.specs.Stacks.{from_layer};
 ghost use Rattle.ovl_lookup.specs.Trace.{things_found};
-ghost use Rattle.ovl_lookup.specs.Merged.{AreKids, look as the_look, shows as shows_there, shown_of, is_nothing as nothing_test};
+ghost use Rattle.ovl_lookup.specs.Merged.{AreKids, look, shows, shown_of, is_nothing};
 ghost use Rattle.ovl_lookup.specs.Sights.{sight_of};
 ghost use Rattle.ovl_lookup.specs.Passes.{data_below};
 ghost use Rattle.ovl_lookup.specs.Views.{entry_in, found_below};
@@ -27,8 +27,8 @@ impl<'a> DirView<'a> {
     pub fn look(&self, alloc: Global, stack: &Stack, name: &Name) -> Result<Look, AllocError>
         requires { IsViewOver stack.now self.now }
         ensures { IfOk result
-            (λ look. look
-            ≡ the_look (from_layer self.now.from stack.now) (child_path self.now.path name.now)) }
+            (λ shown. shown
+            ≡ look (from_layer self.now.from stack.now) (child_path self.now.path name.now)) }
     {
         let _ = &stack.layers;
         look_in(alloc, stack, &self.places, name)
@@ -45,7 +45,7 @@ impl<'a> DirView<'a> {
     ) -> Result<Look, AllocError>
         requires { IfSome view.old (IsViewOf stack.now 0 dir.now) }
         ensures look { IfOk result
-            (λ look. look ≡ the_look stack.now (child_path dir.now name.now)) }
+            (λ shown. shown ≡ look stack.now (child_path dir.now name.now)) }
         ensures view { IfSome view.new (IsViewOf stack.now 0 dir.now) }
         ensures kept { OnErr result (view.new ≡ view.old) }
     {
@@ -67,7 +67,7 @@ impl<'a> DirView<'a> {
         requires { IsViewOver stack.now self.now }
         ensures { result
             ≡ sight_of
-            (the_look (from_layer self.now.from stack.now) (child_path self.now.path name.now)) }
+            (look (from_layer self.now.from stack.now) (child_path self.now.path name.now)) }
     {
         let _ = &stack.layers;
         sight_in(stack, &self.places, name)
@@ -77,7 +77,7 @@ impl<'a> DirView<'a> {
     pub fn shows(&self, stack: &Stack, name: &Name) -> bool
         requires { IsViewOver stack.now self.now }
         ensures { result
-            ≡ shows_there (from_layer self.now.from stack.now) (child_path self.now.path name.now) }
+            ≡ shows (from_layer self.now.from stack.now) (child_path self.now.path name.now) }
     {
         !self.sight(stack, name).is_nothing()
     }
@@ -174,7 +174,7 @@ fn push_look(
     looks: &mut Vec<(Name, Look)>,
 ) -> Result<(), AllocError>
     ensures { OnOk result (looks.new.items
-        ≡ looks.old.items ++ (if nothing_test look then [] else (name.now, look) ∷ [])) }
+        ≡ looks.old.items ++ (if is_nothing look then [] else (name.now, look) ∷ [])) }
 {
     if look.is_nothing() {
         return Ok(());

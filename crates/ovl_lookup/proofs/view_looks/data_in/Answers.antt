@@ -15,6 +15,16 @@ use Rattle.ovl_lookup.proofs.ViewLookLemmas.{onward-placed}
 use Rattle.ovl_lookup.proofs.PlaceReads.{none-found, whiteout-holds, data-holds, other-holds, metacopy-holds}
 use Rattle.ovl_lookup.proofs.view_looks.data_in.Goals as goal
 
+pub overflow_add-place : goal.overflow_add-place
+overflow_add-place c =
+    let inside = layer-read c.args.stack.now c.args.places.now c.loop-place.place-index c.requires c.loop-place-test.true in
+    omega (arith, inside, ap (λ (s : StackView). length s.layers) c.stack.view_is, c.stack.invariant.1)
+
+pub data-requires : goal.data-requires
+data-requires c =
+    let inside = layer-read c.args.stack.now c.args.places.now c.loop-place.place-index c.requires c.loop-place-test.true in
+    omega (arith, inside)
+
 pub loop-place-preserved-in_default : goal.loop-place-preserved-in_default
 loop-place-preserved-in_default c =
     ap (data_below c.args.stack.now.data_only None) (sym (none-found c.args.stack.now c.loop-place.own.now c.args.places.now c.loop-place.place-index c.loop-place-test.true c.in_default.ensures)) ∙ c.loop-place.invariant
@@ -30,16 +40,6 @@ returns-then-is_data c =
 pub returns-then-not-is_well_formed_metacopy : goal.returns-then-not-is_well_formed_metacopy
 returns-then-not-is_well_formed_metacopy c =
     sym (sym c.loop-place.invariant ∙ other-holds c.args.stack.now c.loop-place.own.now c.args.places.now c.loop-place.place-index c.loop-place-test.true c.in-Some.entry c.in-Some.ensures (sym c.is_whiteout.ensures ∙ c.if-is_whiteout.false) (sym c.is_data.ensures ∙ c.if-is_data.false) (sym c.is_well_formed_metacopy.ensures ∙ c.if-not-is_well_formed_metacopy.true))
-
-pub overflow_add-place : goal.overflow_add-place
-overflow_add-place c =
-    let inside = layer-read c.args.stack.now c.args.places.now c.loop-place.place-index c.requires c.loop-place-test.true in
-    omega (arith, inside, ap (λ (s : StackView). length s.layers) c.stack.view_is, c.stack.invariant.1)
-
-pub data-requires : goal.data-requires
-data-requires c =
-    let inside = layer-read c.args.stack.now c.args.places.now c.loop-place.place-index c.requires c.loop-place-test.true in
-    omega (arith, inside)
 
 pub returns-in-At : goal.returns-in-At
 returns-in-At c =

@@ -8,7 +8,7 @@ use Rattle.std.proofs.lemmas.Result.{on_ok_weaker}
 use Rattle.ovl_lookup.specs.Views.{Reached, reached, reached_below}
 use Rattle.ovl_lookup.specs.DirViews.{places_in}
 use Rattle.ovl_lookup.proofs.PlaceReads.{none-reached, file-reached}
-use Rattle.ovl_lookup.proofs.DirViewLemmas.{place_read, layer-read, below-step, over-below, on-path, on-name, on-none}
+use Rattle.ovl_lookup.proofs.DirViewLemmas.{place_read, layer-read, below-pushed, on-path, on-name, on-none}
 use Rattle.ovl_lookup.proofs.views.push_below.Goals as goal
 
 pub loop-place-preserved-in_default : goal.loop-place-preserved-in_default
@@ -44,50 +44,37 @@ push_reached-requires c =
 
 pub returns-in-At : goal.returns-in-At
 returns-in-At c =
-    let stack : StackView = c.args.stack.now in
     let places : List DirPlace = c.args.places.now in
-    let name : PathName = c.loop-place.own.now in
-    let more : List Reached = reached_below stack.layers c.args.name.now (places_in stack places) in
-    let pushes = c.in_ok-push.ensures.items in
-    let over = over-below stack name places c.loop-place.place-index c.loop-place-test.true c.in-Some.entry c.in-Some.ensures c.args.below.now.items c.loop-place.below.items c.push.new.self.items pushes c.loop-place.invariant.over in
-    let step = below-step stack name places c.loop-place.place-index c.loop-place-test.true c.in-Some.entry c.in-Some.ensures (sym c.is_directory.ensures ∙ c.if-not-is_directory.false) c.args.below.now.items c.loop-place.below.items c.push.new.self.items in
+    let held = c.loop-place.invariant in
+    let pushed = below-pushed c.args.stack.now c.loop-place.own.now places c.loop-place.place-index c.loop-place-test.true c.in-Some.entry c.in-Some.ensures (sym c.is_directory.ensures ∙ c.if-not-is_directory.false) c.args.below.now.items c.loop-place.below.items c.push.new.self.items (reached_below c.args.stack.now.layers c.args.name.now (places_in c.args.stack.now places)) c.in_ok-push.ensures.items held.over held.places in
+    let stack : StackView = c.args.stack.now in
     let origin : PathNames = c.in-At.origin.now in
-    let rest : List Reached = let own : DirPlace = place_read places c.loop-place.place-index in reached (drop (own.layer + 1) stack.layers) (own.layer + 1) origin in
-    let from_root : PathNames → List Reached = λ path. let own : DirPlace = place_read places c.loop-place.place-index in places_in stack c.push.new.self.items ++ reached (drop (own.layer + 1) stack.layers) (own.layer + 1) path in
+    let from_root : PathNames → List Reached = λ path. let own : DirPlace = place_read places c.loop-place.place-index in reached (drop (own.layer + 1) stack.layers) (own.layer + 1) path in
     on_ok_weaker c.push_reached.result
     (λ adds. record {
-      places = adds.places ∙ ap from_root (c.in_ok-trail-in-At.ensures ∙ c.names.ensures.value) ∙ step rest more pushes (on-path name _ _ c.in-Some.entry.mark.now origin (sym c.in-At.ensures.at)) c.loop-place.invariant.places;
-      over = λ all. adds.over (over all);
+      places = adds.places ∙ ap (λ (path : PathNames). places_in stack c.push.new.self.items ++ from_root path) (c.in_ok-trail-in-At.ensures ∙ c.names.ensures.value) ∙ pushed.0 (from_root origin) (on-path c.loop-place.own.now _ _ c.in-Some.entry.mark.now origin (sym c.in-At.ensures.at));
+      over = λ all. adds.over (pushed.1 all);
     }) c.push_reached.ensures
 
 pub returns-in-Nowhere : goal.returns-in-Nowhere
 returns-in-Nowhere c =
-    let stack : StackView = c.args.stack.now in
     let places : List DirPlace = c.args.places.now in
-    let name : PathName = c.loop-place.own.now in
-    let more : List Reached = reached_below stack.layers c.args.name.now (places_in stack places) in
-    let pushes = c.in_ok-push.ensures.items in
-    let over = over-below stack name places c.loop-place.place-index c.loop-place-test.true c.in-Some.entry c.in-Some.ensures c.args.below.now.items c.loop-place.below.items c.push.new.self.items pushes c.loop-place.invariant.over in
-    let step = below-step stack name places c.loop-place.place-index c.loop-place-test.true c.in-Some.entry c.in-Some.ensures (sym c.is_directory.ensures ∙ c.if-not-is_directory.false) c.args.below.now.items c.loop-place.below.items c.push.new.self.items in
+    let held = c.loop-place.invariant in
+    let pushed = below-pushed c.args.stack.now c.loop-place.own.now places c.loop-place.place-index c.loop-place-test.true c.in-Some.entry c.in-Some.ensures (sym c.is_directory.ensures ∙ c.if-not-is_directory.false) c.args.below.now.items c.loop-place.below.items c.push.new.self.items (reached_below c.args.stack.now.layers c.args.name.now (places_in c.args.stack.now places)) c.in_ok-push.ensures.items held.over held.places in
     record {
-      places =
-          sym (append-nil (places_in stack c.push.new.self.items))
-          ∙ step [] more pushes (on-none name _ _ c.in-Some.entry.mark.now (sym c.in-Nowhere.ensures.at) (sym c.in-Nowhere.ensures.by)) c.loop-place.invariant.places;
-      over = over;
+      places = sym (append-nil (places_in c.args.stack.now c.push.new.self.items)) ∙ pushed.0 [] (on-none c.loop-place.own.now _ _ c.in-Some.entry.mark.now (sym c.in-Nowhere.ensures.at) (sym c.in-Nowhere.ensures.by));
+      over = pushed.1;
     }
 
 pub loop-place-preserved : goal.loop-place-preserved
 loop-place-preserved c =
-    let stack : StackView = c.args.stack.now in
     let places : List DirPlace = c.args.places.now in
-    let name : PathName = c.loop-place.own.now in
-    let more : List Reached = reached_below stack.layers c.args.name.now (places_in stack places) in
-    let pushes = c.in_ok-push.ensures.items in
-    let over = over-below stack name places c.loop-place.place-index c.loop-place-test.true c.in-Some.entry c.in-Some.ensures c.args.below.now.items c.loop-place.below.items c.push.new.self.items pushes c.loop-place.invariant.over in
-    let step = below-step stack name places c.loop-place.place-index c.loop-place-test.true c.in-Some.entry c.in-Some.ensures (sym c.is_directory.ensures ∙ c.if-not-is_directory.false) c.args.below.now.items c.loop-place.below.items c.push.new.self.items in
+    let held = c.loop-place.invariant in
+    let pushed = below-pushed c.args.stack.now c.loop-place.own.now places c.loop-place.place-index c.loop-place-test.true c.in-Some.entry c.in-Some.ensures (sym c.is_directory.ensures ∙ c.if-not-is_directory.false) c.args.below.now.items c.loop-place.below.items c.push.new.self.items (reached_below c.args.stack.now.layers c.args.name.now (places_in c.args.stack.now places)) c.in_ok-push.ensures.items held.over held.places in
+    let stack : StackView = c.args.stack.now in
     let other : PathName = c.in-Beside.other.now in
     let rest : List Reached = reached_below stack.layers other (drop (c.loop-place.place-index + 1) (places_in stack places)) in
     record {
-      places = step rest more pushes (on-name name _ _ c.in-Some.entry.mark.now other (sym c.in-Beside.ensures.by)) c.loop-place.invariant.places;
-      over = over;
+      places = pushed.0 rest (on-name c.loop-place.own.now _ _ c.in-Some.entry.mark.now other (sym c.in-Beside.ensures.by));
+      over = pushed.1;
     }

@@ -4,7 +4,6 @@ use Rattle.ovl_names.specs.Order.{ascends}
 use Rattle.ovl_inode.specs.declared.inodes.Inode.{Inode}
 use Rattle.ovl_layer.specs.Layers.{Entries}
 use Rattle.ovl_layer.specs.LayerTrees.{NodeView, node_cmp, under, entries_from, entries_of_nodes}
-use Rattle.ovl_layer.specs.Entries.{comes_after}
 use Rattle.ovl_layer.specs.Siblings.{AreBelow, IsExtent, Fits}
 use Rattle.ovl_layer.proofs.NodeLemmas.{entries_of_nodes-push}
 use Rattle.ovl_layer.proofs.SiblingLemmas.{below-more, nodes-more, takes_entry, takes-parts, stand-takes, stand-fits}

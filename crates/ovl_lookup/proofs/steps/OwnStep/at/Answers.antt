@@ -1,10 +1,7 @@
-use Rattle.std.proofs.Common.{◌≡◌, ◌+◌, ◌<◌, ◌∙◌, true, false, cond, Some, None, length, sym, ap, arith}
-use Rattle.std.specs.Prelude.{unwrap_or}
+use Rattle.std.proofs.Common.{◌≡◌, ◌+◌, ◌<◌, ◌∙◌, true, false, length, sym, ap, arith}
 use Rattle.std.proofs.lemmas.Bool.Decides.{nat_tests}
 use Rattle.ovl_names.specs.Paths.{PathNames}
 use Rattle.ovl_inode.specs.declared.inodes.Inode.{Inode}
-use Rattle.ovl_inode.specs.Marks.{is_whiteout}
-use Rattle.ovl_layer.specs.Layers.{Entries}
 use Rattle.ovl_lookup.specs.declared.steps.Descent.{Descent}
 use Rattle.ovl_lookup.specs.Walk.{nothing_found}
 use Rattle.ovl_lookup.proofs.WalkFacts.{walked-through, stopped, walked-past, row-there, walked-below, walked-to}
@@ -43,29 +40,17 @@ enter-requires-clause-depth c = c.in_ok-own.ensures.depth ∙ ap length (sym c.i
 pub returns-then-is_whiteout-clause-value : goal.returns-then-is_whiteout-clause-value
 returns-then-is_whiteout-clause-value c =
     let d : Descent = c.in_ok-own.field-0 in
-    let path : PathNames = c.args.trail.now in
-    let layer : Entries = c.args.sheet.now in
     let is = c.in_ok-own.ensures in
-    let inode : Inode = c.in_row-found.result.inode.now in
-    let end = c.in_ok-turned.field-0 in
-    let short : d.depth ≡ length path → ⊥ = λ all. grind (arith, nat_tests, all, c.if-depth-len.false, c.len.ensures) in
-    let last : d.depth + 1 < length path → ⊥ = λ more. grind (arith, nat_tests, more, c.if-depth-len-2.false, c.len-2.ensures) in
-    let there = row-there layer path d is short c.in-Some.number c.in-Some.is in
-    let white : is_whiteout inode ≡ true = sym c.is_whiteout.ensures ∙ c.if-is_whiteout.true in
-    (λ j. record { found = cond (sym white j) None (Some inode); next = unwrap_or end.turned path; closed = end.closed })
-    ∙ walked-to layer path d is short c.in-Some.number c.in-Some.is last end (c.in_ok-turned.ensures is.above (stopped layer path d is short).name is.own there.1) inode c.in_row-found.ensures.value
+    let short : d.depth ≡ length c.args.trail.now → ⊥ = λ all. grind (arith, nat_tests, all, c.if-depth-len.false, c.len.ensures) in
+    let last : d.depth + 1 < length c.args.trail.now → ⊥ = λ more. grind (arith, nat_tests, more, c.if-depth-len-2.false, c.len-2.ensures) in
+    let there = row-there c.args.sheet.now c.args.trail.now d is short c.in-Some.number c.in-Some.is in
+    walked-to c.args.sheet.now c.args.trail.now d is short c.in-Some.number c.in-Some.is last c.in_ok-turned.field-0 (c.in_ok-turned.ensures is.above (stopped c.args.sheet.now c.args.trail.now d is short).name is.own there.1) c.in_row-found.result.inode.now c.in_row-found.ensures.value true (sym c.is_whiteout.ensures ∙ c.if-is_whiteout.true)
 
 pub returns-clause-value : goal.returns-clause-value
 returns-clause-value c =
     let d : Descent = c.in_ok-own.field-0 in
-    let path : PathNames = c.args.trail.now in
-    let layer : Entries = c.args.sheet.now in
     let is = c.in_ok-own.ensures in
-    let inode : Inode = c.in_row-found.result.inode.now in
-    let end = c.in_ok-turned.field-0 in
-    let short : d.depth ≡ length path → ⊥ = λ all. grind (arith, nat_tests, all, c.if-depth-len.false, c.len.ensures) in
-    let last : d.depth + 1 < length path → ⊥ = λ more. grind (arith, nat_tests, more, c.if-depth-len-2.false, c.len-2.ensures) in
-    let there = row-there layer path d is short c.in-Some.number c.in-Some.is in
-    let found : is_whiteout inode ≡ false = sym c.is_whiteout.ensures ∙ c.if-is_whiteout.false in
-    (λ j. record { found = cond (sym found j) None (Some inode); next = unwrap_or end.turned path; closed = end.closed })
-    ∙ walked-to layer path d is short c.in-Some.number c.in-Some.is last end (c.in_ok-turned.ensures is.above (stopped layer path d is short).name is.own there.1) inode c.in_row-found.ensures.value
+    let short : d.depth ≡ length c.args.trail.now → ⊥ = λ all. grind (arith, nat_tests, all, c.if-depth-len.false, c.len.ensures) in
+    let last : d.depth + 1 < length c.args.trail.now → ⊥ = λ more. grind (arith, nat_tests, more, c.if-depth-len-2.false, c.len-2.ensures) in
+    let there = row-there c.args.sheet.now c.args.trail.now d is short c.in-Some.number c.in-Some.is in
+    walked-to c.args.sheet.now c.args.trail.now d is short c.in-Some.number c.in-Some.is last c.in_ok-turned.field-0 (c.in_ok-turned.ensures is.above (stopped c.args.sheet.now c.args.trail.now d is short).name is.own there.1) c.in_row-found.result.inode.now c.in_row-found.ensures.value false (sym c.is_whiteout.ensures ∙ c.if-is_whiteout.false)
