@@ -90,7 +90,7 @@ BOUNDS = {
     "files over the same files": Bound("vacuum", (plain(4_000, 1), plain(4_000)), 36.0),
     "one content of many names": Bound("fsck", (named_alike(200),), 4.8, True),
     "a directory of directories": Bound("show", (directories(2_000), directories(2_000)), 23.6),
-    "moved directories": Bound("deref", (moved(500), directories(500)), 31.0),
+    "moved directories": Bound("deref", (moved(500), directories(500)), 29.2),
     "metacopy files in a deep directory": Bound("deref", copied(20, 400), 15.2, True),
     "many layers of other names": Bound("show", apart(128, 20), 15.9),
     "places of many names that differ in the first": Bound("fsck", (alike(100, 1_000), []), 49.0, status=1),
