@@ -1,5 +1,5 @@
 ghost use Rattle.std.specs.Prelude.{◌≡◌};
-ghost use Rattle.ovl_check.specs.Codes.{is_fault};
+ghost use Rattle.ovl_check.specs.Codes.{is_fault, code_word};
 
 use ovl_names::Path;
 
@@ -49,7 +49,7 @@ impl Code {
 
     /// Its word in a report.
     pub fn word(self) -> &'static str
-        ensures { result.now ≡ codes.code_word self }
+        ensures { result.now ≡ code_word self }
     {
         match self {
             Code::RedirectForm => "redirect-form",
