@@ -25,7 +25,7 @@ CLAUSES = ["IsOutcome", "is_outside", "request_of", "makes_layers", "KeepsTree",
            "IsQuiet", "IsOutcomeDown", "after_down"]
 # What is made by hand, and the words of code that make it, chapter by chapter of MADE_FAULTS.md.
 MADE = {
-    "want of memory": r"\bAllocError\b(?!\s*[>{;])|\bAllocFailed\b(?!\s*[<>{;])|Fault::Memory\b|\bOutOfMemory\b|\bUnread\b(?!\s*[>{;(])|\bstarved (?:=|: true)",
+    "want of memory": r"\bAllocError\b(?!\s*[>{;])|\bAllocFailed\b(?!\s*[<>{;])|Fault::Memory\b|\bOutOfMemory\b|\bUnread\b(?!\s*[>{;(])|\bstarved (?:=|: true)|\.fail\(\)",
     "a fault of reading or writing": r"\bReadFault::(?:Device|TooLong)\b|\bProgramFault::(?:Input|Unread|Unwritten|Output)\b|\bErr\(\w*PartFault::",
 }
 # Types, and facts and records of specs/, whose names stand twice with two meanings. Each is to go; none is to come.
