@@ -4,7 +4,8 @@ use Rattle.std.specs.Global.{Global}
 use Rattle.std.specs.Prelude.{IfSome, IsSome, Result, String, option_map, string_bytes}
 use Rattle.std.specs.Option.{option_map_or}
 use Rattle.std.specs.Str.{bytes_eq}
-use Rattle.std.specs.Str.Parse.{ParsesUnsigned}
+use Rattle.std.specs.declared.num.ParseIntError.{ParseIntError}
+use Rattle.std.specs.Str.Parse.{ExplainsUnsignedError, HasUnsignedDigitsIfOk, ParsesUnsigned}
 use Rattle.std.proofs.lemmas.List.{length-map}
 use Rattle.clap.specs.Words.{ReadsOne, one_text}
 use Rattle.clap.specs.Walk.{Text, one_of, rows_of}
@@ -16,30 +17,32 @@ use Rattle.ovl_commands.specs.declared.requests.Command.TheVariants.{Merge}
 use Rattle.ovl_command_line.specs.Lines.{HasNumber, IsFlag, has_flag, number_in}
 use Rattle.ovl_command_line.proofs.Numbers.{number_read}
 
+-- what a text of digits gives
+abbrev Reads : List ℕ → Result ℕ ParseIntError → Type 0
+Reads text read = ParsesUnsigned 64 10 text read × ExplainsUnsignedError 10 text read × HasUnsignedDigitsIfOk text read
+
 -- the number that an option has is read
-pub option_read : (id : Text) (low high : ℕ) (E : Type 0) (gives : List ℕ → Result ℕ E → Type 0) (f : Found) (read : Option ℕ) → HasNumber id low high (rows_of f)
-    → ((text : List ℕ) → one_text f id ≡ Some text → ReadsOne gives text read)
-    → ((t : List ℕ) (r : Result ℕ E) → gives t r → ParsesUnsigned 64 10 t r)
+pub option_read : (id : Text) (low high : ℕ) (f : Found) (read : Option ℕ) → HasNumber id low high (rows_of f)
+    → ((text : List ℕ) → one_text f id ≡ Some text → ReadsOne Reads text read)
     → (n : ℕ) × (read ≡ Some n) × (option_map number_in (one_of id (rows_of f)) ≡ Some n) × (low ≤ n) × (n ≤ high)
-option_read id low high E gives f read given reads parses =
+option_read id low high f read given reads =
     let text = given.0 in
-    let number = number_read E gives low high text read (reads text (one_text-rows f id ∙ given.1)) parses given.2 in
+    let number = number_read ParseIntError Reads low high text read (reads text (one_text-rows f id ∙ given.1)) (λ t r g. g.0) given.2 in
     (number.0, number.1, ap (option_map number_in) given.1 ∙ ap Some (sym number.2), number.3, number.4)
 
 -- the number that an option has that may be left out is read, too
-pub option_if_read : (id : Text) (what : Command) (high : ℕ) (E : Type 0) (gives : List ℕ → Result ℕ E → Type 0) (f : Found) (read : Option ℕ)
+pub option_if_read : (id : Text) (what : Command) (high : ℕ) (f : Found) (read : Option ℕ)
     → IfSome (one_of id (rows_of f)) (λ text. (what ≡ Merge) × IsUnsignedIn 1 high text)
     → (one_text f id ≡ None → read ≡ None)
-    → ((text : List ℕ) → one_text f id ≡ Some text → ReadsOne gives text read)
-    → ((t : List ℕ) (r : Result ℕ E) → gives t r → ParsesUnsigned 64 10 t r)
+    → ((text : List ℕ) → one_text f id ≡ Some text → ReadsOne Reads text read)
     → (read ≡ option_map number_in (one_of id (rows_of f))) × IfSome read (λ n. (what ≡ Merge) × ((0 < n) × (n < suc high)))
-option_if_read id what high E gives f read given none reads parses = go (one_of id (rows_of f)) refl given
+option_if_read id what high f read given none reads = go (one_of id (rows_of f)) refl given
   where
     go : (o : Option Text) → one_of id (rows_of f) ≡ o → IfSome o (λ text. (what ≡ Merge) × IsUnsignedIn 1 high text)
         → (read ≡ option_map number_in o) × IfSome read (λ n. (what ≡ Merge) × ((0 < n) × (n < suc high)))
     go None e is = let nothing : read ≡ None = none (one_text-rows f id ∙ e) in rw nothing (refl, tt)
     go (Some text) e is =
-        let number = number_read E gives 1 high text read (reads text (one_text-rows f id ∙ e)) parses is.1 in
+        let number = number_read ParseIntError Reads 1 high text read (reads text (one_text-rows f id ∙ e)) (λ t r g. g.0) is.1 in
         rw (number.1) (ap Some number.2, (is.0, (omega (arith, number.3), omega (arith, number.4))))
 
 -- a flag that is there is read as such

@@ -1,5 +1,4 @@
 use Rattle.std.proofs.Common.{rules, ◌≡◌, ◌∙◌, ap, refl, sym, arith, Some, codes, is_some, string_bytes}
-use Rattle.std.specs.Str.Parse.{ExplainsUnsignedError, HasUnsignedDigitsIfOk, ParsesUnsigned}
 use Rattle.clap.proofs.WalkLemmas.{first_value-rows, raw_values-rows}
 use Rattle.clap.specs.Matches.{found_of}
 use Rattle.ovl_command_line.proofs.OptionLemmas.{flag_read, is_some-map, named_copy, option_if_read, option_read, some_copied, some_mapped}
@@ -7,20 +6,17 @@ use Rattle.ovl_command_line.proofs.parser.read.Goals as goal
 
 pub unwrap-data_layers-requires : goal.unwrap-data_layers-requires
 unwrap-data_layers-requires c =
-    let read = option_read (codes "data-layers") 0 127 _ (λ bs r. ParsesUnsigned 64 10 bs r × ExplainsUnsignedError 10 bs r × HasUnsignedDigitsIfOk bs r)
-    (found_of c.args.given.now) c.get_one.result c.requires.data_layers c.get_one.ensures.value (λ t r g. g.0) in
+    let read = option_read (codes "data-layers") 0 127 (found_of c.args.given.now) c.get_one.result c.requires.data_layers c.get_one.ensures.value in
     search rules
 
 pub unwrap-requires : goal.unwrap-requires
 unwrap-requires c =
-    let read = option_read (codes "workers") 1 64 _ (λ bs r. ParsesUnsigned 64 10 bs r × ExplainsUnsignedError 10 bs r × HasUnsignedDigitsIfOk bs r)
-    (found_of c.args.given.now) c.get_one-2.result c.requires.workers c.get_one-2.ensures.value (λ t r g. g.0) in
+    let read = option_read (codes "workers") 1 64 (found_of c.args.given.now) c.get_one-2.result c.requires.workers c.get_one-2.ensures.value in
     search rules
 
 pub overflow_cast-result : goal.overflow_cast-result
 overflow_cast-result c =
-    let bottom = option_read (codes "data-layers") 0 127 _ (λ bs r. ParsesUnsigned 64 10 bs r × ExplainsUnsignedError 10 bs r × HasUnsignedDigitsIfOk bs r)
-    (found_of c.args.given.now) c.get_one.result c.requires.data_layers c.get_one.ensures.value (λ t r g. g.0) in
+    let bottom = option_read (codes "data-layers") 0 127 (found_of c.args.given.now) c.get_one.result c.requires.data_layers c.get_one.ensures.value in
     let is : bottom.0 ≡ c.unwrap-data_layers.result = cc in
     omega (arith, is, bottom.4)
 
@@ -30,12 +26,9 @@ unwrap-requires-2 c =
 
 pub returns-clause-sound : goal.returns-clause-sound
 returns-clause-sound c =
-    let bottom = option_read (codes "data-layers") 0 127 _ (λ bs r. ParsesUnsigned 64 10 bs r × ExplainsUnsignedError 10 bs r × HasUnsignedDigitsIfOk bs r)
-    (found_of c.args.given.now) c.get_one.result c.requires.data_layers c.get_one.ensures.value (λ t r g. g.0) in
-    let workers = option_read (codes "workers") 1 64 _ (λ bs r. ParsesUnsigned 64 10 bs r × ExplainsUnsignedError 10 bs r × HasUnsignedDigitsIfOk bs r)
-    (found_of c.args.given.now) c.get_one-2.result c.requires.workers c.get_one-2.ensures.value (λ t r g. g.0) in
-    let down = option_if_read (codes "down-to") c.args.what 127 _ (λ bs r. ParsesUnsigned 64 10 bs r × ExplainsUnsignedError 10 bs r × HasUnsignedDigitsIfOk bs r)
-    (found_of c.args.given.now) c.get_one-3.result c.requires.down_to c.get_one-3.ensures.none c.get_one-3.ensures.value (λ t r g. g.0) in
+    let bottom = option_read (codes "data-layers") 0 127 (found_of c.args.given.now) c.get_one.result c.requires.data_layers c.get_one.ensures.value in
+    let workers = option_read (codes "workers") 1 64 (found_of c.args.given.now) c.get_one-2.result c.requires.workers c.get_one-2.ensures.value in
+    let down = option_if_read (codes "down-to") c.args.what 127 (found_of c.args.given.now) c.get_one-3.result c.requires.down_to c.get_one-3.ensures.none c.get_one-3.ensures.value in
     let bottom_is : bottom.0 ≡ c.unwrap-data_layers.result = cc in
     let workers_is : workers.0 ≡ c.unwrap.result = cc in
     let texts = rw c.unwrap-2.ensures at c.get_strs.ensures in
@@ -54,12 +47,9 @@ returns-clause-sound c =
 
 pub returns-clause-values : goal.returns-clause-values
 returns-clause-values c =
-    let bottom = option_read (codes "data-layers") 0 127 _ (λ bs r. ParsesUnsigned 64 10 bs r × ExplainsUnsignedError 10 bs r × HasUnsignedDigitsIfOk bs r)
-    (found_of c.args.given.now) c.get_one.result c.requires.data_layers c.get_one.ensures.value (λ t r g. g.0) in
-    let workers = option_read (codes "workers") 1 64 _ (λ bs r. ParsesUnsigned 64 10 bs r × ExplainsUnsignedError 10 bs r × HasUnsignedDigitsIfOk bs r)
-    (found_of c.args.given.now) c.get_one-2.result c.requires.workers c.get_one-2.ensures.value (λ t r g. g.0) in
-    let down = option_if_read (codes "down-to") c.args.what 127 _ (λ bs r. ParsesUnsigned 64 10 bs r × ExplainsUnsignedError 10 bs r × HasUnsignedDigitsIfOk bs r)
-    (found_of c.args.given.now) c.get_one-3.result c.requires.down_to c.get_one-3.ensures.none c.get_one-3.ensures.value (λ t r g. g.0) in
+    let bottom = option_read (codes "data-layers") 0 127 (found_of c.args.given.now) c.get_one.result c.requires.data_layers c.get_one.ensures.value in
+    let workers = option_read (codes "workers") 1 64 (found_of c.args.given.now) c.get_one-2.result c.requires.workers c.get_one-2.ensures.value in
+    let down = option_if_read (codes "down-to") c.args.what 127 (found_of c.args.given.now) c.get_one-3.result c.requires.down_to c.get_one-3.ensures.none c.get_one-3.ensures.value in
     let bottom_is : bottom.0 ≡ c.unwrap-data_layers.result = cc in
     let workers_is : workers.0 ≡ c.unwrap.result = cc in
     let texts = rw c.unwrap-2.ensures at c.get_strs.ensures in (

@@ -21,31 +21,19 @@ returns-in-Some-clause-inode c =
 
 pub returns-in-Some-2-clause-inode : goal.returns-in-Some-2-clause-inode
 returns-in-Some-2-clause-inode c =
-    let stack = c.args.stack.now in
-    let m = merge_of stack in
-    let above = c.args.above.now in
-    let dir : PathNames = above.path in
-    let name = c.args.passage.now.name.now in
-    let inode = c.args.found.now.inode.now in
-    let path : PathNames = child_path dir name in
-    let seen = c.in_ok-shown.ensures in
+    let m = merge_of c.args.stack.now in
+    let path : PathNames = child_path c.args.above.now.path c.args.passage.now.name.now in
     let none : reach m path ≡ None = sym (rw (not-some c.in_ok-place.field-0 c.in_default.not-Some) at c.in_ok-place.ensures.reach) in
     let kept = c.in_ok-kept.ensures ∙ ap (kept_place m) c.in_ok-path.ensures in
     subst (λ (i : Inode). IfOk c.with_value-in-Some-2-2.result (λ new. new ≡ i))
     (ap (with_value c.in_ok-copied-2.copied redirect_name) (c.as_bytes.ensures.value ∙ c.in_ok-text.ensures)
-    ∙ kept-told m path inode c.in_ok-shown.shown seen (reach m path) none c.in_ok-kept.field-0 kept c.in-Some-2.kept c.in-Some-2.is c.in_ok-copied-2.copied c.in_ok-copied-2.ensures) c.with_value-in-Some-2-2.ensures
+    ∙ kept-told m path c.args.found.now.inode.now c.in_ok-shown.shown c.in_ok-shown.ensures (reach m path) none c.in_ok-kept.field-0 kept c.in-Some-2.kept c.in-Some-2.is c.in_ok-copied-2.copied c.in_ok-copied-2.ensures) c.with_value-in-Some-2-2.ensures
 
 pub returns-clause-inode : goal.returns-clause-inode
 returns-clause-inode c =
-    let stack = c.args.stack.now in
-    let m = merge_of stack in
-    let above = c.args.above.now in
-    let dir : PathNames = above.path in
-    let name = c.args.passage.now.name.now in
-    let inode = c.args.found.now.inode.now in
-    let path : PathNames = child_path dir name in
-    let seen = c.in_ok-shown.ensures in
+    let m = merge_of c.args.stack.now in
+    let path : PathNames = child_path c.args.above.now.path c.args.passage.now.name.now in
     let none : reach m path ≡ None = sym (rw (not-some c.in_ok-place.field-0 c.in_default.not-Some) at c.in_ok-place.ensures.reach) in
     let kept = c.in_ok-kept.ensures ∙ ap (kept_place m) c.in_ok-path.ensures in
     subst (λ (i : Inode). IfOk c.with_contents.result (λ new. new ≡ i))
-    (contents-told stack c.requires.several path inode c.in_ok-shown.shown seen (reach m path) none c.in_ok-kept.field-0 kept (not-some c.in_ok-kept.field-0 c.in_default-2.not-Some) c.in_ok-contents.contents c.in_ok-contents.ensures.look) c.with_contents.ensures
+    (contents-told c.args.stack.now c.requires.several path c.args.found.now.inode.now c.in_ok-shown.shown c.in_ok-shown.ensures (reach m path) none c.in_ok-kept.field-0 kept (not-some c.in_ok-kept.field-0 c.in_default-2.not-Some) c.in_ok-contents.contents c.in_ok-contents.ensures.look) c.with_contents.ensures
