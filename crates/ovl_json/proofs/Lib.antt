@@ -1,3 +1,5 @@
 pub mod Turns
 pub mod NumberLemmas
 pub mod ViewLemmas
+pub mod WordLemmas
+pub mod SqueezeLemmas

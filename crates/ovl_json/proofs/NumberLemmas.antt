@@ -4,7 +4,7 @@ use Rattle.std.specs.Prelude.{⊤, ◌&&◌, is_some}
 use Rattle.std.specs.List.{list_all}
 use Rattle.json.specs.Token.{Token}
 use Rattle.json.specs.Lex.{tokens}
-use Rattle.json.specs.Json.{Json, null, boolean, number, string, array, object, Items, item, Members, no_members, member, Parse, parse_map, after_end_array, read_key, items_step, members_step, items, members, value_with, value}
+use Rattle.json.specs.Json.{Json, number, array, object, Items, item, Members, no_members, member, Parse, parse_map, after_end_array, read_key, items_step, members_step, items, members, value_with, value}
 use Rattle.json.proofs.Grammar.{closed_array, key_token, read_key_is}
 use Rattle.serde_json.specs.Data.{Data}
 use Rattle.serde_json.specs.Data as told
