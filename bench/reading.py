@@ -4,8 +4,8 @@
 Python 3.11, standard library, and `rt`, whose compiler builds refuse.c. A manifest as the commands and the converter write
 it, of either version, is read piece by piece, with no value of JSON in between. A program that made a value of each entry
 would give the same bytes, at several times the cost. So requests for memory are counted: of a manifest of 10,000 entries in
-each version, and of the same with a space in front, which is read the other way: the report must be the same, and the first
-may take at most four fifths of the requests of the second; and of manifests that have one thing each that might be left to
+each version, of the same with white space in it, and of the same with its two members in the other order, which is read the
+other way: the report must be the same, and the first two may take at most four fifths of the requests of the third; and of manifests that have one thing each that might be left to
 the other way, up to the second layer, which is none.
 
 Then come the requests of commands that make a layer and of lines, the bytes that are held at once, threads that start
@@ -144,15 +144,20 @@ def of_manifests(bench: Bench) -> Iterator[Count]:
 
 def of_versions(bench: Bench) -> Iterator[Count]:
     for version in MOST_NAMES:
-        written, other = (bench.room / f"{name}{version}.json" for name in ("written", "other"))
+        written, spaced, other = (bench.room / f"{name}{version}.json" for name in ("written", "spaced", "other"))
         with open(written, "wb") as out:
             Generator(ENTRIES, version=version).write(out)
-        other.write_bytes(b" " + written.read_bytes())
-        (report, count), (again, more) = (bench.met("memory", ["show", "--workers", "1", str(it)]) for it in (written, other))
-        if report != again:
-            sys.exit(f"reading.py: version {version}: another report with a space in front")
-        print(f"version {version}, requests for memory an entry: {count / ENTRIES:.2f} as it is written, {more / ENTRIES:.2f} with a space in front")
-        yield at_most(f"version {version}, as it is written beside with a space in front", count / more, MOST)
+        value = json.loads(written.read_bytes())
+        spaced.write_text(json.dumps(value, ensure_ascii=False, indent=1) + "\n", encoding="utf-8")
+        other.write_text(json.dumps(dict(reversed(value.items())), ensure_ascii=False, separators=(",", ":")), encoding="utf-8")
+        (report, count), (same, with_space), (again, more) = (
+            bench.met("memory", ["show", "--workers", "1", str(it)]) for it in (written, spaced, other))
+        if not report == same == again:
+            sys.exit(f"reading.py: version {version}: another report with white space or in another order")
+        print(f"version {version}, requests for memory an entry: {count / ENTRIES:.2f} as it is written, "
+              f"{with_space / ENTRIES:.2f} with white space, {more / ENTRIES:.2f} in another order")
+        yield at_most(f"version {version}, as it is written beside another order", count / more, MOST)
+        yield at_most(f"version {version}, with white space beside another order", with_space / more, MOST)
 
 
 # ---- commands

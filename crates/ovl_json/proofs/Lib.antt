@@ -2,3 +2,5 @@ pub mod Turns
 pub mod NumberLemmas
 pub mod ViewLemmas
 pub mod MemberLemmas
+pub mod WordLemmas
+pub mod SqueezeLemmas

@@ -3,3 +3,4 @@ pub mod Reading
 pub mod Kept
 pub mod Views
 pub mod Beginnings
+pub mod Squeezed

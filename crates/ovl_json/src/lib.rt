@@ -5,9 +5,11 @@ mod beginnings;
 mod numbers;
 mod objects;
 mod skipping;
+mod squeezing;
 mod texts;
 
 pub use beginnings::{Beginning, begin};
 pub use objects::{MEMBER_LIMIT, Member, Object, Texts, read_object};
 pub use skipping::{Unread, skip_items, skip_members};
+pub use squeezing::squeezed;
 pub use texts::{MAX_DEPTH, is_json};

@@ -1,5 +1,5 @@
 -- What a stated entry is.
-use Rattle.std.proofs.Common.{◌≡◌, ℕ, ◌≤◌, List, [], ◌∷◌, Bool, true, false, Option, Some, None, Err, refl, sym, ap, ◌∙◌, subst, length, drop, arith, le-leb, leb-true}
+use Rattle.std.proofs.Common.{◌≡◌, ℕ, ◌≤◌, List, [], ◌∷◌, Bool, true, false, Option, Some, None, Result, Ok, Err, refl, sym, ap, ap₂, ◌∙◌, subst, length, drop, arith, le-leb, leb-true}
 use Rattle.std.specs.Option.{option_and_then}
 use Rattle.std.specs.Prelude.{◌==◌, not, IfSome, IsTrue, nat_eq, nat_lt, nat_le, is_some, is_none, if◌then◌else◌, flat_map, codes}
 use Rattle.std.specs.List.{starts_with, list_any}
@@ -9,19 +9,23 @@ use Rattle.std.proofs.lemmas.Option.{option_and_then_some}
 use Rattle.std.proofs.lemmas.Str.{IsUtf8-from_is_utf8, is_utf8-from_IsUtf8}
 use Rattle.std.specs.Str.{IsUtf8, is_utf8}
 use Rattle.serde_json.specs.Data.{Data}
-use Rattle.serde_json.specs.Read.{read}
+use Rattle.json.specs.Token.{Token}
+use Rattle.json.specs.Lex.{tokens}
+use Rattle.json.specs.Json as json
+use Rattle.serde_json.specs.Read.{of_json, read, max_depth}
 use Rattle.ovl_names.specs.Names.{slash, name_fault}
 use Rattle.ovl_names.specs.Paths.{PathNames, path_fault, path_text, text_parts, parts_between, depth_limit, text_limit}
 use Rattle.ovl_names.specs.declared.paths.PathFault.{PathFault}
 use Rattle.ovl_names.specs.declared.paths.PathFault.TheVariants.{NotAbsolute, EmptyPart, BadPart, TooDeep, TooLong}
 use Rattle.ovl_names.proofs.Ascending.{both}
 use Rattle.ovl_inode.specs.Sound.{is_sound_inode}
-use Rattle.ovl_layer.specs.Layers.{Entry, is_within_limits}
+use Rattle.ovl_layer.specs.Layers.{Entry, Entries, is_within_limits}
 use Rattle.ovl_manifest.specs.Versions.{depth_of}
 use Rattle.ovl_manifest.specs.declared.versions.Version.{Version}
 use Rattle.ovl_manifest.specs.declared.versions.Version.TheVariants.{One, Two}
 use Rattle.ovl_layer.specs.Entries.{is_statable}
 use Rattle.ovl_manifest.specs.Manifest.{layer_of_value, read_layer}
+use Rattle.ovl_layer.specs.declared.faults.LayerFault.{LayerFault}
 use Rattle.ovl_layer.specs.declared.faults.LayerFault.TheVariants.{NotJson}
 use Rattle.ovl_manifest.specs.Fields.{entry_of, entry_with, is_entry, inode_field, path_field, path_of_text, text_field}
 
@@ -123,3 +127,31 @@ no_text bytes none = let is = by (is_utf8 bytes) refl in rw (is, read_layer) ref
     by : (b : Bool) → is_utf8 bytes ≡ b → (if is_utf8 bytes then read bytes else None) ≡ None
     by true e = ap (λ b. if b then read bytes else None) e ∙ none (IsUtf8-from_is_utf8 bytes e)
     by false e = ap (λ b. if b then read bytes else None) e
+
+-- what is stated by texts of the same tokens
+
+abbrev of_read : Option Data → Result Entries LayerFault
+of_read None = Err NotJson
+of_read (Some value) = layer_of_value value
+
+layer_is : (bytes : List ℕ) → read_layer bytes ≡ of_read (if is_utf8 bytes then read bytes else None)
+layer_is bytes = by (if is_utf8 bytes then read bytes else None) refl
+  where
+    by : (o : Option Data) → (if is_utf8 bytes then read bytes else None) ≡ o → read_layer bytes ≡ of_read o
+    by None is = rw (is, read_layer) refl
+    by (Some value) is = rw (is, read_layer) refl
+
+pub same_tokens : (own text : List ℕ) → IsUtf8 text → tokens own ≡ tokens text → (sheet : Option Entries) → IfSome sheet (λ s. read_layer own ≡ Ok s) → IfSome sheet (λ s. read_layer text ≡ Ok s)
+same_tokens own text utf8 same None h = tt
+same_tokens own text utf8 same (Some s) h = by (is_utf8 own) refl
+  where
+    same_read : read own ≡ read text
+    same_read = ap (λ (ts : List Token). option_and_then of_json (option_and_then (λ p. json.if_last p.0 p.1) (json.value max_depth ts))) same
+
+    by : (b : Bool) → is_utf8 own ≡ b → read_layer text ≡ Ok s
+    by true e =
+        layer_is text
+        ∙ (ap₂ (λ b r. of_read (if b then r else None)) (is_utf8-from_IsUtf8 text utf8 ∙ sym e) (sym same_read)
+        ∙ (sym (layer_is own) ∙ h))
+    by false e =
+        let bad : Err NotJson ≡ Ok s = sym (layer_is own ∙ ap (λ b. of_read (if b then read own else None)) e) ∙ h in cc

@@ -1,4 +1,5 @@
-ghost use Rattle.std.specs.Prelude.{◌≡◌, true, Ok, MatchResult, IsSomeAnd, is_some, option_and_then};
+ghost use Rattle.std.specs.Prelude.{◌≡◌, true, Ok, IfSome, MatchResult, IsSomeAnd, is_some, option_and_then};
+ghost use Rattle.std.specs.Str.{IsUtf8};
 ghost use Rattle.serde_json.specs.Find.{as_u64};
 ghost use Rattle.serde_json.specs.Read.{read};
 ghost use Rattle.serde_json.specs.View.{number_view};
@@ -14,7 +15,7 @@ use crate::fields::is_made_of;
 use crate::lists::read_entries;
 use crate::versions::Version;
 use json::{Reader, Scratch};
-use ovl_json::{MAX_DEPTH, Object, is_json, read_object};
+use ovl_json::{MAX_DEPTH, Object, is_json, read_object, squeezed};
 use ovl_layer::{Layer, LayerFault, Sheet};
 use serde_json::Number;
 use simdutf8::compat::from_utf8;
@@ -52,8 +53,8 @@ fn read_text(alloc: Global, text: &str) -> Result<Layer, LayerFault>
 }
 
 /// The sheet of the layer that the bytes of a manifest state, refused as [`read_layer`] refuses it.
-/// A manifest as [`write_layer`](crate::write_layer) writes it is read at once; others by way of a
-/// value of each entry.
+/// A manifest as [`write_layer`](crate::write_layer) writes it is read at once, and so is one with
+/// white space in it, once that is left out; others by way of a value of each entry.
 pub fn read_sheet(alloc: Global, bytes: &[u8]) -> Result<Sheet, LayerFault>
     ensures { MatchResult result
         (λ sheet. manifest.read_layer bytes.now ≡ Ok sheet)
@@ -62,11 +63,39 @@ pub fn read_sheet(alloc: Global, bytes: &[u8]) -> Result<Sheet, LayerFault>
     if let Some(sheet) = read_compact(alloc, bytes) {
         return Ok(sheet);
     }
+    if let Some(sheet) = read_spaced(alloc, bytes) {
+        return Ok(sheet);
+    }
     let layer = read_layer(alloc, bytes)?;
     match Sheet::of(alloc, layer) {
         Ok(sheet) => Ok(sheet),
         Err(_) => Err(LayerFault::Memory),
     }
+}
+
+// The sheet of the layer whose manifest these bytes are, where white space alone keeps it from
+// being read at once.
+fn read_spaced(alloc: Global, bytes: &[u8]) -> Option<Sheet>
+    ensures { IfSome result (λ sheet. layer_stated bytes.now ≡ Ok sheet) }
+{
+    match from_utf8(bytes) {
+        Ok(text) => read_squeezed(alloc, text),
+        Err(_) => None,
+    }
+}
+
+// The same of a text.
+fn read_squeezed(alloc: Global, text: &str) -> Option<Sheet>
+    requires { IsUtf8 text.now }
+    ensures { IfSome result (λ sheet. layer_stated text.now ≡ Ok sheet) }
+{
+    let Ok(own) = squeezed(alloc, text.as_bytes()) else {
+        return None;
+    };
+    if own.len() == text.len() {
+        return None;
+    }
+    read_compact(alloc, own.as_slice())
 }
 
 // The version of a manifest that is JSON and has a list of entries, whatever they are.

@@ -1,0 +1,157 @@
+//! Texts without the white space between their tokens.
+ghost use Rattle.std.specs.Prelude.{◌≡◌, ◌<◌, ◌≤◌, true, false, ◌&&◌, not, [], ◌∷◌, ◌++◌, if◌then◌else◌, IfOk, OnOk, length, take, drop, get_or};
+ghost use Rattle.json.specs.Lex.{tokens, between, in_word, in_string};
+ghost use Rattle.json.specs.Word.{is_operator as operates, is_space as parts, ends_word};
+ghost use Rattle.ovl_json.specs.Squeezed.{behind_piece, squeezed as squeezed_in};
+
+use std::alloc::{AllocError, Global};
+
+/// A text with the same tokens, without the white space that stands between these. Of a text that
+/// isn't JSON some may stay, and all that comes after a `\u` in a string. Fails only when out of
+/// memory.
+pub fn squeezed(alloc: Global, text: &[u8]) -> Result<Vec<u8>, AllocError>
+    ensures { IfOk result (λ own. tokens own.items ≡ tokens text.now) }
+{
+    let mut own = Vec::with_capacity(alloc, text.len())?;
+    let mut place = space_end(text, 0);
+    // What comes from here to the place isn't copied yet.
+    let mut from = place;
+    while place < text.len() {
+        let (end, is_word) = lexeme_end(text, place);
+        place = space_end(text, end);
+        let is_parted = is_word_behind(text, place, is_word);
+        if place > end || is_parted {
+            push_piece(&mut own, &text[from..end], is_parted)?;
+            from = place;
+        }
+    }
+    own.extend_from_slice(&text[from..])?;
+    Ok(own)
+}
+
+// Where the lexeme ends that begins at a place, and whether it is a word.
+#[inline(always)]
+fn lexeme_end(text: &[u8], place: usize) -> (usize, bool)
+    requires within { place < length text.now }
+    requires lexeme { parts (get_or text.now place 0) ≡ false }
+    ensures past { place < result.0 }
+    ensures within { result.0 ≤ length text.now }
+    ensures kept { take result.0 text.now
+        ++ behind_piece result.1 (squeezed_in between (drop result.0 text.now))
+        ≡ take place text.now ++ squeezed_in between (drop place text.now) }
+{
+    let byte = text[place];
+    if byte == b'"' {
+        (string_end(text, place + 1), false)
+    } else if is_operator(byte) {
+        (place + 1, false)
+    } else {
+        (word_end(text, place + 1), true)
+    }
+}
+
+// Where the string ends whose quotation mark stands before a place. Behind a `\u` all counts as the
+// string's.
+#[inline(always)]
+fn string_end(text: &[u8], from: usize) -> usize
+    requires { from ≤ length text.now }
+    ensures past { from ≤ result }
+    ensures within { result ≤ length text.now }
+    ensures kept { take result text.now ++ squeezed_in between (drop result text.now)
+        ≡ take from text.now ++ squeezed_in in_string (drop from text.now) }
+{
+    let mut place = from;
+    while place < text.len() {
+        let byte = text[place];
+        if byte == b'"' {
+            return place + 1;
+        }
+        if byte != b'\\' {
+            place += 1;
+        } else if place + 1 < text.len() && text[place + 1] != b'u' {
+            place += 2;
+        } else {
+            return text.len();
+        }
+    }
+    place
+}
+
+// Where the word ends of which a byte stands before a place.
+#[inline(always)]
+fn word_end(text: &[u8], from: usize) -> usize
+    requires { from ≤ length text.now }
+    ensures past { from ≤ result }
+    ensures within { result ≤ length text.now }
+    ensures kept { take result text.now
+        ++ behind_piece true (squeezed_in between (drop result text.now))
+        ≡ take from text.now ++ squeezed_in in_word (drop from text.now) }
+{
+    let mut place = from;
+    while place < text.len() && !is_operator(text[place]) && !is_space(text[place]) {
+        place += 1;
+    }
+    place
+}
+
+// Where the white space ends that may stand at a place.
+#[inline(always)]
+fn space_end(text: &[u8], from: usize) -> usize
+    requires { from ≤ length text.now }
+    ensures past { from ≤ result }
+    ensures within { result ≤ length text.now }
+    ensures lexeme { parts (get_or text.now result 0) ≡ false }
+    ensures left { squeezed_in between (drop result text.now)
+        ≡ squeezed_in between (drop from text.now) }
+{
+    let mut place = from;
+    while place < text.len() && is_space(text[place]) {
+        place += 1;
+    }
+    place
+}
+
+// Whether neither an operator nor the end follows a word, where that stands before.
+#[inline(always)]
+fn is_word_behind(text: &[u8], place: usize, is_word: bool) -> bool
+    requires within { place ≤ length text.now }
+    requires lexeme { parts (get_or text.now place 0) ≡ false }
+    ensures { result
+        ≡ (is_word && not (ends_word (squeezed_in between (drop place text.now)))) }
+{
+    if !is_word {
+        return false;
+    }
+    place < text.len() && !is_operator(text[place])
+}
+
+// Copies a piece, and a space behind it where that parts it from a word.
+fn push_piece(own: &mut Vec<u8>, piece: &[u8], is_parted: bool) -> Result<(), AllocError>
+    ensures { OnOk result
+        (own.new.items ≡ (own.old.items ++ piece.now) ++ (if is_parted then 32 ∷ [] else [])) }
+{
+    own.extend_from_slice(piece)?;
+    if is_parted {
+        own.push(b' ')?;
+    }
+    Ok(())
+}
+
+#[inline(always)]
+fn is_operator(byte: u8) -> bool
+    ensures { result ≡ operates byte }
+{
+    (byte == b'{')
+        | (byte == b'}')
+        | (byte == b'[')
+        | (byte == b']')
+        | (byte == b':')
+        | (byte == b',')
+}
+
+#[inline(always)]
+fn is_space(byte: u8) -> bool
+    ensures { result ≡ parts byte }
+{
+    (byte == b' ') | (byte == b'\t') | (byte == b'\n') | (byte == b'\r')
+}
