@@ -11,3 +11,4 @@ pub mod ValueLemmas
 pub mod StatedLemmas
 pub mod CompactLemmas
 pub mod RunLemmas
+pub mod Utf8Lemmas

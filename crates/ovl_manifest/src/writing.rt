@@ -27,11 +27,7 @@ pub fn write_layer(alloc: Global, layer: &Layer) -> Result<Vec<u8>, AllocError>
     let mut text = Vec::with_capacity(alloc, room_for(layer))?;
     push_layer(alloc, &mut text, layer)?;
     text.push(b'\n')?;
-    match String::from_utf8(text) {
-        Ok(text) => Ok(text.into_bytes()),
-        // What is written is a text, so that there is no other fault.
-        Err(_) => Err(AllocError),
-    }
+    Ok(text)
 }
 
 // What the text of most entries takes at most, but for its path and its blob's name, and what such
