@@ -73,10 +73,14 @@ pub fn read_sheet(alloc: Global, bytes: &[u8]) -> Result<Sheet, LayerFault>
     }
 }
 
+// How many bytes of a manifest with white space between its tokens have some: others aren't looked
+// through for it.
+const FIRST_BYTES: usize = 64;
+
 // The sheet of the layer whose manifest these bytes are, where white space alone keeps it from
 // being read at once.
 fn read_spaced(alloc: Global, bytes: &[u8]) -> Option<Sheet>
-    ensures { IfSome result (λ sheet. layer_stated bytes.now ≡ Ok sheet) }
+    ensures { IfSome result (λ sheet. manifest.read_layer bytes.now ≡ Ok sheet) }
 {
     match from_utf8(bytes) {
         Ok(text) => read_squeezed(alloc, text),
@@ -87,8 +91,15 @@ fn read_spaced(alloc: Global, bytes: &[u8]) -> Option<Sheet>
 // The same of a text.
 fn read_squeezed(alloc: Global, text: &str) -> Option<Sheet>
     requires { IsUtf8 text.now }
-    ensures { IfSome result (λ sheet. layer_stated text.now ≡ Ok sheet) }
+    ensures { IfSome result (λ sheet. manifest.read_layer text.now ≡ Ok sheet) }
 {
+    if !text
+        .bytes()
+        .take(FIRST_BYTES)
+        .any(|byte| byte.is_ascii_whitespace())
+    {
+        return None;
+    }
     let Ok(own) = squeezed(alloc, text.as_bytes()) else {
         return None;
     };
