@@ -1,7 +1,8 @@
 //! Texts without the white space between their tokens.
 ghost use Rattle.std.specs.Prelude.{◌≡◌, ◌<◌, ◌≤◌, true, false, ◌&&◌, not, [], ◌∷◌, ◌++◌, if◌then◌else◌, IfOk, OnOk, length, take, drop, get_or};
 ghost use Rattle.json.specs.Lex.{tokens, between, in_word, in_string};
-ghost use Rattle.json.specs.Word.{is_operator as operates, is_space as parts, ends_word};
+ghost use Rattle.json.specs.Word.{ends_word};
+ghost use Rattle.json.specs.Word as word;
 ghost use Rattle.ovl_json.specs.Squeezed.{behind_piece, squeezed as squeezed_in};
 
 use std::alloc::{AllocError, Global};
@@ -33,7 +34,7 @@ pub fn squeezed(alloc: Global, text: &[u8]) -> Result<Vec<u8>, AllocError>
 #[inline(always)]
 fn lexeme_end(text: &[u8], place: usize) -> (usize, bool)
     requires within { place < length text.now }
-    requires lexeme { parts (get_or text.now place 0) ≡ false }
+    requires lexeme { word.is_space (get_or text.now place 0) ≡ false }
     ensures past { place < result.0 }
     ensures within { result.0 ≤ length text.now }
     ensures kept { take result.0 text.now
@@ -100,7 +101,7 @@ fn space_end(text: &[u8], from: usize) -> usize
     requires { from ≤ length text.now }
     ensures past { from ≤ result }
     ensures within { result ≤ length text.now }
-    ensures lexeme { parts (get_or text.now result 0) ≡ false }
+    ensures lexeme { word.is_space (get_or text.now result 0) ≡ false }
     ensures left { squeezed_in between (drop result text.now)
         ≡ squeezed_in between (drop from text.now) }
 {
@@ -115,7 +116,7 @@ fn space_end(text: &[u8], from: usize) -> usize
 #[inline(always)]
 fn is_word_behind(text: &[u8], place: usize, is_word: bool) -> bool
     requires within { place ≤ length text.now }
-    requires lexeme { parts (get_or text.now place 0) ≡ false }
+    requires lexeme { word.is_space (get_or text.now place 0) ≡ false }
     ensures { result
         ≡ (is_word && not (ends_word (squeezed_in between (drop place text.now)))) }
 {
@@ -139,7 +140,7 @@ fn push_piece(own: &mut Vec<u8>, piece: &[u8], is_parted: bool) -> Result<(), Al
 
 #[inline(always)]
 fn is_operator(byte: u8) -> bool
-    ensures { result ≡ operates byte }
+    ensures { result ≡ word.is_operator byte }
 {
     (byte == b'{')
         | (byte == b'}')
@@ -151,7 +152,7 @@ fn is_operator(byte: u8) -> bool
 
 #[inline(always)]
 fn is_space(byte: u8) -> bool
-    ensures { result ≡ parts byte }
+    ensures { result ≡ word.is_space byte }
 {
     (byte == b' ') | (byte == b'\t') | (byte == b'\n') | (byte == b'\r')
 }
