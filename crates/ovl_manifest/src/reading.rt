@@ -54,7 +54,8 @@ fn read_text(alloc: Global, text: &str) -> Result<Layer, LayerFault>
 
 /// The sheet of the layer that the bytes of a manifest state, refused as [`read_layer`] refuses it.
 /// A manifest as [`write_layer`](crate::write_layer) writes it is read at once, and so is one with
-/// white space in it, once that is left out; others by way of a value of each entry.
+/// white space in it, some of it among the first 64 bytes, once what stands between tokens is left
+/// out; others by way of a value of each entry.
 pub fn read_sheet(alloc: Global, bytes: &[u8]) -> Result<Sheet, LayerFault>
     ensures { MatchResult result
         (λ sheet. manifest.read_layer bytes.now ≡ Ok sheet)
@@ -73,8 +74,7 @@ pub fn read_sheet(alloc: Global, bytes: &[u8]) -> Result<Sheet, LayerFault>
     }
 }
 
-// How many bytes of a manifest with white space between its tokens have some: others aren't looked
-// through for it.
+// Where none of so many first bytes is white space, a manifest isn't looked through for any.
 const FIRST_BYTES: usize = 64;
 
 // The sheet of the layer whose manifest these bytes are, where white space alone keeps it from
