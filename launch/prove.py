@@ -25,7 +25,7 @@ from telling import as_time, fail, say, so_far
 _ROOT = Path(__file__).resolve().parents[1]
 _BUILT = _ROOT / "crates" / PROGRAM / "out" / PROGRAM
 _SMALLEST = _ROOT / "examples" / "root.json"
-_MEMORY = 2_000_000_000  # bytes that a proof takes, some
+_MEMORY = 2_000_000_000  # bytes that a proof takes, or a job of one, some
 _JOBS = 4  # of which a proof gains
 _BESIDE = 10  # how much nicer a proof is that isn't of the longest chain
 _LOOK = 0.1  # seconds
@@ -89,7 +89,8 @@ class Proofs:
         folder = self._copies.make(crate.name)
         said = folder.parents[1] / "said"
         longest = all(self._crates[it].chain <= crate.chain for it in self._running)
-        words = ["rt", "run"] if crate.name == PROGRAM else ["rt", "lib", *self._jobs(longest)]
+        jobs = jobs_of_longest(self._processors) if longest else jobs_beside(self._processors)
+        words = ["rt", "run"] if crate.name == PROGRAM else ["rt", "lib", "--jobs", str(jobs)]
         with said.open("wb") as file, _SMALLEST.open("rb") as layer:
             process = subprocess.Popen(
                 words,
@@ -101,10 +102,6 @@ class Proofs:
                 preexec_fn=lambda: os.nice(0 if longest else _BESIDE),
             )
         return Proof(process, time.monotonic(), said)
-
-    def _jobs(self, longest: bool) -> list[str]:
-        """The longest chain gets as many jobs as `rt` gives a crate alone, up to four; what is beside it gets fewer."""
-        return [] if longest else ["--jobs", str(jobs_beside(self._processors))]
 
     def _look(self) -> None:
         """Takes notice of proofs that have ended."""
@@ -146,6 +143,11 @@ def places(processors: int) -> int:
     found = re.search(r"^MemAvailable: *(\d+) kB$", text, re.MULTILINE)
     free = int(found[1]) * 1024 if found else _MEMORY
     return max(min(processors, free // _MEMORY), 1)
+
+
+def jobs_of_longest(processors: int) -> int:
+    """How many jobs the proof of the longest chain gets."""
+    return min(places(processors), _JOBS)
 
 
 def jobs_beside(processors: int) -> int:

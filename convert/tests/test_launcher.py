@@ -186,7 +186,8 @@ class Build(Making):
         self.put("with-right", "left")
         status, _, told = self.run_launcher("show")
         self.assertEqual(status, 0, told)
-        self.assertEqual([self.asked(it) for it in ("low", "left", "high")], ["lib"] * 3)
+        for name in ("low", "left", "high"):
+            self.assertRegex(self.asked(name), f"^lib --jobs [1-{min(len(os.sched_getaffinity(0)), 4)}]$")
         self.assertEqual(self.asked("right"), f"lib --jobs {max(min(len(os.sched_getaffinity(0)) // 2, 4), 1)}")
         self.assertEqual([self.nice(it) for it in ("low", "left", "high")], [os.nice(0)] * 3)
         self.assertEqual(self.nice("right"), min(os.nice(0) + 10, 19))
