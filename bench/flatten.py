@@ -11,12 +11,11 @@ Where a stack has no folder `blobs`, stand-ins serve for its contents, as in twi
 
     python3 bench/flatten.py --program ./ovl_layers examples/renamed examples/copied
 """
-import argparse
 import os
 import sys
 import tempfile
 
-from twice import manifests_of, printed, read, with_contents
+from twice import SCRIPT, asked, layers_and_blobs, printed, read
 
 
 def new_layers(program: str, command: str, layers: list[str], blobs: str, folder: str) -> list[str]:
@@ -29,7 +28,7 @@ def new_layers(program: str, command: str, layers: list[str], blobs: str, folder
         files = [os.path.join(out, it) for it in sorted(os.listdir(out))]
         made[workers] = [report, *map(read, files)]
     if made["1"] != made["7"]:
-        sys.exit(f"flatten.py: 1 and 7 workers of {command} make different layers")
+        sys.exit(f"{SCRIPT}: 1 and 7 workers of {command} make different layers")
     return files
 
 
@@ -45,18 +44,11 @@ def merged(program: str, layers: list[str], blobs: str, folder: str) -> tuple[st
 
 
 def main() -> None:
-    words = argparse.ArgumentParser(description="Merges stacks of layers down to one.")
-    words.add_argument("--program", required=True, help="path of the program")
-    words.add_argument("stacks", nargs="+", metavar="STACK", help="a folder of layers")
-    given = words.parse_args()
-    program, good = os.path.abspath(given.program), True
-    for stack in given.stacks:
+    program, stacks = asked("Merges stacks of layers down to one.", "a folder of layers")
+    good = True
+    for stack in stacks:
         with tempfile.TemporaryDirectory(prefix="ovl-flatten-") as folder:
-            layers, blobs = manifests_of(stack), os.path.join(stack, "blobs")
-            if not layers:
-                sys.exit(f"flatten.py: {stack} has no l0.json")
-            if not os.path.isdir(blobs):
-                layers, blobs = with_contents(layers, folder)
+            layers, blobs = layers_and_blobs(stack, folder)
             left, same, merges = merged(program, layers, blobs, folder)
             [flat] = new_layers(program, "flatten", layers, blobs, os.path.join(folder, "flat"))
             alike = not merges or read(left) == read(flat)

@@ -23,6 +23,17 @@ import sys
 import tempfile
 from collections.abc import Iterator
 
+SCRIPT = os.path.basename(sys.argv[0])
+
+
+def asked(purpose: str, stack: str) -> tuple[str, list[str]]:
+    """The program and the stacks that the command line names."""
+    words = argparse.ArgumentParser(description=purpose)
+    words.add_argument("--program", required=True, help="path of the program")
+    words.add_argument("stacks", nargs="+", metavar="STACK", help=stack)
+    given = words.parse_args()
+    return os.path.abspath(given.program), given.stacks
+
 
 def manifests_of(stack: str) -> list[str]:
     """The manifests of a stack, the topmost first."""
@@ -32,6 +43,14 @@ def manifests_of(stack: str) -> list[str]:
     while os.path.isfile(os.path.join(stack, f"l{len(files)}.json")):
         files.append(os.path.join(stack, f"l{len(files)}.json"))
     return files
+
+
+def layers_and_blobs(stack: str, folder: str) -> tuple[list[str], str]:
+    """The manifests of a stack and its folder of blobs, or stand-ins for both in this folder."""
+    layers, blobs = manifests_of(stack), os.path.join(stack, "blobs")
+    if not layers:
+        sys.exit(f"{SCRIPT}: {stack} has no l0.json")
+    return (layers, blobs) if os.path.isdir(blobs) else with_contents(layers, folder)
 
 
 def with_contents(layers: list[str], folder: str) -> tuple[list[str], str]:
@@ -60,7 +79,7 @@ def printed(program: str, *words: str) -> bytes:
     ran = subprocess.run([program, *words], stdin=subprocess.DEVNULL, stdout=subprocess.PIPE, check=False)
     if ran.returncode != 0:
         sys.stdout.buffer.write(ran.stdout[-1000:])
-        sys.exit(f"twice.py: {' '.join(words)} ended with status {ran.returncode}")
+        sys.exit(f"{SCRIPT}: {' '.join(words)} ended with status {ran.returncode}")
     return ran.stdout
 
 
@@ -118,18 +137,11 @@ def trials(layers: list[str]) -> Iterator[tuple[str, list[str]]]:
 
 
 def main() -> None:
-    words = argparse.ArgumentParser(description="Vacuums and flattens stacks of layers twice.")
-    words.add_argument("--program", required=True, help="path of the program")
-    words.add_argument("stacks", nargs="+", metavar="STACK", help="a folder of layers, or a manifest")
-    given = words.parse_args()
-    program, good = os.path.abspath(given.program), True
-    for stack in given.stacks:
+    program, stacks = asked("Vacuums and flattens stacks of layers twice.", "a folder of layers, or a manifest")
+    good = True
+    for stack in stacks:
         with tempfile.TemporaryDirectory(prefix="ovl-twice-") as folder:
-            layers, blobs = manifests_of(stack), os.path.join(stack, "blobs")
-            if not layers:
-                sys.exit(f"twice.py: {stack} has no l0.json")
-            if not os.path.isdir(blobs):
-                layers, blobs = with_contents(layers, folder)
+            layers, blobs = layers_and_blobs(stack, folder)
             for name, trial in trials(layers):
                 with tempfile.TemporaryDirectory(dir=folder) as inner:
                     said, fine = twice(program, trial, blobs, inner)

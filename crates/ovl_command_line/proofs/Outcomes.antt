@@ -11,7 +11,7 @@ use Rattle.clap.specs.declared.error.Error.{Error}
 use Rattle.clap.specs.declared.parser.matches.ArgMatches.{ArgMatches}
 use Rattle.clap.proofs.OnLiterals.{clap_on_literals}
 use Rattle.ovl_command_line.specs.Commands.{tool_app}
-use Rattle.ovl_command_line.specs.Lines.{IsFaultBy, IsFaultOf, IsGiven, name_of}
+use Rattle.ovl_command_line.specs.Lines.{IsFaultBy, IsFaultOfKind, IsGiven, name_of}
 use Rattle.ovl_commands.specs.declared.requests.Command.{Command}
 use Rattle.ovl_commands.specs.declared.requests.Command.TheVariants.{Show, Fsck, Vacuum, Deref, Merge, Flatten}
 use Rattle.ovl_command_line.specs.declared.options.LineFault.{LineFault}
@@ -27,7 +27,7 @@ pub tool_is_free : is_simple_and_free tool_app ≡ true
 unfolding clap_on_literals
 tool_is_free = refl
 
-pub fault_by : (kinds : Kinds) (error : Error) (fault : LineFault) → HasKind kinds error → IsFaultOf (kind_of error) fault → IsFaultBy kinds fault
+pub fault_by : (kinds : Kinds) (error : Error) (fault : LineFault) → HasKind kinds error → IsFaultOfKind (kind_of error) fault → IsFaultBy kinds fault
 fault_by kinds error (Help text) (inl memory) (inl help) = cc
 fault_by kinds error (Help text) (inl memory) (inr version) = cc
 fault_by kinds error (Help text) (inr among) is = (kind_of error, (is, among))

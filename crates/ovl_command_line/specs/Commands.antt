@@ -1,9 +1,12 @@
 -- The words that the command line takes: each command, with its options and what they take.
-use Rattle.std.specs.Prelude.{ℕ, ◌-◌, true, false, List, [], ◌∷◌, Some, codes}
+use Rattle.std.specs.Prelude.{◌≡◌, ℕ, ◌-◌, true, false, List, [], ◌∷◌, ◌++◌, Some, codes}
 use Rattle.clap.specs.Lexer.{usize_max}
-use Rattle.clap.specs.Words.{App, Rule, Shape, new_rule}
+use Rattle.clap.specs.Words.{App, Rule, Shape, new_rule, rule_of, shape_of}
 use Rattle.clap.specs.Simple.{new_shape}
 use Rattle.clap.specs.declared.builder.action.ArgAction.TheVariants.{Append, SetTrue}
+use Rattle.clap.specs.declared.builder.arg.Arg.{Arg}
+use Rattle.clap.specs.declared.builder.command.Command.{Command}
+use Rattle.clap.specs.declared.builder.command.Command.TheViews.{out-Command as fields_of}
 use Rattle.clap.specs.declared.builder.value_parser.ValueParser.TheVariants.{NonEmptyString, Unsigned}
 use Rattle.ovl_lookup.specs.Stacks.{layer_limit}
 use Rattle.ovl_board.specs.Machine.{worker_limit}
@@ -74,6 +77,20 @@ layers_rule = record (new_rule (codes "layers")) {
   range = Some (record { start_inclusive = 1; end_inclusive = usize_max });
   value_names = 1;
   required = true;
+}
+
+-- a command of this shape, or an argument of this rule, that hands nothing on to other commands
+abbrev pub HasShape : Shape → Command → Type 0
+HasShape shape command =
+    (shape_of command ≡ shape) × ((fields_of command).has_globals ≡ false)
+
+abbrev pub HasRule : Rule → Arg → Type 0
+HasRule rule arg = (rule_of arg ≡ rule) × (arg.global ≡ false)
+
+-- the same command with what all take at the end
+abbrev pub layers_shape : Shape → Shape
+layers_shape shape = record shape {
+  rules = shape.rules ++ workers_rule ∷ data_layers_rule ∷ layers_rule ∷ [];
 }
 
 abbrev pub show_shape : Shape

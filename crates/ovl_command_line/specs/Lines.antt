@@ -109,10 +109,10 @@ IsFaultBy kinds (Usage text) = (kind : ErrorKind) × ((¬ AsksForText kind) × I
 IsFaultBy kinds Memory = ⊤
 
 -- the fault of an error of this kind
-abbrev pub IsFaultOf : ErrorKind → LineFault → Type 0
-IsFaultOf kind (Help text) = AsksForText kind
-IsFaultOf kind (Usage text) = (¬ AsksForText kind) × (kind ≢ OutOfMemory)
-IsFaultOf kind Memory = ⊤
+abbrev pub IsFaultOfKind : ErrorKind → LineFault → Type 0
+IsFaultOfKind kind (Help text) = AsksForText kind
+IsFaultOfKind kind (Usage text) = (¬ AsksForText kind) × (kind ≢ OutOfMemory)
+IsFaultOfKind kind Memory = ⊤
 
 -- what comes of words: a line only where nothing refuses them, and a fault by what does
 abbrev pub IsRead : List Text → Result Line LineFault → Type 0

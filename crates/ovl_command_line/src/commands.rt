@@ -1,8 +1,8 @@
 //! The commands of the command line with their options, and the texts of their help.
 ghost use Rattle.std.specs.Prelude.{◌≡◌, IfOk, false};
-ghost use Rattle.clap.specs.Words.{app_of, rule_of};
+ghost use Rattle.clap.specs.Words.{app_of};
 ghost use Rattle.clap.specs.declared.builder.command.Command.TheViews.{out-Command as fields_of};
-ghost use Rattle.ovl_command_line.specs.Commands.{any_size_rule, bare_app, blobs_rule, blobs_shape, data_layers_rule, default_word, default_workers, down_to_rule, folders_shape, fsck_shape, layers_rule, merge_shape, out_rule, rewriting_shape, show_shape, tool_app, workers_rule};
+ghost use Rattle.ovl_command_line.specs.Commands.{HasRule, HasShape, any_size_rule, bare_app, blobs_rule, blobs_shape, data_layers_rule, default_word, default_workers, down_to_rule, folders_shape, fsck_shape, layers_rule, layers_shape, merge_shape, out_rule, rewriting_shape, show_shape, tool_app, workers_rule};
 ghost use Rattle.ovl_command_line.specs.Lines.{number_in};
 ghost use Rattle.clap.specs.Simple.{shape_of};
 
@@ -169,25 +169,18 @@ fn bare<'a>(alloc: Global) -> Result<Command<'a>, AllocError>
 }
 
 fn show<'a>(alloc: Global) -> Result<Command<'a>, AllocError>
-    ensures { IfOk result
-        (λ command. (shape_of command ≡ show_shape) × ((fields_of command).has_globals ≡ false)) }
+    ensures { IfOk result (HasShape show_shape) }
 {
-    Command::new(alloc, "show")
+    let command = Command::new(alloc, "show")
         .about(SHOW)
-        .after_help(SHOW_EXAMPLE)
-        .arg(workers(alloc))?
-        .arg(data_layers(alloc))?
-        .arg(layers(alloc))
+        .after_help(SHOW_EXAMPLE);
+    with_layers(alloc, command)
 }
 
 fn fsck<'a>(alloc: Global) -> Result<Command<'a>, AllocError>
-    ensures { IfOk result
-        (λ command. (shape_of command ≡ fsck_shape) × ((fields_of command).has_globals ≡ false)) }
+    ensures { IfOk result (HasShape fsck_shape) }
 {
-    with_blobs(alloc, "fsck", FSCK, FSCK_EXAMPLE)?
-        .arg(workers(alloc))?
-        .arg(data_layers(alloc))?
-        .arg(layers(alloc))
+    with_layers(alloc, with_blobs(alloc, "fsck", FSCK, FSCK_EXAMPLE)?)
 }
 
 // A command that makes new layers.
@@ -197,22 +190,25 @@ fn rewriting<'a>(
     about: &'a str,
     example: &'a str,
 ) -> Result<Command<'a>, AllocError>
-    ensures { IfOk result
-        (λ command. (shape_of command ≡ rewriting_shape name.now)
-        × ((fields_of command).has_globals ≡ false)) }
+    ensures { IfOk result (HasShape (rewriting_shape name.now)) }
 {
-    with_folders(alloc, name, about, example)?
-        .arg(workers(alloc))?
-        .arg(data_layers(alloc))?
-        .arg(layers(alloc))
+    with_layers(alloc, with_folders(alloc, name, about, example)?)
 }
 
 fn merge<'a>(alloc: Global) -> Result<Command<'a>, AllocError>
-    ensures { IfOk result
-        (λ command. (shape_of command ≡ merge_shape) × ((fields_of command).has_globals ≡ false)) }
+    ensures { IfOk result (HasShape merge_shape) }
 {
-    with_folders(alloc, "merge", MERGE, MERGE_EXAMPLE)?
-        .arg(down_to(alloc))?
+    let command = with_folders(alloc, "merge", MERGE, MERGE_EXAMPLE)?.arg(down_to(alloc))?;
+    with_layers(alloc, command)
+}
+
+// The command with what all take at the end: options for the workers and the data-only layers, and
+// the layers.
+fn with_layers<'a>(alloc: Global, command: Command<'a>) -> Result<Command<'a>, AllocError>
+    requires { (fields_of command).has_globals ≡ false }
+    ensures { IfOk result (HasShape (layers_shape (shape_of command.entry))) }
+{
+    command
         .arg(workers(alloc))?
         .arg(data_layers(alloc))?
         .arg(layers(alloc))
@@ -225,9 +221,7 @@ fn with_blobs<'a>(
     about: &'a str,
     example: &'a str,
 ) -> Result<Command<'a>, AllocError>
-    ensures { IfOk result
-        (λ command. (shape_of command ≡ blobs_shape name.now)
-        × ((fields_of command).has_globals ≡ false)) }
+    ensures { IfOk result (HasShape (blobs_shape name.now)) }
 {
     Command::new(alloc, name)
         .about(about)
@@ -243,15 +237,13 @@ fn with_folders<'a>(
     about: &'a str,
     example: &'a str,
 ) -> Result<Command<'a>, AllocError>
-    ensures { IfOk result
-        (λ command. (shape_of command ≡ folders_shape name.now)
-        × ((fields_of command).has_globals ≡ false)) }
+    ensures { IfOk result (HasShape (folders_shape name.now)) }
 {
     with_blobs(alloc, name, about, example)?.arg(out(alloc))
 }
 
 fn workers<'a>(alloc: Global) -> Arg<'a>
-    ensures rule { (rule_of result ≡ workers_rule) × (result.global ≡ false) }
+    ensures rule { HasRule workers_rule result }
     ensures default { (number_in default_word ≡ default_workers)
         × (DEFAULT_WORKERS ≡ default_workers) }
 {
@@ -264,7 +256,7 @@ fn workers<'a>(alloc: Global) -> Arg<'a>
 }
 
 fn data_layers<'a>(alloc: Global) -> Arg<'a>
-    ensures { (rule_of result ≡ data_layers_rule) × (result.global ≡ false) }
+    ensures { HasRule data_layers_rule result }
 {
     Arg::new(alloc, "data-layers")
         .long("data-layers")
@@ -275,7 +267,7 @@ fn data_layers<'a>(alloc: Global) -> Arg<'a>
 }
 
 fn blobs<'a>(alloc: Global) -> Arg<'a>
-    ensures { (rule_of result ≡ blobs_rule) × (result.global ≡ false) }
+    ensures { HasRule blobs_rule result }
 {
     Arg::new(alloc, "blobs")
         .long("blobs")
@@ -285,7 +277,7 @@ fn blobs<'a>(alloc: Global) -> Arg<'a>
 }
 
 fn any_size<'a>(alloc: Global) -> Arg<'a>
-    ensures { (rule_of result ≡ any_size_rule) × (result.global ≡ false) }
+    ensures { HasRule any_size_rule result }
 {
     Arg::new(alloc, "any-size")
         .long("any-size")
@@ -294,7 +286,7 @@ fn any_size<'a>(alloc: Global) -> Arg<'a>
 }
 
 fn out<'a>(alloc: Global) -> Arg<'a>
-    ensures { (rule_of result ≡ out_rule) × (result.global ≡ false) }
+    ensures { HasRule out_rule result }
 {
     Arg::new(alloc, "out")
         .long("out")
@@ -305,7 +297,7 @@ fn out<'a>(alloc: Global) -> Arg<'a>
 }
 
 fn down_to<'a>(alloc: Global) -> Arg<'a>
-    ensures { (rule_of result ≡ down_to_rule) × (result.global ≡ false) }
+    ensures { HasRule down_to_rule result }
 {
     Arg::new(alloc, "down-to")
         .long("down-to")
@@ -315,7 +307,7 @@ fn down_to<'a>(alloc: Global) -> Arg<'a>
 }
 
 fn layers<'a>(alloc: Global) -> Arg<'a>
-    ensures { (rule_of result ≡ layers_rule) × (result.global ≡ false) }
+    ensures { HasRule layers_rule result }
 {
     Arg::new(alloc, "layers")
         .value_name("LAYER")

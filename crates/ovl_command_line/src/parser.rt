@@ -1,7 +1,7 @@
 //! Reads the words of the command line by `clap`.
 ghost use Rattle.std.specs.Prelude.{◌≡◌, IfOk, map, option_map, string_bytes};
 ghost use Rattle.clap.specs.Words.{found_of, kind_of, rows_of};
-ghost use Rattle.ovl_command_line.specs.Lines.{HasValues, IsFaultOf, IsGiven, IsRead, IsSound, NamesCommand, name_of};
+ghost use Rattle.ovl_command_line.specs.Lines.{HasValues, IsFaultOfKind, IsGiven, IsRead, IsSound, NamesCommand, name_of};
 
 use crate::commands::tool;
 use crate::options::{Line, LineFault};
@@ -84,7 +84,7 @@ fn copies(alloc: Global, texts: &[&str]) -> Result<Vec<String>, AllocError>
 
 // The fault of words that `clap` refuses or answers with help.
 fn fault_of(alloc: Global, error: &clap::Error) -> LineFault
-    ensures { IsFaultOf (kind_of error.now) result }
+    ensures { IsFaultOfKind (kind_of error.now) result }
 {
     match (error.kind(), error.to_string(alloc)) {
         (ErrorKind::OutOfMemory, _) | (_, Err(_)) => LineFault::Memory,

@@ -6,7 +6,7 @@ use Rattle.std.proofs.lemmas.Bool.Decides.{nat_tests}
 use Rattle.std.proofs.lemmas.List.{take-append-drop, take_more, ext_get_or, get_or-take, get_or-drop, get_or-set_same, get_or-set_other, length-set}
 use Rattle.ovl_names.proofs.Ascending.{both}
 use Rattle.ovl_layer.specs.Sheets.{kid_numbers, are_earlier}
-use Rattle.ovl_layer.specs.KidLists.{parts_of, AreStarts, count_below, AreCounts, AreEnds}
+use Rattle.ovl_layer.specs.KidLists.{parts_of, AreKidStarts, count_below, AreCounts, AreKidEnds}
 
 -- ---- a part of a list by its number
 
@@ -184,12 +184,12 @@ counts-fit parents m directory inside =
 -- ---- where the kids of each row end
 
 -- the ends of the first rows stand there, and the counts of the others
-pub record AreEndsTo (parents : List ℕ) (row : ℕ) (numbers : List ℕ) : Type 0 where
+pub record AreKidEndsTo (parents : List ℕ) (row : ℕ) (numbers : List ℕ) : Type 0 where
   pub count : length numbers ≡ suc (length parents)
   pub ends : (number : ℕ) → number < row → number ≤ length parents → slice_index numbers number ≡ count_below (drop 1 parents) (suc number)
   pub counts : (number : ℕ) → row ≤ number → number ≤ length parents → slice_index numbers number ≡ length (kid_numbers 1 (drop 1 parents) number)
 
-pub ends-begin : (parents counts : List ℕ) → AreCounts parents counts → AreEndsTo parents 1 counts
+pub ends-begin : (parents counts : List ℕ) → AreCounts parents counts → AreKidEndsTo parents 1 counts
 ends-begin parents counts are = record {
   count = are.count;
   ends = λ number first inside.
@@ -198,8 +198,8 @@ ends-begin parents counts are = record {
   counts = λ number later inside. are.each number inside;
 }
 
-pub ends-more : (parents old : List ℕ) (row value : ℕ) → 1 ≤ row → row < length old → AreEndsTo parents row old → value ≡ slice_index old row + slice_index old (row - 1)
-    → (value ≡ count_below (drop 1 parents) (suc row)) × AreEndsTo parents (row + 1) (set old row value)
+pub ends-more : (parents old : List ℕ) (row value : ℕ) → 1 ≤ row → row < length old → AreKidEndsTo parents row old → value ≡ slice_index old row + slice_index old (row - 1)
+    → (value ≡ count_below (drop 1 parents) (suc row)) × AreKidEndsTo parents (row + 1) (set old row value)
 ends-more parents old row value some inside are is = (
   own,
   record {
@@ -230,7 +230,7 @@ ends-more parents old row value some inside are is = (
 pub ends-fit : (parents : List ℕ) (number : ℕ) → count_below (drop 1 parents) number ≤ length parents
 ends-fit parents number = omega (arith, count-few (drop 1 parents) number, length-drop 1 parents)
 
-pub ends-all : (parents ends : List ℕ) (row : ℕ) → length ends ≤ row → AreEndsTo parents row ends → AreEnds parents ends
+pub ends-all : (parents ends : List ℕ) (row : ℕ) → length ends ≤ row → AreKidEndsTo parents row ends → AreKidEnds parents ends
 ends-all parents ends row all are = record {
   count = are.count;
   each = λ number inside. are.ends number (omega (arith, inside, all, are.count)) inside;
@@ -372,7 +372,7 @@ module _ (parents starts kids : List ℕ) (are : ArePlaced parents 1 starts kids
   start-of : (directory : ℕ) → directory ≤ length parents → slice_index starts directory ≡ count_below (drop 1 parents) directory
   start-of directory few = omega (arith, are.left directory few, count-next 1 (drop 1 parents) directory)
 
-  pub all-starts : AreStarts starts (length kids)
+  pub all-starts : AreKidStarts starts (length kids)
   all-starts = record {
     rise = λ number inside.
         omega (arith, start-of number (omega (arith, inside, are.count)), start-of (suc number) (omega (arith, inside, are.count)), count-rises (drop 1 parents) number (suc number) (omega arith));

@@ -18,7 +18,7 @@ use Rattle.ovl_layer.specs.Layers.{Entry, Entries, IsLayer}
 use Rattle.ovl_layer.specs.LayerTrees.{NodeView, under, entries_from, entries_of_nodes, placed}
 use Rattle.ovl_layer.specs.TreeFalls.{length-under}
 use Rattle.ovl_layer.specs.Sheets.{last_name, path_of, path_at, row_path, entries_with, entries_of_rows, count_deeper, afters_from, kid_numbers, parents_of, are_earlier, IsSheet}
-use Rattle.ovl_layer.specs.SheetPasses.{placed_by, Place, AddsParents, rows_from}
+use Rattle.ovl_layer.specs.SheetPasses.{placed_by, PlacesUnder, AddsParents, rows_from}
 use Rattle.ovl_layer.proofs.NodeLemmas.{entries_of_nodes-append, entries_of_nodes-push, entries_of_nodes-more, placed-root, placed-under, placed-append}
 use Rattle.ovl_layer.proofs.SheetLemmas.{slice_get-front, slice_get-seam}
 
@@ -170,8 +170,8 @@ placed_by-append before (x ∷ xs) ys (entry ∷ entries) others same =
     placed_by-append (before ++ (row_path before x (last_name entry.0), entry.1) ∷ []) xs ys entries others (omega (arith, same))
 
 -- entries, one after another, under one directory
-Place-append : (directory number : ℕ) (xs ys : List ℕ) (entries others : Entries) → directory < number → length xs ≡ length entries → Place directory number xs entries → Place directory (number + length entries) ys others → Place directory number (xs ++ ys) (entries ++ others)
-Place-append directory number xs ys entries others earlier same one other before count =
+PlacesUnder-append : (directory number : ℕ) (xs ys : List ℕ) (entries others : Entries) → directory < number → length xs ≡ length entries → PlacesUnder directory number xs entries → PlacesUnder directory (number + length entries) ys others → PlacesUnder directory number (xs ++ ys) (entries ++ others)
+PlacesUnder-append directory number xs ys entries others earlier same one other before count =
     let path : PathNames = path_at before directory in
     let inside : directory < length before = omega (arith, earlier, count) in
     let next : length (before ++ placed path entries) ≡ number + length entries = omega (arith, length-append before (placed path entries), length-map {B = Entry} entries (λ (entry : Entry). (path ++ entry.0, entry.1)), count) in
@@ -196,8 +196,8 @@ placed_by-under before name (x ∷ xs) (entry ∷ entries) all =
     ∙ placed_by-under (before ++ (row_path before x (last_name entry.0), entry.1) ∷ []) name xs entries parts.1
 
 -- a node, with what lies below it
-Place-node : (directory number : ℕ) (xs : List ℕ) (node : NodeView) (kids : List NodeView) → directory < number → entries_of_nodes kids ≡ node.below → Place number (suc number) xs node.below → Place directory number (directory ∷ xs) (under node.name (entries_from node.inode node.below))
-Place-node directory number xs node kids earlier below place before count =
+PlacesUnder-node : (directory number : ℕ) (xs : List ℕ) (node : NodeView) (kids : List NodeView) → directory < number → entries_of_nodes kids ≡ node.below → PlacesUnder number (suc number) xs node.below → PlacesUnder directory number (directory ∷ xs) (under node.name (entries_from node.inode node.below))
+PlacesUnder-node directory number xs node kids earlier below place before count =
     let path : PathNames = path_at before directory in
     let own : Entry = (child_path path node.name, node.inode) in
     let all : are_below node.below ≡ true = ap are_below (sym below) ∙ below-nodes kids in
@@ -227,10 +227,10 @@ parents-more directory before old pushed new nodes kids i node earlier inside is
     let more : entries_of_nodes (take (i + 1) nodes) ≡ entries ++ under node.name (entries_from node.inode node.below) = entries_of_nodes-more nodes i node inside is in
     let number : length old ≡ length before + length entries = ap length one.grown ∙ (length-append before one.added ∙ omega (arith, one.count)) in
     let next : length pushed ≡ suc (length before + length entries) = ap length f ∙ (length-append old (directory ∷ []) ∙ omega (arith, number)) in
-    let own : Place (length before + length entries) (suc (length before + length entries)) other.added node.below =
-    subst (λ (es : Entries). Place (length before + length entries) (suc (length before + length entries)) other.added es) below
-    (subst (λ n. Place (length before + length entries) n other.added (entries_of_nodes kids)) next
-    (subst (λ n. Place n (length pushed) other.added (entries_of_nodes kids)) number other.place)) in
+    let own : PlacesUnder (length before + length entries) (suc (length before + length entries)) other.added node.below =
+    subst (λ (es : Entries). PlacesUnder (length before + length entries) (suc (length before + length entries)) other.added es) below
+    (subst (λ n. PlacesUnder (length before + length entries) n other.added (entries_of_nodes kids)) next
+    (subst (λ n. PlacesUnder n (length pushed) other.added (entries_of_nodes kids)) number other.place)) in
     let early : are_earlier (suc (length before + length entries)) other.added ≡ true = ap (λ n. are_earlier n other.added) (sym next) ∙ other.earlier in
     let first : nat_lt directory (length before + length entries) ≡ true = grind (arith, nat_tests) in
     record {
@@ -241,9 +241,9 @@ parents-more directory before old pushed new nodes kids i node earlier inside is
           ∙ omega (arith, one.count, other.count, ap length below, ap length more, length-append entries (under node.name (entries_from node.inode node.below)), length-under node.name (entries_from node.inode node.below));
       earlier = earlier-append (length before) one.added (directory ∷ other.added) one.earlier
           (ap (λ n. are_earlier (length before + n) (directory ∷ other.added)) one.count ∙ (λ j. first j && early j));
-      place = subst (λ (es : Entries). Place directory (length before) (one.added ++ directory ∷ other.added) es) (sym more)
-          (Place-append directory (length before) one.added (directory ∷ other.added) entries (under node.name (entries_from node.inode node.below)) earlier one.count one.place
-          (Place-node directory (length before + length entries) other.added node kids (omega (arith, earlier)) below own));
+      place = subst (λ (es : Entries). PlacesUnder directory (length before) (one.added ++ directory ∷ other.added) es) (sym more)
+          (PlacesUnder-append directory (length before) one.added (directory ∷ other.added) entries (under node.name (entries_from node.inode node.below)) earlier one.count one.place
+          (PlacesUnder-node directory (length before + length entries) other.added node kids (omega (arith, earlier)) below own));
     }
 
 -- ---- the rows

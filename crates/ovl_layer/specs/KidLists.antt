@@ -11,7 +11,7 @@ parts_of (start ∷ end ∷ starts) numbers =
     take (end - start) (drop start numbers) ∷ parts_of (end ∷ starts) numbers
 
 -- no start lies behind the next one, and none past the end of a list of so many
-pub record AreStarts (starts : List ℕ) (count : ℕ) : Type 0 where
+pub record AreKidStarts (starts : List ℕ) (count : ℕ) : Type 0 where
   pub rise : (number : ℕ) → suc number < length starts
       → slice_index starts number ≤ slice_index starts (suc number)
   pub within : (number : ℕ) → number < length starts → slice_index starts number ≤ count
@@ -29,7 +29,7 @@ pub record AreCounts (parents counts : List ℕ) : Type 0 where
       → slice_index counts number ≡ length (kid_numbers 1 (drop 1 parents) number)
 
 -- where the kids of each row end, if those of all rows lie row after row
-pub record AreEnds (parents ends : List ℕ) : Type 0 where
+pub record AreKidEnds (parents ends : List ℕ) : Type 0 where
   pub count : length ends ≡ suc (length parents)
   pub each : (number : ℕ) → number ≤ length parents
       → slice_index ends number ≡ count_below (drop 1 parents) (suc number)

@@ -1,5 +1,5 @@
 -- What a node of a layer's tree is seen as: its name, its inode, and the entries below it.
-use Rattle.std.specs.Prelude.{◌≡◌, List, [], ◌∷◌, ◌++◌, map}
+use Rattle.std.specs.Prelude.{◌≡◌, ◌≢◌, List, [], ◌∷◌, ◌++◌, map, MatchOption}
 use Rattle.std.specs.List.{filter_map}
 use Rattle.std.specs.declared.cmp.Ordering.{Ordering}
 use Rattle.std.specs.Prelude.{Option, Some, None, if◌then◌else◌}
@@ -49,6 +49,13 @@ entries_in name entries = filter_map (entry_in name) entries
 abbrev pub entries_under : PathNames → Entries → Entries
 entries_under [] entries = entries
 entries_under (name ∷ names) entries = entries_under names (entries_in name entries)
+
+-- the place of a path is seen as the entries at and under it; without entries there is none
+abbrev pub IsPlaceAt : Entries → PathNames → Option Entries → Type 0
+IsPlaceAt layer path place =
+    MatchOption place
+    (entries_under path layer ≡ [])
+    (λ own. (own ≡ entries_under path layer) × (own ≢ []))
 
 -- the entries with `path` before each path
 abbrev pub placed : PathNames → Entries → Entries

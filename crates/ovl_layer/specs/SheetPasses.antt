@@ -37,8 +37,8 @@ placed_by before (parent ∷ parents) (entry ∷ entries) =
 
 -- the parents' numbers place the entries under the directory of that number, after so many other
 -- entries
-abbrev pub Place : ℕ → ℕ → List ℕ → Entries → Type 0
-Place directory number parents entries =
+abbrev pub PlacesUnder : ℕ → ℕ → List ℕ → Entries → Type 0
+PlacesUnder directory number parents entries =
     (before : Entries) → length before ≡ number
     → placed_by before parents entries ≡ before ++ placed (path_at before directory) entries
 
@@ -49,7 +49,7 @@ pub record AddsParents (directory : ℕ) (old new : List ℕ) (entries : Entries
   pub grown : new ≡ old ++ added
   pub count : length added ≡ length entries
   pub earlier : are_earlier (length old) added ≡ true
-  pub place : Place directory (length old) added entries
+  pub place : PlacesUnder directory (length old) added entries
 
 -- the rows of entries, the first of which has that number, with the numbers that stand for it in
 -- these lists

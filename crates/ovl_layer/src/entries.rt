@@ -1,8 +1,9 @@
-ghost use Rattle.std.specs.Prelude.{◌≡◌, ◌<◌, ◌≤◌, ◌↔◌, Ok, Err, Some, IfSome, IsTrue, MatchResult, [], length, take};
-ghost use Rattle.ovl_names.specs.Paths.{child_path};
+ghost use Rattle.std.specs.Prelude.{◌≡◌, ◌*◌, ◌<◌, ◌≤◌, ◌↔◌, Ok, Err, Some, IfSome, IsTrue, MatchResult, [], length, take};
+ghost use Rattle.ovl_names.specs.Paths.{child_path, depth_limit};
 ghost use Rattle.ovl_inode.specs.Attributes as attributes;
 ghost use Rattle.ovl_layer.specs.Layers.{entry_limit};
 ghost use Rattle.ovl_layer.specs.Layers as layers;
+ghost use Rattle.ovl_layer.specs.TextPaths.{slashed};
 ghost use Rattle.ovl_layer.specs.Entries.{is_statable, stated_pair, entry_after, layer_of_pairs, is_miscounted, first_fault, is_of_first, IsFaultOf};
 ghost use Rattle.ovl_layer.specs.declared.faults.LayerFault.{LayerFault};
 ghost use Rattle.ovl_layer.specs.declared.faults.LayerFault.TheVariants.{Count};
@@ -195,14 +196,20 @@ pub(crate) fn stated(entry: (Path, Inode)) -> Option<(Path, Inode)>
 fn is_within_limits(path: &Path) -> bool
     ensures { result ≡ layers.is_within_limits path.now }
 {
-    if path.len() > DEPTH_LIMIT {
-        return false;
-    }
+    path.len() <= DEPTH_LIMIT && slashed_len(path) <= TEXT_LIMIT
+}
+
+/// How many bytes the names of a path take, each with its separator; takes no memory.
+pub fn slashed_len(path: &Path) -> usize
+    requires { length path.now ≤ depth_limit }
+    ensures value { result ≡ length (slashed path.now) }
+    ensures limit { result ≤ 256 * length path.now }
+{
     let mut bytes = 0;
     for name in path.names() {
         bytes += 1 + name.len();
     }
-    bytes <= TEXT_LIMIT
+    bytes
 }
 
 // The most names of a path that can't pass `TEXT_LIMIT`: each takes at most 256 bytes with its
@@ -213,19 +220,10 @@ const SHORT: usize = 15;
 fn is_child_within_limits(directory: &Path, name: &Name) -> bool
     ensures { result ≡ layers.is_within_limits (child_path directory.now name.now) }
 {
-    let names = directory.names();
-    let last = name.as_str();
-    if names.len() < SHORT {
-        return true;
-    }
-    if names.len() >= DEPTH_LIMIT {
-        return false;
-    }
-    let mut bytes = 1 + last.len();
-    for above in names {
-        bytes += 1 + above.len();
-    }
-    bytes <= TEXT_LIMIT
+    let above = directory.names();
+    let own = name.as_str();
+    above.len() < SHORT
+        || above.len() < DEPTH_LIMIT && slashed_len(directory) + 1 + own.len() <= TEXT_LIMIT
 }
 
 /// Whether the name of some attribute begins with `overlay::ESCAPED_PREFIX`.

@@ -1,6 +1,6 @@
 ghost use Rattle.std.specs.Prelude.{◌≡◌, ℕ, ◌<◌, ◌^◌, length, drop, slice_get, Some, IfOk, IsTrue};
 ghost use Rattle.ovl_layer.specs.Sheets.{kid_numbers, are_earlier};
-ghost use Rattle.ovl_layer.specs.KidLists.{AreCounts, AreEnds};
+ghost use Rattle.ovl_layer.specs.KidLists.{AreCounts, AreKidEnds};
 
 use std::alloc::{AllocError, Global};
 use std::marker::Model;
@@ -16,13 +16,13 @@ pub(crate) struct KidLists {
 
 impl Model for KidLists {
     ghost use Rattle.std.specs.Prelude.{ℕ, List, length};
-    ghost use Rattle.ovl_layer.specs.KidLists.{parts_of, AreStarts};
+    ghost use Rattle.ovl_layer.specs.KidLists.{parts_of, AreKidStarts};
 
     ghost Value = { List (List ℕ) };
 
     ghost view = { λ a. parts_of a.starts.items a.kids.items };
 
-    ghost invariant = { λ a. AreStarts a.starts.items (length a.kids.items) };
+    ghost invariant = { λ a. AreKidStarts a.starts.items (length a.kids.items) };
 }
 
 impl KidLists {
@@ -76,7 +76,7 @@ fn counts_of(alloc: Global, parents: &[u32]) -> Result<Vec<u32>, AllocError>
 fn ends_of(alloc: Global, parents: &[u32]) -> Result<Vec<u32>, AllocError>
     requires earlier { IsTrue (are_earlier 1 (drop 1 parents.now)) }
     requires limit { length parents.now < 2 ^ 32 }
-    ensures { IfOk result (λ ends. AreEnds parents.now ends.items) }
+    ensures { IfOk result (λ ends. AreKidEnds parents.now ends.items) }
 {
     let mut ends = counts_of(alloc, parents)?;
     for number in 1..ends.len() {

@@ -6,6 +6,7 @@ mod entries;
 mod faults;
 mod kid_lists;
 mod mark_lists;
+mod places;
 mod sheet_drafts;
 mod sheets;
 mod siblings;
@@ -13,9 +14,11 @@ mod trees;
 
 pub use drafts::Draft;
 pub use entries::{
-    ENTRY_LIMIT, add_child, add_entry, from_entries, has_escaped_name, start_draft, start_root,
+    ENTRY_LIMIT, add_child, add_entry, from_entries, has_escaped_name, slashed_len, start_draft,
+    start_root,
 };
 pub use faults::{LayerFault, SiblingFault};
+pub use places::LayerPlace;
 pub use sheet_drafts::SheetDraft;
 pub use sheets::{Sheet, SheetPlace, SheetRow};
 pub use siblings::Siblings;

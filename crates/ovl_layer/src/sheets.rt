@@ -1,17 +1,18 @@
-ghost use Rattle.std.specs.Prelude.{◌≡◌, ◌≢◌, ◌+◌, ◌<◌, ◌≤◌, ◌^◌, ◌++◌, [], ◌∷◌, length, map, vec_len, Some, IfOk, IfErr, OnOk, MatchOption};
+ghost use Rattle.std.specs.Prelude.{◌≡◌, ◌+◌, ◌<◌, ◌≤◌, ◌^◌, ◌++◌, [], ◌∷◌, length, map, vec_len, Some, IfOk, IfErr, OnOk, MatchOption};
 ghost use Rattle.std.specs.Option.{option_map};
 ghost use Rattle.std.specs.List.{All};
 ghost use Rattle.std.specs.Vec.{vec_capacity};
 ghost use Rattle.ovl_names.specs.Paths.{child_path};
 ghost use Rattle.ovl_inode.specs.Marks.{mark_of};
 ghost use Rattle.ovl_layer.specs.Layers.{IsLayer, entry_at, names_below, entry_limit};
-ghost use Rattle.ovl_layer.specs.LayerTrees.{entries_in, entries_under, entries_of_nodes};
+ghost use Rattle.ovl_layer.specs.LayerTrees.{entries_under, entries_of_nodes, IsPlaceAt};
 ghost use Rattle.ovl_layer.specs.Sheets.{IsRowOf, AreRows, path_at, last_name, entries_of_rows, afters_from};
 ghost use Rattle.ovl_layer.specs.SheetPasses.{AddsParents, IsRoomFor, rows_from, kid_order, with_afters};
 ghost use Rattle.ovl_layer.specs.SheetPasses as sheet_passes;
 
 use crate::kid_lists::KidLists;
 use crate::mark_lists::MarkList;
+use crate::places::{LayerPlace, names_at, place_at};
 use crate::trees::{Layer, Node};
 use ovl_inode::{Inode, Mark};
 use ovl_names::{Name, Path};
@@ -200,28 +201,16 @@ impl Sheet {
 
     /// The place of a path, and `None` where there is no entry; takes no memory.
     pub fn place(&self, path: &Path) -> Option<SheetPlace<'_>>
-        ensures { MatchOption result
-            (entries_under path.now self.now ≡ [])
-            (λ place. (place ≡ entries_under path.now self.now) × (place ≢ [])) }
+        ensures { IsPlaceAt self.now path.now result }
     {
-        let mut place = self.root();
-        for name in path.names() {
-            let Some(child) = place.child(name) else {
-                return None;
-            };
-            place = child;
-        }
-        Some(place)
+        place_at(self.root(), path)
     }
 
     /// The inode at a path, and `None` where there is no entry; takes no memory.
     pub fn at(&self, path: &Path) -> Option<&Inode>
         ensures { option_map (λ inode. inode.now) result ≡ entry_at self.now path.now }
     {
-        match self.place(path) {
-            Some(place) => Some(place.inode()),
-            None => None,
-        }
+        Some(self.place(path)?.inode())
     }
 
     /// The names directly below a path, in order; none where there is no directory. Fails only when
@@ -229,10 +218,7 @@ impl Sheet {
     pub fn children(&self, alloc: Global, path: &Path) -> Result<Vec<Name>, AllocError>
         ensures { IfOk result (λ names. names.items ≡ names_below self.now path.now) }
     {
-        match self.place(path) {
-            Some(place) => place.names(alloc),
-            None => Ok(Vec::new(alloc)),
-        }
+        names_at(alloc, self.root(), path)
     }
 }
 
@@ -268,13 +254,12 @@ impl<'a> SheetPlace<'a> {
         let sheet = self.sheet;
         sheet.mark(self.number)
     }
+}
 
-    /// The place of the entry `name`, and `None` where there is none; takes no memory.
-    pub fn child(&self, name: &str) -> Option<SheetPlace<'a>>
-        ensures { MatchOption result
-            (entries_in name.now self.now ≡ [])
-            (λ child. (child ≡ entries_in name.now self.now) × (child ≢ [])) }
-    {
+impl<'a> LayerPlace for SheetPlace<'a> {
+    ghost entries = { λ place. place };
+
+    fn child(&self, name: &str) -> Option<SheetPlace<'a>> {
         let sheet = self.sheet;
         let _ = &sheet.rows;
         match sheet.child(self.number, name) {
@@ -283,10 +268,7 @@ impl<'a> SheetPlace<'a> {
         }
     }
 
-    /// The names directly below the place, in order; fails only when out of memory.
-    pub fn names(&self, alloc: Global) -> Result<Vec<Name>, AllocError>
-        ensures { IfOk result (λ names. names.items ≡ names_below self.now []) }
-    {
+    fn names(&self, alloc: Global) -> Result<Vec<Name>, AllocError> {
         let sheet = self.sheet;
         let kids = sheet.kids.below(self.number);
         let mut names = Vec::with_capacity(alloc, kids.len())?;

@@ -1,10 +1,11 @@
-ghost use Rattle.std.specs.Prelude.{◌≡◌, ◌≢◌, ◌++◌, [], Ok, IfOk, OnOk, MatchOption};
+ghost use Rattle.std.specs.Prelude.{◌≡◌, ◌++◌, [], Ok, IfOk, OnOk};
 ghost use Rattle.std.specs.Option.{option_map};
 ghost use Rattle.ovl_names.specs.Paths.{child_path};
 ghost use Rattle.ovl_layer.specs.Layers.{IsLayer, entry_at, names_below};
 ghost use Rattle.ovl_layer.specs.Entries.{layer_of_pairs};
-ghost use Rattle.ovl_layer.specs.LayerTrees.{entries_from, entries_in, entries_under, entries_of_nodes, HasBelow, placed};
+ghost use Rattle.ovl_layer.specs.LayerTrees.{entries_from, entries_of_nodes, HasBelow, IsPlaceAt, placed};
 
+use crate::places::{LayerPlace, names_at, place_at};
 use ovl_inode::Inode;
 use ovl_names::{Name, Path};
 use std::alloc::{AllocError, Global};
@@ -118,28 +119,16 @@ impl Layer {
 
     /// The place of a path, and `None` where there is no entry.
     pub fn place(&self, path: &Path) -> Option<Cursor<'_>>
-        ensures { MatchOption result
-            (entries_under path.now self.now ≡ [])
-            (λ place. (place ≡ entries_under path.now self.now) × (place ≢ [])) }
+        ensures { IsPlaceAt self.now path.now result }
     {
-        let mut place = self.root();
-        for name in path.names() {
-            let Some(child) = place.child(name) else {
-                return None;
-            };
-            place = child;
-        }
-        Some(place)
+        place_at(self.root(), path)
     }
 
     /// The inode at a path, and `None` where there is no entry.
     pub fn at(&self, path: &Path) -> Option<&Inode>
         ensures { option_map (λ inode. inode.now) result ≡ entry_at self.now path.now }
     {
-        match self.place(path) {
-            Some(place) => Some(place.inode()),
-            None => None,
-        }
+        Some(self.place(path)?.inode())
     }
 
     /// The names directly below a path, in order; none where there is no directory.
@@ -147,10 +136,7 @@ impl Layer {
     pub fn children(&self, alloc: Global, path: &Path) -> Result<Vec<Name>, AllocError>
         ensures { IfOk result (λ names. names.items ≡ names_below self.now path.now) }
     {
-        match self.place(path) {
-            Some(place) => place.names(alloc),
-            None => Ok(Vec::new(alloc)),
-        }
+        names_at(alloc, self.root(), path)
     }
 
     /// All entries in path order, which make this layer; fails only when out of memory.
@@ -206,12 +192,18 @@ impl<'a> Cursor<'a> {
         self.inode
     }
 
-    /// The place of the entry `name`, and `None` where there is none.
-    pub fn child(&self, name: &str) -> Option<Cursor<'a>>
-        ensures { MatchOption result
-            (entries_in name.now self.now ≡ [])
-            (λ child. (child ≡ entries_in name.now self.now) × (child ≢ [])) }
+    /// What lies directly below the place, in order.
+    pub fn children(&self) -> &'a [Node]
+        ensures { HasBelow self.now result.now }
     {
+        self.children
+    }
+}
+
+impl<'a> LayerPlace for Cursor<'a> {
+    ghost entries = { λ place. place };
+
+    fn child(&self, name: &str) -> Option<Cursor<'a>> {
         match self.children.binary_search_by(|child| child
             .name
             .as_str()
@@ -223,17 +215,7 @@ impl<'a> Cursor<'a> {
         }
     }
 
-    /// What lies directly below the place, in order.
-    pub fn children(&self) -> &'a [Node]
-        ensures { HasBelow self.now result.now }
-    {
-        self.children
-    }
-
-    /// The names directly below the place, in order; fails only when out of memory.
-    pub fn names(&self, alloc: Global) -> Result<Vec<Name>, AllocError>
-        ensures { IfOk result (λ names. names.items ≡ names_below self.now []) }
-    {
+    fn names(&self, alloc: Global) -> Result<Vec<Name>, AllocError> {
         let mut names = Vec::with_capacity(alloc, self.children.len())?;
         for child in self.children {
             names.push(child.name.copy(alloc)?)?;

@@ -15,7 +15,8 @@ mod writing;
 mod written_entries;
 
 pub use ovl_layer::{
-    Cursor, ENTRY_LIMIT, Layer, LayerFault, Node, Sheet, SheetPlace, SheetRow, from_entries,
+    Cursor, ENTRY_LIMIT, Layer, LayerFault, LayerPlace, Node, Sheet, SheetPlace, SheetRow,
+    from_entries,
 };
 pub use reading::{read_layer, read_sheet};
 pub use writing::write_layer;

@@ -109,27 +109,12 @@ fn parts_by<R: Threads + Sync>(
             → IsTreeOf stack root.entry.now (parcel_views (λ looks. looks.items) parcels.entry.now)
             → string_bytes lines
             ≡ flat_map show_line (slice_chunk (merged_tree stack) share index)) }
-    { lines_of_share(alloc, root, parcels, index, share) };
+    {
+        let first = index.checked_mul(share).ok_or(AllocError)?;
+        lines_from(alloc, root, parcels, first, share)
+    };
     let parts = map_indices(rt, alloc, shares, &write)?;
     Ok(parts)
-}
-
-// The lines of the share of this number.
-fn lines_of_share(
-    alloc: Global,
-    root: &Look,
-    parcels: &[Parcel<Vec<(Name, Look)>>],
-    index: usize,
-    share: usize,
-) -> Result<String, AllocError>
-    requires { 0 < share }
-    ensures { IfOk result
-        (λ lines. (stack : StackView)
-        → IsTreeOf stack root.now (parcel_views (λ looks. looks.items) parcels.now)
-        → string_bytes lines ≡ flat_map show_line (slice_chunk (merged_tree stack) share index)) }
-{
-    let first = index.checked_mul(share).ok_or(AllocError)?;
-    lines_from(alloc, root, parcels, first, share)
 }
 
 // The lines of the paths of the merged tree from number `first` on, `share` at most; `/` has number

@@ -1,5 +1,5 @@
-use Rattle.ovl_layer.proofs.KidListLemmas.{AreEndsTo}
+use Rattle.ovl_layer.proofs.KidListLemmas.{AreKidEndsTo}
 use Rattle.ovl_layer.proofs.kid_lists.ends_of.Given as goal
 
 abbrev pub invariant-loop-number : goal.invariant-loop-number
-invariant-loop-number l = AreEndsTo l.parents l.number l.ends.items
+invariant-loop-number l = AreKidEndsTo l.parents l.number l.ends.items

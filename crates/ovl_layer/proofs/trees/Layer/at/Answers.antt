@@ -3,11 +3,11 @@ use Rattle.ovl_layer.specs.Layers.{Entries, entry_at}
 use Rattle.ovl_layer.proofs.NodeLemmas.{entry_at-under}
 use Rattle.ovl_layer.proofs.trees.Layer.at.Goals as goal
 
-pub returns-in-Some : goal.returns-in-Some
-returns-in-Some c =
+pub returns : goal.returns
+returns c =
     sym (entry_at-under c.args.path.now c.args.self.now
-    ∙ (ap (λ (entries : Entries). entry_at entries []) (sym c.in-Some.ensures.0) ∙ c.inode.ensures))
+    ∙ (ap (λ (entries : Entries). entry_at entries []) (sym c.in_ok-place.ensures.0) ∙ c.inode.ensures))
 
-pub returns-in-None : goal.returns-in-None
-returns-in-None c =
-    sym (entry_at-under c.args.path.now c.args.self.now ∙ ap (λ (entries : Entries). entry_at entries []) c.in-None.ensures)
+pub returns-in_err-place : goal.returns-in_err-place
+returns-in_err-place c =
+    rw c.from_residual.ensures (sym (entry_at-under c.args.path.now c.args.self.now ∙ ap (λ (entries : Entries). entry_at entries []) c.in_err-place.ensures))

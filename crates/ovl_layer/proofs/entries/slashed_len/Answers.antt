@@ -1,11 +1,10 @@
 use Rattle.std.proofs.Common.{◌≡◌, ◌+◌, ◌∙◌, ◌∷◌, List, ℕ, true, sym, ap, arith, length, length-append}
-use Rattle.std.specs.Prelude.{nat_le}
 use Rattle.ovl_names.specs.Names.{is_name, slash}
-use Rattle.ovl_names.specs.Paths.{PathNames, has_names, text_limit}
+use Rattle.ovl_names.specs.Paths.{PathNames, has_names}
 use Rattle.ovl_names.proofs.Ascending.{both}
 use Rattle.ovl_layer.specs.TextPaths.{slashed}
-use Rattle.ovl_layer.proofs.EntryLemmas.{name_length, limits}
-use Rattle.ovl_layer.proofs.entries.is_within_limits.Goals as goal
+use Rattle.ovl_layer.proofs.EntryLemmas.{name_length}
+use Rattle.ovl_layer.proofs.entries.slashed_len.Goals as goal
 
 pub loop-name-init : goal.loop-name-init
 loop-name-init c =
@@ -22,7 +21,7 @@ named c = both {a = is_name c.in-Some.name.now} {b = has_names c.next.new.self} 
 
 pub overflow_add-bytes-in-loop-name : goal.overflow_add-bytes-in-loop-name
 overflow_add-bytes-in-loop-name c =
-    omega (arith, name_length c.in-Some.name.now (named c).0, ap length c.in-Some.ensures.steps, c.loop-name.invariant.small, c.len.ensures, c.if-len-gt-DEPTH_LIMIT.false)
+    omega (arith, name_length c.in-Some.name.now (named c).0, ap length c.in-Some.ensures.steps, c.loop-name.invariant.small, c.requires)
 
 pub loop-name-preserved : goal.loop-name-preserved
 loop-name-preserved c =
@@ -34,8 +33,10 @@ loop-name-preserved c =
       named = (named c).1;
     }
 
-pub returns : goal.returns
-returns c =
+pub returns-clause-value : goal.returns-clause-value
+returns-clause-value c =
     let none = ap (λ (names : PathNames). length (slashed names)) c.in-None.ensures.steps.0 in
-    let whole : c.loop-name.bytes ≡ length (slashed c.args.path.now) = omega (arith, none, c.loop-name.invariant.counted) in
-    ap (λ (n : ℕ). nat_le n text_limit) whole ∙ limits c.args.path.now (omega (arith, c.len.ensures, c.if-len-gt-DEPTH_LIMIT.false))
+    omega (arith, none, c.loop-name.invariant.counted)
+
+pub returns-clause-limit : goal.returns-clause-limit
+returns-clause-limit c = omega (arith, ap length c.in-None.ensures.steps.0, c.loop-name.invariant.small)

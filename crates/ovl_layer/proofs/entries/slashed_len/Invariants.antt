@@ -1,7 +1,7 @@
 use Rattle.std.proofs.Common.{◌≡◌, ◌+◌, ◌*◌, ◌≤◌, true, length}
 use Rattle.ovl_names.specs.Paths.{has_names}
 use Rattle.ovl_layer.specs.TextPaths.{slashed}
-use Rattle.ovl_layer.proofs.entries.is_within_limits.Given as goal
+use Rattle.ovl_layer.proofs.entries.slashed_len.Given as goal
 
 -- the bytes of the names so far and of those that are left, each with its separator
 abbrev pub invariant-loop-name : goal.invariant-loop-name

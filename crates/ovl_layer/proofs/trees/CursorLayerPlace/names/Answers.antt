@@ -1,7 +1,7 @@
 use Rattle.std.proofs.Common.{◌++◌, ◌∷◌, [], sym, ◌∙◌, ap}
 use Rattle.ovl_layer.specs.LayerTrees.{NodeView}
 use Rattle.ovl_layer.proofs.NodeLemmas.{names_below-more}
-use Rattle.ovl_layer.proofs.trees.Cursor.names.Goals as goal
+use Rattle.ovl_layer.proofs.trees.CursorLayerPlace.names.Goals as goal
 
 pub loop-child-preserved : goal.loop-child-preserved
 loop-child-preserved c =

@@ -4,7 +4,7 @@ use Rattle.ovl_names.specs.Names.{name_cmp}
 use Rattle.ovl_layer.specs.Layers.{Entries}
 use Rattle.ovl_layer.specs.LayerTrees.{NodeView, entries_in, entries_from}
 use Rattle.ovl_layer.proofs.NodeLemmas.{missing, found}
-use Rattle.ovl_layer.proofs.trees.Cursor.child.Goals as goal
+use Rattle.ovl_layer.proofs.trees.CursorLayerPlace.child.Goals as goal
 
 pub returns-in-Ok : goal.returns-in-Ok
 returns-in-Ok c =

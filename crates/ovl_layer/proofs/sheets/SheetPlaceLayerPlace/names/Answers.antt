@@ -8,8 +8,8 @@ use Rattle.ovl_layer.specs.Sheets.{path_at, kid_numbers, parents_of}
 use Rattle.ovl_layer.specs.SheetPasses.{name_of_row}
 use Rattle.ovl_layer.proofs.NodeLemmas.{names_below-under}
 use Rattle.ovl_layer.proofs.SheetLemmas.{has-numbers, own-numbers, own_name, kid-row, names-of, kid-names-more, some-same}
-use Rattle.ovl_layer.proofs.sheets.SheetPlace.names.Goals as goal
-use Rattle.ovl_layer.proofs.sheets.SheetPlace.names.Goals.{in-Some+in_ok-copy+in_ok-push, in_default}
+use Rattle.ovl_layer.proofs.sheets.SheetPlaceLayerPlace.names.Goals as goal
+use Rattle.ovl_layer.proofs.sheets.SheetPlaceLayerPlace.names.Goals.{in-Some+in_ok-copy+in_ok-push, in_default}
 
 pub below-kids-requires : goal.below-kids-requires
 below-kids-requires c = has-numbers _ _ _ c.sheet.invariant c.self.inside.number (omega (arith, c.self.invariant, ap length c.sheet.view_is))

@@ -4,7 +4,7 @@ use Rattle.ovl_layer.specs.Layers.{Entries}
 use Rattle.ovl_layer.specs.LayerTrees.{entries_in, entries_under}
 use Rattle.ovl_layer.specs.Sheets.{path_at}
 use Rattle.ovl_layer.proofs.SheetLemmas.{entries_under-child, under-some}
-use Rattle.ovl_layer.proofs.sheets.SheetPlace.child.Goals as goal
+use Rattle.ovl_layer.proofs.sheets.SheetPlaceLayerPlace.child.Goals as goal
 
 pub returns-in-Some : goal.returns-in-Some
 returns-in-Some c =
