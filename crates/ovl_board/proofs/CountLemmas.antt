@@ -5,12 +5,12 @@ use Rattle.std.proofs.lemmas.List.Sums.{sum_by-append}
 use Rattle.std.proofs.lemmas.List.Sorted.{IsPermutation-refl, IsPermutation-cons, IsPermutation-trans, IsPermutation-sym, IsPermutation-middle}
 use Rattle.ovl_names.specs.Paths.{path_eq}
 use Rattle.ovl_board.specs.declared.pieces.Piece.{Piece}
-use Rattle.ovl_board.specs.Pieces.{IsBefore, IsOneBelow, AreLawfulKids}
+use Rattle.ovl_board.specs.Pieces.{piece_at, IsBefore, IsOneBelow, AreLawfulKids}
 use Rattle.ovl_board.specs.Walks.{Reached, start, next}
 use Rattle.ovl_board.specs.Parcels.{ParcelView, pieces_of}
 use Rattle.ovl_board.specs.Balance.{times, kids_in, IsBalanced, AllLawful, HasKid}
 use Rattle.ovl_board.proofs.LawsOfMembers.{Contains-In, Every, Every-All, In, In-Contains, In-flat_map, In-map, In-split, Rises, Rises-AllPairs}
-use Rattle.ovl_board.proofs.LawsOfPieces.{length_below, less_differs, path_eq_decides, piece_at, piece_eq, snoc_same, snoc_view}
+use Rattle.ovl_board.proofs.LawsOfPieces.{length_below, less_differs, path_eq_decides, piece_eq, snoc_same, snoc_view}
 use Rattle.ovl_board.proofs.LawsOfCounts.{In-times, mark, mark_cases, mark_itself, parcel_of_kid, times-In, times-cons}
 
 pub times-append : (p : Piece) (ps qs : List Piece) → times p (ps ++ qs) ≡ times p ps + times p qs

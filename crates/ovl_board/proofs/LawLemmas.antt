@@ -2,9 +2,9 @@
 use Rattle.std.proofs.Common.{◌≡◌, ℕ, List, [], ◌∷◌, ◌++◌, refl, sym, ap, ◌∙◌, subst, arith, append-nil, append_assoc, IsPermutation}
 use Rattle.std.proofs.lemmas.List.Sorted.{Contains-permutation, IsPermutation-sym, IsPermutation-map, sum_by-IsPermutation}
 use Rattle.ovl_names.specs.Names.{PathName}
-use Rattle.ovl_names.specs.Paths.{PathNames, child_path}
+use Rattle.ovl_names.specs.Paths.{PathNames}
 use Rattle.ovl_board.specs.declared.pieces.Piece.{Piece}
-use Rattle.ovl_board.specs.Pieces.{IsBefore, IsOneBelow, HasLawfulKids}
+use Rattle.ovl_board.specs.Pieces.{piece_at, piece_in, IsBefore, IsOneBelow, HasLawfulKids}
 use Rattle.ovl_board.specs.Walks.{Reached, start, next, ToKid, StepsToKids, IsReachedByNames}
 use Rattle.ovl_board.specs.Parcels.{ParcelView, parcel_view, pieces_of}
 use Rattle.ovl_board.specs.Balance.{HasKid}
@@ -15,20 +15,21 @@ use Rattle.ovl_board.proofs.LawsOfMembers.{Contains-In, Every-All, In-Contains, 
 use Rattle.ovl_board.proofs.LawsOfPieces.{piece_eq}
 use Rattle.ovl_board.proofs.LawsOfCounts.{mark}
 
-abbrev at : ℕ → PathNames → Piece
-at space dir = record { space = space; dir = dir }
+-- the piece to which names lead from another one
+abbrev under : Piece → PathNames → Piece
+under piece names = piece_at piece.space (piece.dir ++ names)
 
 module _ (kids : Piece → List Piece) where
-  steps_more : (space : ℕ) (dir names : PathNames) (name : PathName) → StepsToKids kids space dir names → ToKid kids (at space (dir ++ names)) (at space ((dir ++ names) ++ name ∷ [])) → StepsToKids kids space dir (names ++ name ∷ [])
-  steps_more space dir [] name steps step = (subst (λ d. ToKid kids (at space d) (at space (d ++ name ∷ []))) (append-nil dir) step, tt)
-  steps_more space dir (n ∷ names) name steps step =
-      (steps.0, steps_more space (child_path dir n) names name steps.1 (subst (λ d. ToKid kids (at space d) (at space (d ++ name ∷ []))) (sym (append_assoc dir (n ∷ []) names)) step))
+  steps_more : (piece : Piece) (names : PathNames) (name : PathName) → StepsToKids kids piece names → ToKid kids (under piece names) (piece_in (under piece names) name) → StepsToKids kids piece (names ++ name ∷ [])
+  steps_more piece [] name steps step = (subst (λ d. ToKid kids (piece_at piece.space d) (piece_at piece.space (d ++ name ∷ []))) (append-nil piece.dir) step, tt)
+  steps_more piece (n ∷ names) name steps step =
+      (steps.0, steps_more (piece_in piece n) names name steps.1 (subst (λ d. ToKid kids (piece_at piece.space d) (piece_at piece.space (d ++ name ∷ []))) (sym (append_assoc piece.dir (n ∷ []) names)) step))
 
-  steps_reach : (root : Piece) (space : ℕ) (dir names : PathNames) → Reached (ToKid kids) root (at space dir) → StepsToKids kids space dir names → Reached (ToKid kids) root (at space (dir ++ names))
-  steps_reach root space dir [] r steps = subst (λ d. Reached (ToKid kids) root (at space d)) (sym (append-nil dir)) r
-  steps_reach root space dir (n ∷ names) r steps =
-      subst (λ d. Reached (ToKid kids) root (at space d)) (append_assoc dir (n ∷ []) names)
-      (steps_reach root space (child_path dir n) names (next r steps.0) steps.1)
+  steps_reach : (root piece : Piece) (names : PathNames) → Reached (ToKid kids) root piece → StepsToKids kids piece names → Reached (ToKid kids) root (under piece names)
+  steps_reach root piece [] r steps = subst (λ d. Reached (ToKid kids) root (piece_at piece.space d)) (sym (append-nil piece.dir)) r
+  steps_reach root piece (n ∷ names) r steps =
+      subst (λ d. Reached (ToKid kids) root (piece_at piece.space d)) (append_assoc piece.dir (n ∷ []) names)
+      (steps_reach root (piece_in piece n) names (next r steps.0) steps.1)
 
   module _ (deepest : ℕ) (law : HasLawfulKids kids deepest) where
     by_names : (root p : Piece) → Reached (ToKid kids) root p → IsReachedByNames kids root p
@@ -38,14 +39,14 @@ module _ (kids : Piece → List Piece) where
         let one = Every-All (IsOneBelow p) (kids p) (law.lawful p).below q (In-Contains q (kids p) s) in
         let names = above.1.0 in
         let name = one.1.0 in
-        let parent : p ≡ at root.space (root.dir ++ names) = piece_eq p (at root.space (root.dir ++ names)) above.0 above.1.1.0 in
-        let kid : q ≡ at root.space ((root.dir ++ names) ++ name ∷ []) = piece_eq q (at root.space ((root.dir ++ names) ++ name ∷ [])) (one.0 ∙ above.0) (one.1.1 ∙ ap (λ d. d ++ name ∷ []) above.1.1.0) in
-        let step : ToKid kids (at root.space (root.dir ++ names)) (at root.space ((root.dir ++ names) ++ name ∷ [])) = subst (λ x. ToKid kids x (at root.space ((root.dir ++ names) ++ name ∷ []))) parent (subst (ToKid kids p) kid s) in
-        (one.0 ∙ above.0, (names ++ name ∷ [], (ap (λ (x : Piece). x.dir) kid ∙ append_assoc root.dir names (name ∷ []), steps_more root.space root.dir names name above.1.1.1 step)))
+        let parent : p ≡ under root names = piece_eq p (under root names) above.0 above.1.1.0 in
+        let kid : q ≡ piece_in (under root names) name = piece_eq q (piece_in (under root names) name) (one.0 ∙ above.0) (one.1.1 ∙ ap (λ d. d ++ name ∷ []) above.1.1.0) in
+        let step : ToKid kids (under root names) (piece_in (under root names) name) = subst (λ x. ToKid kids x (piece_in (under root names) name)) parent (subst (ToKid kids p) kid s) in
+        (one.0 ∙ above.0, (names ++ name ∷ [], (ap (λ (x : Piece). x.dir) kid ∙ append_assoc root.dir names (name ∷ []), steps_more root names name above.1.1.1 step)))
 
     from_names : (root p : Piece) → IsReachedByNames kids root p → Reached (ToKid kids) root p
     from_names root p h =
-        subst (Reached (ToKid kids) root) (sym (piece_eq p (at root.space (root.dir ++ h.1.0)) h.0 h.1.1.0)) (steps_reach root root.space root.dir h.1.0 start h.1.1.1)
+        subst (Reached (ToKid kids) root) (sym (piece_eq p (under root h.1.0) h.0 h.1.1.0)) (steps_reach root root h.1.0 start h.1.1.1)
 
 pub ReachedByNames-holds : ReachedByNames
 ReachedByNames-holds kids deepest law root p = (by_names kids deepest law root p, from_names kids deepest law root p)

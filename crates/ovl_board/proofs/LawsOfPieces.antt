@@ -1,5 +1,5 @@
--- Laws of the order of pieces.
-use Rattle.std.proofs.Common.{◌≡◌, ◌⊎◌, inl, inr, ◌+◌, List, [], ◌∷◌, ◌++◌, length, refl, ap, ◌∙◌, arith, true, Some, append_assoc, length-append, ℕ, ◌-◌, ◌<◌, ◌≤◌, false, sym, get_or, IsSorted}
+-- Laws of the order of pieces, and of the entries of a piece's directory.
+use Rattle.std.proofs.Common.{◌≡◌, ◌⊎◌, inl, inr, ◌+◌, List, [], ◌∷◌, ◌++◌, length, refl, ap, subst, ◌∙◌, arith, true, Some, map, append_assoc, length-append, ℕ, ◌<◌, ◌≤◌, false, sym, get_or, IsSorted}
 use Rattle.std.specs.Ordering.{nat_cmp, ordering_then, partial_ordering_then, is_some_and, is_ge, is_lt}
 use Rattle.std.specs.declared.cmp.Ordering.{Ordering}
 use Rattle.std.specs.declared.cmp.Ordering.TheVariants.{Less, Equal, Greater}
@@ -9,10 +9,10 @@ use Rattle.std.proofs.lemmas.Cmp.{tied_itself, nat_cmp_total}
 use Rattle.std.specs.FinMap.{slice_cmp-IsAntisymmetric, nat_cmp-IsAntisymmetric}
 use Rattle.std.proofs.lemmas.List.Sorted.{ranks_by, sorted_far}
 use Rattle.ovl_names.specs.Names.{PathName, name_cmp}
-use Rattle.ovl_names.specs.Paths.{PathNames, path_eq, path_cmp}
+use Rattle.ovl_names.specs.Paths.{PathNames, child_path, path_eq, path_cmp}
 use Rattle.ovl_board.specs.declared.pieces.Piece.{Piece}
-use Rattle.ovl_board.specs.Pieces.{piece_cmp, IsBefore, IsOneBelow}
-use Rattle.ovl_board.proofs.LawsOfMembers.{Rises, Rises-AllPairs}
+use Rattle.ovl_board.specs.Pieces.{piece_at, piece_in, piece_cmp, IsBefore, IsOneBelow, AreLawfulKids}
+use Rattle.ovl_board.proofs.LawsOfMembers.{Rises, All-Every, AllPairs-Rises, Rises-AllPairs, In-map-cases}
 
 module _ {K : Type 0} (R : K → K → Ordering) (o : IsTotalOrder R) where
   pub prefix_before : (d : List K) (n : K) (rest : List K) → slice_cmp R d (d ++ n ∷ rest) ≡ Less
@@ -98,9 +98,6 @@ then_equal Less s e = absurd (cc)
 then_equal Equal s e = (refl, e)
 then_equal Greater s e = absurd (cc)
 
-abbrev pub piece_at : ℕ → PathNames → Piece
-piece_at s d = record { space = s; dir = d }
-
 pub piece_eq : (p q : Piece) → p.space ≡ q.space → p.dir ≡ q.dir → p ≡ q
 piece_eq p q a b = ap (λ x. piece_at x p.dir) a ∙ ap (piece_at q.space) b
 
@@ -135,3 +132,35 @@ before_unless_same p q le ne = by (piece_cmp p q) refl
     by Less e = e
     by Equal e = absurd (ne (same_piece p q e))
     by Greater e = absurd (le (rw e at (piece_cmp_total.antisymm q p)))
+
+-- ---- entries of a piece's directory
+
+pub entry-before : (piece : Piece) (one other : PathName) → name_cmp one other ≡ Less → IsBefore (piece_in piece one) (piece_in piece other)
+entry-before piece one other before =
+    ap (λ o. ordering_then o (path_cmp (child_path piece.dir one) (child_path piece.dir other))) (tied_itself nat_cmp_total piece.space)
+    ∙ fork_before name_cmp nat_list_cmp_total piece.dir one other [] [] before
+
+-- those whose names rise are lawful kids
+module _ {X : Type 0} (name : X → PathName) (piece : Piece) where
+  abbrev NameBefore : X → X → Type 0
+  NameBefore one other = name_cmp (name one) (name other) ≡ Less
+
+  abbrev piece_of : X → Piece
+  piece_of entry = piece_in piece (name entry)
+
+  entries-rise : (entries : List X) → Rises NameBefore entries → Rises IsBefore (map piece_of entries)
+  entries-rise [] up = tt
+  entries-rise (entry ∷ entries) up = (
+    (λ kid h.
+        let other = In-map-cases piece_of kid entries h in
+        subst (IsBefore (piece_of entry)) (sym other.1.1) (entry-before piece (name entry) (name other.0) (up.0 other.0 other.1.0))),
+    entries-rise entries up.1,
+  )
+
+  pub entries-lawful : (entries : List X) → Rises (λ one other. name_cmp (name one) (name other) ≡ Less) entries → AreLawfulKids piece (map (λ entry. piece_in piece (name entry)) entries)
+  entries-lawful entries up = record {
+    below = All-Every (IsOneBelow piece) (map piece_of entries) (λ kid h.
+        let one = In-map-cases piece_of kid entries h in
+        subst (IsOneBelow piece) (sym one.1.1) (refl, (name one.0, refl)));
+    ascend = AllPairs-Rises IsBefore (map piece_of entries) (entries-rise entries up);
+  }

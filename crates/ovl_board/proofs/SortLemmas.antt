@@ -82,10 +82,10 @@ before_absent ps among i p up passed here q absent before =
 
 -- parcels that are sorted by their pieces have sorted pieces
 module _ {O : Type 0} where
-  piece_at : (parcels : List (Parcel O)) (k : ℕ) (p : Piece) (e : Parcel O) → k < length parcels → get_or (pieces_of (bare parcels)) k p ≡ (get_or parcels k e).piece
-  piece_at [] k p e h = absurd (omega arith)
-  piece_at (x ∷ xs) zero p e h = refl
-  piece_at (x ∷ xs) (suc k) p e h = piece_at xs k p e (omega arith)
+  get_or-piece : (parcels : List (Parcel O)) (k : ℕ) (p : Piece) (e : Parcel O) → k < length parcels → get_or (pieces_of (bare parcels)) k p ≡ (get_or parcels k e).piece
+  get_or-piece [] k p e h = absurd (omega arith)
+  get_or-piece (x ∷ xs) zero p e h = refl
+  get_or-piece (x ∷ xs) (suc k) p e h = get_or-piece xs k p e (omega arith)
 
   pieces_length : (parcels : List (Parcel O)) → length (pieces_of (bare parcels)) ≡ length parcels
   pieces_length [] = refl
@@ -95,7 +95,7 @@ module _ {O : Type 0} where
   sorted_pieces [] up k p z h = absurd (omega arith)
   sorted_pieces (x ∷ xs) up k p z h =
       let within : k + 1 < length (x ∷ xs) = omega (arith, pieces_length (x ∷ xs)) in
-      rw (piece_at (x ∷ xs) k p x (omega arith), piece_at (x ∷ xs) (k + 1) p x within) (up k x z within)
+      rw (get_or-piece (x ∷ xs) k p x (omega arith), get_or-piece (x ∷ xs) (k + 1) p x within) (up k x z within)
 
   -- what a sort by a closure that compares pieces gives
   pub ranks_parcels : IsStrictWeakOrder (λ (x : Parcel O) (y : Parcel O). is_lt (piece_cmp x.piece y.piece))

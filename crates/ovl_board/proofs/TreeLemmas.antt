@@ -14,8 +14,8 @@ use Rattle.ovl_names.specs.Names.{PathName, name_cmp, name_eq}
 use Rattle.ovl_names.specs.Paths.{PathNames, path_cmp, path_eq, is_root, parent_path, parent_of, child_path}
 use Rattle.ovl_names.proofs.Ascending.{both}
 use Rattle.ovl_board.specs.declared.pieces.Piece.{Piece}
-use Rattle.ovl_board.specs.Pieces.{IsBefore, IsOneBelow, AreLawfulKids, HasLawfulKids}
-use Rattle.ovl_board.specs.Trees.{HasTreeShape, EachFollows, is_child, is_next, children, tree_piece, tree_kids, deepest_path}
+use Rattle.ovl_board.specs.Pieces.{piece_at, IsBefore, IsOneBelow, AreLawfulKids, HasLawfulKids}
+use Rattle.ovl_board.specs.Trees.{HasTreeShape, EachFollows, is_child, is_next, children, tree_kids, deepest_path}
 use Rattle.ovl_board.proofs.LawsOfMembers.{In, Rises, In-map-cases, In-filter-cases, Rises-filter, All-Every, AllPairs-Rises, Rises-AllPairs, Rises-from_adjacent}
 use Rattle.ovl_board.proofs.LawsOfPieces.{snoc_view, path_eq_decides, prefix_before}
 
@@ -54,10 +54,10 @@ one_below-decides p q same = (
 abbrev pub IsLess : PathNames → PathNames → Type 0
 IsLess d e = path_cmp d e ≡ Less
 
-map_rises : (ds : List PathNames) → Rises IsLess ds → Rises IsBefore (map tree_piece ds)
+map_rises : (ds : List PathNames) → Rises IsLess ds → Rises IsBefore (map (piece_at 0) ds)
 map_rises [] r = tt
 map_rises (d ∷ ds) r = (
-  (λ q i. let c = In-map-cases tree_piece q ds i in subst (IsBefore (tree_piece d)) (sym c.1.1) (r.0 c.0 c.1.0)),
+  (λ q i. let c = In-map-cases (piece_at 0) q ds i in subst (IsBefore (piece_at 0 d)) (sym c.1.1) (r.0 c.0 c.1.0)),
   map_rises ds r.1,
 )
 
@@ -71,9 +71,9 @@ deep d (e ∷ ds) most (inl i) = omega (arith, ap length i, most_from ds (max mo
 deep d (e ∷ ds) most (inr i) = deep d ds (max most (length e)) i
 
 module _ (paths : List PathNames) (up : AllPairs IsLess paths) where
-  kid_is : (p q : Piece) → In q (map tree_piece (children paths p.dir)) → (q.space ≡ 0) × ((n : PathName) × (q.dir ≡ child_path p.dir n)) × (length q.dir ≤ deepest_path paths)
+  kid_is : (p q : Piece) → In q (map (piece_at 0) (children paths p.dir)) → (q.space ≡ 0) × ((n : PathName) × (q.dir ≡ child_path p.dir n)) × (length q.dir ≤ deepest_path paths)
   kid_is p q i =
-      let c = In-map-cases tree_piece q (children paths p.dir) i in
+      let c = In-map-cases (piece_at 0) q (children paths p.dir) i in
       let f = In-filter-cases (λ e. is_child p.dir e) c.0 paths c.1.0 in
       let n = child_is p.dir c.0 f.1 in
       let dir = ap (λ (r : Piece). r.dir) c.1.1 in (
@@ -82,9 +82,9 @@ module _ (paths : List PathNames) (up : AllPairs IsLess paths) where
         omega (arith, deep c.0 paths 0 f.0, ap length dir),
       )
 
-  kids_of_space : (p : Piece) (b : Bool) → eqb p.space 0 ≡ b → AreLawfulKids p (cond b (map tree_piece (children paths p.dir)) []) × All (λ (q : Piece). length q.dir ≤ deepest_path paths) (cond b (map tree_piece (children paths p.dir)) [])
+  kids_of_space : (p : Piece) (b : Bool) → eqb p.space 0 ≡ b → AreLawfulKids p (cond b (map (piece_at 0) (children paths p.dir)) []) × All (λ (q : Piece). length q.dir ≤ deepest_path paths) (cond b (map (piece_at 0) (children paths p.dir)) [])
   kids_of_space p true e =
-      let kids = map tree_piece (children paths p.dir) in (
+      let kids = map (piece_at 0) (children paths p.dir) in (
         record {
           below = All-Every (IsOneBelow p) kids (λ q i. let k = kid_is p q i in (k.0 ∙ sym (eqb-true p.space 0 e), k.1));
           ascend = AllPairs-Rises IsBefore kids (map_rises (children paths p.dir) (Rises-filter IsLess (λ d. is_child p.dir d) paths (Rises-AllPairs IsLess paths up)));

@@ -6,6 +6,7 @@ use Rattle.std.specs.declared.cmp.Ordering.TheVariants.{Less}
 use Rattle.ovl_names.specs.Names.{name_eq}
 use Rattle.ovl_names.specs.Paths.{PathNames, path_cmp, path_eq, is_root, parent_path, parent_of}
 use Rattle.ovl_board.specs.declared.pieces.Piece.{Piece}
+use Rattle.ovl_board.specs.Pieces.{piece_at}
 
 -- the first path is the root, the paths ascend strictly, and the parent of each is listed
 pub record HasTreeShape (paths : List PathNames) : Type 0 where
@@ -20,13 +21,9 @@ is_child dir path = not (is_root path) && path_eq (parent_path path) dir
 abbrev pub children : List PathNames → PathNames → List PathNames
 children paths dir = filter (λ path. is_child dir path) paths
 
--- a listed path as a piece of the tree, whose space is 0
-abbrev pub tree_piece : PathNames → Piece
-tree_piece dir = record { space = 0; dir = dir }
-
--- the kids of a piece: the listed paths one name below it
+-- the kids of a piece of space 0: the listed paths one name below it
 abbrev pub tree_kids : List PathNames → Piece → List Piece
-tree_kids paths p = if p.space == 0 then map tree_piece (children paths p.dir) else []
+tree_kids paths p = if p.space == 0 then map (piece_at 0) (children paths p.dir) else []
 
 -- the most names of a listed path
 abbrev pub deepest_path : List PathNames → ℕ

@@ -1,9 +1,9 @@
 -- What is reached from a root by steps, and the walk over it.
 use Rattle.std.specs.Prelude.{◌≡◌, ℕ, zero, suc, ◌++◌, List, [], ◌∷◌, All, AllPairs, Contains}
 use Rattle.std.specs.List.{flat_map}
-use Rattle.ovl_names.specs.Paths.{PathNames, child_path}
+use Rattle.ovl_names.specs.Paths.{PathNames}
 use Rattle.ovl_board.specs.declared.pieces.Piece.{Piece}
-use Rattle.ovl_board.specs.Pieces.{IsBefore}
+use Rattle.ovl_board.specs.Pieces.{piece_in, IsBefore}
 
 -- what is reached from the root: the root, and what a step leads to from what is reached
 pub data Reached (Step : Piece → Piece → Type 0) (root : Piece) : Piece → Type 0 where
@@ -22,19 +22,17 @@ abbrev pub ToKid : (Piece → List Piece) → Piece → Piece → Type 0
 ToKid kids p q = Contains (kids p) q
 
 -- each step of a path down from a piece goes to a kid
-abbrev pub StepsToKids : (Piece → List Piece) → ℕ → PathNames → PathNames → Type 0
-StepsToKids kids space dir [] = Unit {0}
-StepsToKids kids space dir (name ∷ names) =
-    let kid : Piece = record { space = space; dir = child_path dir name } in
-    ToKid kids (record { space = space; dir = dir }) kid
-    × StepsToKids kids space (child_path dir name) names
+abbrev pub StepsToKids : (Piece → List Piece) → Piece → PathNames → Type 0
+StepsToKids kids piece [] = Unit {0}
+StepsToKids kids piece (name ∷ names) =
+    ToKid kids piece (piece_in piece name) × StepsToKids kids (piece_in piece name) names
 
 -- a piece under the root, in its space, to which kids lead name by name
 abbrev pub IsReachedByNames : (Piece → List Piece) → Piece → Piece → Type 0
 IsReachedByNames kids root p =
     (p.space ≡ root.space)
     × ((names : PathNames)
-    × ((p.dir ≡ root.dir ++ names) × StepsToKids kids root.space root.dir names))
+    × ((p.dir ≡ root.dir ++ names) × StepsToKids kids root names))
 
 -- a piece and, `depth` times at most, the kids of what stands before: what one call of the walk
 -- appends

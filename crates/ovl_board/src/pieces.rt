@@ -1,7 +1,7 @@
 ghost use Rattle.std.specs.Prelude.{◌≡◌, IfOk, IsTrue, ◌↔◌};
 ghost use Rattle.ovl_board.specs.Trees.{is_child};
 
-use ovl_names::Path;
+use ovl_names::{Name, Path};
 use std::alloc::{AllocError, Global};
 
 /// A piece of work: the directory `dir` in one of several spaces, each with paths of its own.
@@ -15,7 +15,17 @@ pub struct Piece {
 }
 
 impl Piece {
-    ghost use Rattle.ovl_board.specs.Pieces.{IsOneBelow};
+    ghost use Rattle.ovl_board.specs.Pieces.{IsOneBelow, piece_in, space_root};
+
+    /// The root of a space.
+    pub fn root(alloc: Global, space: u16) -> Piece
+        ensures { result ≡ space_root space }
+    {
+        Piece {
+            space,
+            dir: Path::root(alloc),
+        }
+    }
 
     /// A piece equal to this one; fails only when out of memory.
     pub fn copy(&self, alloc: Global) -> Result<Piece, AllocError>
@@ -24,6 +34,16 @@ impl Piece {
         Ok(Piece {
             space: self.space,
             dir: self.dir.copy(alloc)?,
+        })
+    }
+
+    /// The piece of the entry of this name in its directory; fails only when out of memory.
+    pub fn child(&self, alloc: Global, name: &Name) -> Result<Piece, AllocError>
+        ensures { IfOk result (λ child. child ≡ piece_in self.now name.now) }
+    {
+        Ok(Piece {
+            space: self.space,
+            dir: self.dir.child(alloc, name)?,
         })
     }
 

@@ -2,9 +2,8 @@
 use Rattle.std.proofs.Common.{◌≡◌, ℕ, ◌≤◌, ◌+◌, ◌<◌, inl, inr, Bool, true, false, cond, List, [], ◌∷◌, ◌++◌, map, length, get_or, take, refl, sym, ap, ◌∙◌, subst, arith}
 use Rattle.std.specs.Prelude.{◌==◌, ◌&&◌, ◌||◌, filter, All}
 use Rattle.std.specs.List.{flat_map}
-use Rattle.std.specs.declared.cmp.Ordering.TheVariants.{Less, Equal}
+use Rattle.std.specs.declared.cmp.Ordering.TheVariants.{Less}
 use Rattle.std.specs.Cmp.Lexicographic.{nat_list_cmp_total, bytes_decides}
-use Rattle.std.specs.Ordering.{ordering_then}
 use Rattle.std.specs.List.{list_any}
 use Rattle.std.specs.BTreeSet.{insert_key}
 use Rattle.std.proofs.lemmas.List.{take_more, map-append}
@@ -18,7 +17,7 @@ use Rattle.ovl_lookup.proofs.LawsOfKids.{ascends-put, put_names-append, any-put}
 use Rattle.ovl_board.specs.declared.pieces.Piece.{Piece}
 use Rattle.ovl_board.specs.Pieces.{IsBefore, IsOneBelow, AreLawfulKids, HasLawfulKids}
 use Rattle.ovl_names.proofs.Ascending.{both, ascends-filter}
-use Rattle.ovl_board.proofs.LawsOfPieces.{piece_eq}
+use Rattle.ovl_board.proofs.LawsOfPieces.{piece_eq, entries-lawful}
 use Rattle.ovl_board.proofs.LawsOfMembers.{In, Rises, All-Every, AllPairs-Rises, In-map, In-map-cases, In-flat_map, In-flat_map-cases, Contains-In, In-filter-cases}
 use Rattle.ovl_board.specs.Walks.{Reached, start, next, ToKid}
 use Rattle.ovl_board.specs.Parcels.{ParcelView, IsPlain, own_view}
@@ -31,20 +30,10 @@ use Rattle.ovl_check.proofs.Ascent.{Rises-ascends, ascends-map, In-filter, order
 digits-ascend : (blobs : List BlobView) → ascends name_cmp (digits_of_names blobs) ≡ true
 digits-ascend blobs = ascends-put [] (map (λ blob. first_digits blob.name) blobs) refl
 
-pieces-rise : (digits : List PathName) → Rises (λ a b. name_cmp a b ≡ Less) digits → Rises IsBefore (map digits_piece digits)
-pieces-rise [] up = tt
-pieces-rise (first ∷ digits) up = (
-  (λ p h. let kid = In-map-cases digits_piece p digits h in subst (IsBefore (digits_piece first)) (sym kid.1.1) (ap (λ o. ordering_then o Equal) (up.0 kid.0 kid.1.0))),
-  pieces-rise digits up.1,
-)
-
 root-lawful : (blobs : List BlobView) (p : Piece) → p ≡ blob_root → AreLawfulKids p (map digits_piece (digits_of_names blobs))
-root-lawful blobs p is = record {
-  below = All-Every (IsOneBelow p) (map digits_piece (digits_of_names blobs)) (λ q h.
-      let kid = In-map-cases digits_piece q (digits_of_names blobs) h in
-      subst (λ x. IsOneBelow x q) (sym is) (subst (IsOneBelow blob_root) (sym kid.1.1) (refl, (kid.0, refl))));
-  ascend = AllPairs-Rises IsBefore (map digits_piece (digits_of_names blobs)) (pieces-rise (digits_of_names blobs) (Rises-ascends name_cmp (digits_of_names blobs) (digits-ascend blobs)));
-}
+root-lawful blobs p is =
+    subst (λ (root : Piece). AreLawfulKids root (map digits_piece (digits_of_names blobs))) (sym is)
+    (entries-lawful (λ digits. digits) blob_root (digits_of_names blobs) (Rises-ascends name_cmp (digits_of_names blobs) (digits-ascend blobs)))
 
 is_root-nil : (dir : PathNames) → is_root dir ≡ true → dir ≡ []
 is_root-nil [] is = refl

@@ -1,10 +1,8 @@
 -- A layer of a stack: its entries one by one, and the directories in a directory.
-use Rattle.std.proofs.Common.{◌≡◌, ℕ, zero, suc, ◌≤◌, ◌<◌, arith, ◌⊎◌, inl, inr, Bool, true, false, Option, Some, None, List, [], ◌∷◌, map, length, refl, sym, ap, ◌∙◌, subst}
+use Rattle.std.proofs.Common.{◌≡◌, ℕ, zero, suc, ◌≤◌, ◌<◌, arith, ◌⊎◌, inl, inr, Bool, true, false, Option, Some, None, List, [], ◌∷◌, length, refl, sym, ap, ◌∙◌, subst}
 use Rattle.std.specs.Prelude.{filter, slice_get, unwrap_or, All}
 use Rattle.std.specs.List.{cons_option}
-use Rattle.std.specs.Ordering.{ordering_then}
 use Rattle.std.specs.Cmp.Lexicographic.{nat_list_cmp_total}
-use Rattle.std.proofs.lemmas.Cmp.{tied_itself, nat_cmp_total}
 use Rattle.std.specs.declared.cmp.Ordering.TheVariants.{Less}
 use Rattle.ovl_names.specs.Names.{PathName, name_cmp}
 use Rattle.ovl_names.specs.Paths.{PathNames, child_path, path_cmp, depth_limit}
@@ -14,10 +12,10 @@ use Rattle.ovl_lookup.proofs.LawsOfWalks.{directory-limited}
 use Rattle.ovl_lookup.proofs.LawsOfPaths.{all-first, all-rest}
 use Rattle.ovl_lookup.proofs.LawsOfKids.{below-path}
 use Rattle.ovl_board.specs.declared.pieces.Piece.{Piece}
-use Rattle.ovl_board.specs.Pieces.{IsBefore, IsOneBelow, HasLawfulKids}
-use Rattle.ovl_board.proofs.LawsOfPieces.{siblings, fork_before}
-use Rattle.ovl_board.proofs.LawsOfMembers.{In, Rises, All-Every, AllPairs-Rises, In-map-cases, In-filter-cases, Rises-filter}
-use Rattle.ovl_check.specs.Checks.{CheckView, layer_at, directory_piece, check_kids}
+use Rattle.ovl_board.specs.Pieces.{piece_in, HasLawfulKids}
+use Rattle.ovl_board.proofs.LawsOfPieces.{siblings, entries-lawful}
+use Rattle.ovl_board.proofs.LawsOfMembers.{In, Rises, All-Every, In-map-cases, In-filter-cases, Rises-filter}
+use Rattle.ovl_check.specs.Checks.{CheckView, layer_at, check_kids}
 use Rattle.ovl_check.proofs.Ascent.{Rises-ascends}
 
 -- a layer of a stack is one, and past the last there is nothing
@@ -64,26 +62,12 @@ names-rise (entry ∷ layer) directory up = by (names-rise layer directory up.1)
 
 -- ---- kids are lawful, and no deeper than a layer
 
-abbrev pub kid_at : Piece → PathName → Piece
-kid_at p name = directory_piece p.space (child_path p.dir name)
-
-kids-rise : (p : Piece) (names : List PathName) → Rises NameBefore names → Rises IsBefore (map (kid_at p) names)
-kids-rise p [] up = tt
-kids-rise p (name ∷ names) up = (
-  (λ q h.
-      let other = In-map-cases (kid_at p) q names h in
-      subst (IsBefore (kid_at p name)) (sym other.1.1)
-      (ap (λ o. ordering_then o (path_cmp (child_path p.dir name) (child_path p.dir other.0))) (tied_itself nat_cmp_total p.space)
-      ∙ fork_before name_cmp nat_list_cmp_total p.dir name other.0 [] [] (up.0 other.0 other.1.0))),
-  kids-rise p names up.1,
-)
-
 module _ (work : CheckView) (each : All IsLayer (all_layers work.stack)) where
-  pub kid-directory : (p q : Piece) → In q (check_kids work p) → (name : PathName) × (In name (names_below (layer_at work.stack p.space) p.dir) × ((is_directory_at (layer_at work.stack p.space) (child_path p.dir name) ≡ true) × (q ≡ kid_at p name)))
+  pub kid-directory : (p q : Piece) → In q (check_kids work p) → (name : PathName) × (In name (names_below (layer_at work.stack p.space) p.dir) × ((is_directory_at (layer_at work.stack p.space) (child_path p.dir name) ≡ true) × (q ≡ piece_in p name)))
   kid-directory p q h =
       let layer = layer_at work.stack p.space in
       let test : PathName → Bool = λ name. is_directory_at layer (child_path p.dir name) in
-      let one = In-map-cases (kid_at p) q (filter test (names_below layer p.dir)) h in
+      let one = In-map-cases (piece_in p) q (filter test (names_below layer p.dir)) h in
       let there = In-filter-cases test one.0 (names_below layer p.dir) one.1.0 in
       (one.0, (there.0, (there.1, one.1.1)))
 
@@ -101,15 +85,9 @@ module _ (work : CheckView) (each : All IsLayer (all_layers work.stack)) where
 
   pub check_kids-lawful : HasLawfulKids (check_kids work) depth_limit
   check_kids-lawful = record {
-    lawful = λ p. record {
-      below = All-Every (IsOneBelow p) (check_kids work p) (λ q h.
-          let kid = kid-directory p q h in
-          subst (IsOneBelow p) (sym kid.1.1.1) (refl, (kid.0, refl)));
-      ascend = AllPairs-Rises IsBefore (check_kids work p)
-          (kids-rise p (filter (λ name. is_directory_at (layer_at work.stack p.space) (child_path p.dir name)) (names_below (layer_at work.stack p.space) p.dir))
-          (Rises-filter NameBefore (λ name. is_directory_at (layer_at work.stack p.space) (child_path p.dir name)) (names_below (layer_at work.stack p.space) p.dir)
-          (names-rise (layer_at work.stack p.space) p.dir (layer-ascends p.space))));
-    };
+    lawful = λ p. entries-lawful (λ name. name) p (filter (λ name. is_directory_at (layer_at work.stack p.space) (child_path p.dir name)) (names_below (layer_at work.stack p.space) p.dir))
+        (Rises-filter NameBefore (λ name. is_directory_at (layer_at work.stack p.space) (child_path p.dir name)) (names_below (layer_at work.stack p.space) p.dir)
+        (names-rise (layer_at work.stack p.space) p.dir (layer-ascends p.space)));
     shallow = λ p. All-Every (λ kid. length kid.dir ≤ depth_limit) (check_kids work p) (λ q h.
         let kid = kid-directory p q h in
         subst (λ (x : Piece). length x.dir ≤ depth_limit) (sym kid.1.1.1) (within p.space (child_path p.dir kid.0) kid.1.1.0));

@@ -23,7 +23,7 @@ use Rattle.ovl_lookup.specs.Walk.{walk, mark_at}
 use Rattle.ovl_lookup.specs.Sound.{is_moved, goes_on_there, redirect_is_double}
 use Rattle.ovl_lookup.proofs.LawsOfWalks.{directory-above, names_below-has, parent-directory}
 use Rattle.ovl_board.specs.declared.pieces.Piece.{Piece}
-use Rattle.ovl_board.specs.Pieces.{IsBefore}
+use Rattle.ovl_board.specs.Pieces.{piece_at, space_root, piece_in, IsBefore}
 use Rattle.ovl_board.specs.Walks.{Reached, start, next, ToKid}
 use Rattle.ovl_board.specs.Parcels.{IsPlain, pieces_of, own_view}
 use Rattle.ovl_board.proofs.LawsOfPieces.{path_eq_decides, snoc_view, piece_eq}
@@ -34,12 +34,12 @@ use Rattle.ovl_check.specs.declared.findings.Code.TheVariants.{RedirectDouble}
 use Rattle.ovl_check.specs.Codes.{all_codes, is_double, is_blob_fault}
 use Rattle.ovl_check.specs.Findings.{finding, any_code}
 use Rattle.ovl_check.specs.Contents.{holds_of_contents as holds, findings_of_contents_at as findings_at, findings_of_contents_in as findings_in}
-use Rattle.ovl_check.specs.Checks.{CheckView, CheckSeen, is_ordinary, sought_in, layer_at, layers_below, directory_piece, check_kids, check_out, holds_alone, findings_alone, findings_at_path, directory_findings, no_seen}
+use Rattle.ovl_check.specs.Checks.{CheckView, CheckSeen, is_ordinary, sought_in, layer_at, layers_below, check_kids, check_out, holds_alone, findings_alone, findings_at_path, directory_findings, no_seen}
 use Rattle.ovl_check.specs.Walks.{View, doubles_after, found_along}
 use Rattle.ovl_check.proofs.Ascent.{In-filter, less_never, list_all-Every}
 use Rattle.ovl_check.proofs.Plain.{own-view, has-view}
 use Rattle.ovl_check.proofs.BlobLemmas.{any-In}
-use Rattle.ovl_check.proofs.LayerFacts.{kid-directory, kid_at, layer-ascends}
+use Rattle.ovl_check.proofs.LayerFacts.{kid-directory, layer-ascends}
 use Rattle.ovl_check.proofs.DoubleLemmas.{ViewBefore, doubles-cases, doubles-In}
 
 -- ---- entries and what stands at their paths
@@ -137,24 +137,24 @@ module _ (work : CheckView) (each : All IsLayer (all_layers work.stack)) (i : �
       by false is = let bad : false ≡ true = is in cc
 
   -- each directory is reached, and what is reached is of this layer
-  kid-step : (d : PathNames) (name : PathName) → is_directory_at layer (child_path d name) ≡ true → ToKid (check_kids work) (directory_piece i d) (directory_piece i (child_path d name))
+  kid-step : (d : PathNames) (name : PathName) → is_directory_at layer (child_path d name) ≡ true → ToKid (check_kids work) (piece_at i d) (piece_at i (child_path d name))
   kid-step d name is = by (entry_at layer (child_path d name)) refl is
     where
-      by : (o : Option Inode) → entry_at layer (child_path d name) ≡ o → elim o as (λ _. Bool) [ Some inode ↦ is_directory inode | None ↦ false ] ≡ true → ToKid (check_kids work) (directory_piece i d) (directory_piece i (child_path d name))
+      by : (o : Option Inode) → entry_at layer (child_path d name) ≡ o → elim o as (λ _. Bool) [ Some inode ↦ is_directory inode | None ↦ false ] ≡ true → ToKid (check_kids work) (piece_at i d) (piece_at i (child_path d name))
       by None e h = let bad : false ≡ true = h in cc
       by (Some inode) e h =
-          Contains-In (directory_piece i (child_path d name)) (check_kids work (directory_piece i d))
-          (In-map (kid_at (directory_piece i d)) name (filter (λ n. is_directory_at layer (child_path d n)) (names_below layer d))
+          Contains-In (piece_at i (child_path d name)) (check_kids work (piece_at i d))
+          (In-map (piece_in (piece_at i d)) name (filter (λ n. is_directory_at layer (child_path d n)) (names_below layer d))
           (In-filter (λ n. is_directory_at layer (child_path d n)) name (names_below layer d) (any-In name (names_below layer d) (names_below-has layer d name inode e)) is))
 
-  reach-under : (d rest : PathNames) → Reached (ToKid (check_kids work)) (directory_piece i []) (directory_piece i d) → is_directory_at layer (d ++ rest) ≡ true → Reached (ToKid (check_kids work)) (directory_piece i []) (directory_piece i (d ++ rest))
-  reach-under d [] r is = subst (λ (p : PathNames). Reached (ToKid (check_kids work)) (directory_piece i []) (directory_piece i p)) (sym (append-nil d)) r
+  reach-under : (d rest : PathNames) → Reached (ToKid (check_kids work)) (space_root i) (piece_at i d) → is_directory_at layer (d ++ rest) ≡ true → Reached (ToKid (check_kids work)) (space_root i) (piece_at i (d ++ rest))
+  reach-under d [] r is = subst (λ (p : PathNames). Reached (ToKid (check_kids work)) (space_root i) (piece_at i p)) (sym (append-nil d)) r
   reach-under d (n ∷ rest) r is =
       let under : is_directory_at layer (child_path d n ++ rest) ≡ true = ap (is_directory_at layer) (append_assoc d (n ∷ []) rest) ∙ is in
-      subst (λ (p : PathNames). Reached (ToKid (check_kids work)) (directory_piece i []) (directory_piece i p)) (append_assoc d (n ∷ []) rest)
+      subst (λ (p : PathNames). Reached (ToKid (check_kids work)) (space_root i) (piece_at i p)) (append_assoc d (n ∷ []) rest)
       (reach-under (child_path d n) rest (next r (kid-step d n (directory-above layer (child_path d n) rest is_layer under))) under)
 
-  reached-space : (p : Piece) → Reached (ToKid (check_kids work)) (directory_piece i []) p → p.space ≡ i
+  reached-space : (p : Piece) → Reached (ToKid (check_kids work)) (space_root i) p → p.space ≡ i
   reached-space _ start = refl
   reached-space _ (next {p = p} {q = q} r s) =
       let kid = kid-directory work each p q (In-Contains q (check_kids work p) s) in
@@ -182,15 +182,15 @@ module _ (work : CheckView) (each : All IsLayer (all_layers work.stack)) (i : �
       (In-map (finding i path) code (filter (holds_alone work i (path, inode)) all_codes)
       (In-filter (holds_alone work i (path, inode)) code all_codes listed (λ j. not (single j) && is j)))
 
-  module _ (views : List View) (plain : IsPlain (check_kids work) (check_out work) (directory_piece i []) views) where
+  module _ (views : List View) (plain : IsPlain (check_kids work) (check_out work) (space_root i) views) where
     view-own : (v : View) → In v views → v ≡ own_view (check_kids work) (check_out work) v.piece
     view-own v h = own-view (check_kids work) (check_out work) views plain.own v h
 
     view-space : (v : View) → In v views → v.piece.space ≡ i
-    view-space v h = reached-space v.piece (Every-All (Reached (ToKid (check_kids work)) (directory_piece i [])) (pieces_of views) plain.walk.reached v.piece (In-map (λ (w : View). w.piece) v views h))
+    view-space v h = reached-space v.piece (Every-All (Reached (ToKid (check_kids work)) (space_root i)) (pieces_of views) plain.walk.reached v.piece (In-map (λ (w : View). w.piece) v views h))
 
-    directory-view : (d : PathNames) → is_directory_at layer d ≡ true → In (own_view (check_kids work) (check_out work) (directory_piece i d)) views
-    directory-view d is = has-view (check_kids work) (check_out work) (directory_piece i []) views plain (directory_piece i d) (reach-under [] d start is)
+    directory-view : (d : PathNames) → is_directory_at layer d ≡ true → In (own_view (check_kids work) (check_out work) (piece_at i d)) views
+    directory-view d is = has-view (check_kids work) (check_out work) (space_root i) views plain (piece_at i d) (reach-under [] d start is)
 
     views-rise : Rises ViewBefore views
     views-rise = unmap views (Rises-AllPairs IsBefore (pieces_of views) plain.walk.ascend)
@@ -200,14 +200,14 @@ module _ (work : CheckView) (each : All IsLayer (all_layers work.stack)) (i : �
         unmap (v ∷ vs) up = ((λ w h. up.0 w.piece (In-map (λ (x : View). x.piece) w vs h)), unmap vs up.1)
 
     -- what is seen of a view, at its path in this layer
-    seen-at : (v : View) → In v views → v.seen ≡ check_out work (directory_piece i v.piece.dir)
+    seen-at : (v : View) → In v views → v.seen ≡ check_out work (piece_at i v.piece.dir)
     seen-at v h =
         ap (λ (w : View). w.seen) (view-own v h)
-        ∙ ap (check_out work) (piece_eq v.piece (directory_piece i v.piece.dir) (view-space v h) refl)
+        ∙ ap (check_out work) (piece_eq v.piece (piece_at i v.piece.dir) (view-space v h) refl)
 
     -- ---- the outputs
 
-    out-sound : (d : PathNames) (f : Finding) → In f (check_out work (directory_piece i d)).findings → In f found_here
+    out-sound : (d : PathNames) (f : Finding) → In f (check_out work (piece_at i d)).findings → In f found_here
     out-sound d f h = by (is_directory_at layer d) h
       where
         by : (b : Bool) → In f (cond b (record { findings = directory_findings work i d; place = cond (not ordinary || (walk layer d).closed) None (Some (walk layer d).next); moved = ordinary && is_moved (mark_at layer d) }) no_seen).findings → In f found_here
@@ -226,7 +226,7 @@ module _ (work : CheckView) (each : All IsLayer (all_layers work.stack)) (i : �
 
     directory-In : (d : PathNames) (f : Finding) → is_directory_at layer d ≡ true → In f (directory_findings work i d) → In f (flat_map (λ (v : View). v.seen.findings) views)
     directory-In d f is h =
-        In-flat_map (λ (v : View). v.seen.findings) f (own_view (check_kids work) (check_out work) (directory_piece i d)) views (directory-view d is)
+        In-flat_map (λ (v : View). v.seen.findings) f (own_view (check_kids work) (check_out work) (piece_at i d)) views (directory-view d is)
         (subst (λ b. In f (cond b (record { findings = directory_findings work i d; place = cond (not ordinary || (walk layer d).closed) None (Some (walk layer d).next); moved = ordinary && is_moved (mark_at layer d) }) no_seen).findings) (sym is) h)
 
     -- ---- doubles
@@ -234,7 +234,7 @@ module _ (work : CheckView) (each : All IsLayer (all_layers work.stack)) (i : �
     abbrev seen_of : PathNames → Bool → Bool → Bool → CheckSeen
     seen_of d b o closed = cond b (record { findings = directory_findings work i d; place = cond (not o || closed) None (Some (walk layer d).next); moved = o && is_moved (mark_at layer d) }) no_seen
 
-    out-place : (d q : PathNames) → (check_out work (directory_piece i d)).place ≡ Some q → (is_directory_at layer d ≡ true) × (((walk layer d).closed ≡ false) × (((walk layer d).next ≡ q) × (((check_out work (directory_piece i d)).moved ≡ is_moved (mark_at layer d)) × (ordinary ≡ true))))
+    out-place : (d q : PathNames) → (check_out work (piece_at i d)).place ≡ Some q → (is_directory_at layer d ≡ true) × (((walk layer d).closed ≡ false) × (((walk layer d).next ≡ q) × (((check_out work (piece_at i d)).moved ≡ is_moved (mark_at layer d)) × (ordinary ≡ true))))
     out-place d q is = by (is_directory_at layer d) refl ordinary refl (walk layer d).closed refl is
       where
         by : (b : Bool) → is_directory_at layer d ≡ b → (o : Bool) → ordinary ≡ o → (c : Bool) → (walk layer d).closed ≡ c → (seen_of d b o c).place ≡ Some q → (is_directory_at layer d ≡ true) × (((walk layer d).closed ≡ false) × (((walk layer d).next ≡ q) × (((seen_of d (is_directory_at layer d) ordinary (walk layer d).closed).moved ≡ is_moved (mark_at layer d)) × (ordinary ≡ true))))
@@ -243,7 +243,7 @@ module _ (work : CheckView) (each : All IsLayer (all_layers work.stack)) (i : �
         by true e true h true k is = let bad : None ≡ Some q = is in cc
         by true e true h false k is = (e, (k, (ap (λ (o : Option PathNames). elim o as (λ _. PathNames) [ Some p ↦ p | None ↦ q ]) is, ((λ j. (seen_of d (e j) (h j) (walk layer d).closed).moved), h))))
 
-    place-out : (d : PathNames) → is_directory_at layer d ≡ true → ordinary ≡ true → (walk layer d).closed ≡ false → ((check_out work (directory_piece i d)).place ≡ Some (walk layer d).next) × ((check_out work (directory_piece i d)).moved ≡ is_moved (mark_at layer d))
+    place-out : (d : PathNames) → is_directory_at layer d ≡ true → ordinary ≡ true → (walk layer d).closed ≡ false → ((check_out work (piece_at i d)).place ≡ Some (walk layer d).next) × ((check_out work (piece_at i d)).moved ≡ is_moved (mark_at layer d))
     place-out d is own opened = ((λ j. (seen_of d (is j) (own j) (opened j)).place), (λ j. (seen_of d (is j) (own j) (walk layer d).closed).moved))
 
     entry-of : (d : PathNames) → is_directory_at layer d ≡ true → (inode : Inode) × ((entry_at layer d ≡ Some inode) × (is_directory inode ≡ true))
@@ -295,9 +295,9 @@ module _ (work : CheckView) (each : All IsLayer (all_layers work.stack)) (i : �
         let e_is : is_directory_at layer e ≡ true = ap (λ (o : Option Inode). elim o as (λ _. Bool) [ Some inode ↦ is_directory inode | None ↦ false ]) e_here ∙ c.0 in
         let mine = place-out d is own (not_true (walk layer d).closed two.1) in
         let theirs = place-out e e_is own (not_true (walk layer e).closed b.1) in
-        let v = own_view (check_kids work) (check_out work) (directory_piece i d) in
-        let w = own_view (check_kids work) (check_out work) (directory_piece i e) in
-        let before : IsBefore (directory_piece i e) (directory_piece i d) = ap (λ o. ordering_then o (path_cmp e d)) (tied_itself nat_cmp_total i) ∙ is_lt-Less (path_cmp e d) c.1 in
+        let v = own_view (check_kids work) (check_out work) (piece_at i d) in
+        let w = own_view (check_kids work) (check_out work) (piece_at i e) in
+        let before : IsBefore (piece_at i e) (piece_at i d) = ap (λ o. ordering_then o (path_cmp e d)) (tied_itself nat_cmp_total i) ∙ is_lt-Less (path_cmp e d) c.1 in
         doubles-In [] views v (walk layer d).next views-rise (directory-view d is) mine.0 (mine.1 ∙ two.0)
         (inr (w, (directory-view e e_is, (theirs.0 ∙ ap Some ((path_eq_decides (walk layer e).next (walk layer d).next).0 a.1), before))))
 

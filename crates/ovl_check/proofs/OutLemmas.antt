@@ -8,9 +8,10 @@ use Rattle.ovl_layer.specs.Layers.{IsLayer, is_directory_at}
 use Rattle.ovl_lookup.specs.Walk.{walk, mark_at}
 use Rattle.ovl_lookup.specs.Sound.{is_moved}
 use Rattle.ovl_board.specs.declared.pieces.Piece.{Piece}
+use Rattle.ovl_board.specs.Pieces.{piece_in}
 use Rattle.ovl_check.specs.declared.findings.Finding.{Finding}
 use Rattle.ovl_check.specs.declared.directories.Directory.{Directory}
-use Rattle.ovl_check.specs.Checks.{CheckView, is_ordinary, layer_at, directory_piece, check_kids, findings_at_path, directory_findings, check_out, no_seen}
+use Rattle.ovl_check.specs.Checks.{CheckView, is_ordinary, layer_at, check_kids, findings_at_path, directory_findings, check_out, no_seen}
 use Rattle.ovl_check.specs.Facts.{IsGathered, child_seen, found_at_child}
 use Rattle.ovl_check.proofs.HeldLemmas.{files-children, names_below-none}
 
@@ -45,5 +46,5 @@ found-all work i directory is start own all empty at_self at_children =
 -- what is no directory has no kids
 pub no-kids : (work : CheckView) (piece : Piece) → IsLayer (layer_at work.stack piece.space) → is_directory_at (layer_at work.stack piece.space) piece.dir ≡ false → [] ≡ check_kids work piece
 no-kids work piece is none =
-    sym (ap (λ (names : List PathName). map (λ name. directory_piece piece.space (child_path piece.dir name)) (filter (λ name. is_directory_at (layer_at work.stack piece.space) (child_path piece.dir name)) names))
+    sym (ap (λ (names : List PathName). map (piece_in piece) (filter (λ name. is_directory_at (layer_at work.stack piece.space) (child_path piece.dir name)) names))
     (names_below-none (layer_at work.stack piece.space) piece.dir is none))

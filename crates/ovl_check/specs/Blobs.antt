@@ -14,6 +14,7 @@ use Rattle.ovl_names.specs.Paths.{PathNames, is_root}
 use Rattle.ovl_inode.specs.Bytes.{is_digest}
 use Rattle.ovl_lookup.specs.Passes.{put_names}
 use Rattle.ovl_board.specs.declared.pieces.Piece.{Piece}
+use Rattle.ovl_board.specs.Pieces.{space_root, piece_in}
 use Rattle.ovl_check.specs.declared.blobs.Blob.{Blob}
 
 -- a blob: its name, which is a digest, and its bytes
@@ -68,10 +69,10 @@ abbrev pub blob_space : ℕ
 blob_space = 128
 
 abbrev pub blob_root : Piece
-blob_root = record { space = blob_space; dir = [] }
+blob_root = space_root blob_space
 
 abbrev pub digits_piece : PathName → Piece
-digits_piece digits = record { space = blob_space; dir = digits ∷ [] }
+digits_piece digits = piece_in blob_root digits
 
 -- the kids of the root are the two digits that occur
 abbrev pub blob_kids : List BlobView → Piece → List Piece

@@ -12,6 +12,7 @@ use Rattle.ovl_lookup.specs.Walk.{mark_at, walk}
 use Rattle.ovl_lookup.specs.Stacks.{StackView, all_layers, from_layer}
 use Rattle.ovl_lookup.specs.Sound.{is_moved}
 use Rattle.ovl_board.specs.declared.pieces.Piece.{Piece}
+use Rattle.ovl_board.specs.Pieces.{piece_in}
 use Rattle.ovl_check.specs.declared.findings.Code.{Code}
 use Rattle.ovl_check.specs.declared.findings.Finding.{Finding}
 use Rattle.ovl_check.specs.declared.subjects.CheckOut.{CheckOut}
@@ -46,15 +47,11 @@ first_below stack i = min (i + 1) (length stack.layers)
 abbrev pub layers_below : StackView → ℕ → StackView
 layers_below stack i = from_layer (first_below stack i) stack
 
--- a directory of layer `i`
-abbrev pub directory_piece : ℕ → PathNames → Piece
-directory_piece i dir = record { space = i; dir = dir }
-
--- the kids of a directory: the directories directly in it
+-- a directory of layer `i` is a piece of space `i`; its kids are the directories directly in it
 abbrev pub check_kids : CheckView → Piece → List Piece
 check_kids work piece =
     let layer = layer_at work.stack piece.space in
-    map (λ name. directory_piece piece.space (child_path piece.dir name))
+    map (piece_in piece)
     (filter (λ name. is_directory_at layer (child_path piece.dir name))
     (names_below layer piece.dir))
 

@@ -6,11 +6,12 @@ use Rattle.std.specs.BTreeSet.{insert_key}
 use Rattle.std.specs.Ordering.{is_eq}
 use Rattle.ovl_names.specs.Paths.{PathNames}
 use Rattle.ovl_lookup.specs.Trails.{trail_cmp}
+use Rattle.ovl_board.specs.Pieces.{space_root}
 use Rattle.ovl_board.specs.Parcels.{ParcelView, IsPlain}
 use Rattle.ovl_check.specs.declared.findings.Finding.{Finding}
 use Rattle.ovl_check.specs.declared.findings.Code.TheVariants.{RedirectDouble}
 use Rattle.ovl_check.specs.Findings.{finding}
-use Rattle.ovl_check.specs.Checks.{CheckView, CheckSeen, check_kids, check_out, directory_piece}
+use Rattle.ovl_check.specs.Checks.{CheckView, CheckSeen, check_kids, check_out}
 
 -- what is seen of a directory's parcel
 abbrev pub View : Type 0
@@ -20,7 +21,7 @@ View = ParcelView CheckSeen
 abbrev pub AreLayerWalks : CheckView → ℕ → List (List View) → Type 0
 AreLayerWalks work i [] = Unit {0}
 AreLayerWalks work i (views ∷ more) =
-    IsPlain (check_kids work) (check_out work) (directory_piece i []) views
+    IsPlain (check_kids work) (check_out work) (space_root i) views
     × AreLayerWalks work (i + 1) more
 
 -- the place is among those where an earlier directory goes on

@@ -9,7 +9,7 @@ ghost use Rattle.ovl_check.specs.Blobs as the_blobs;
 use crate::named::{in_order, start_in};
 use ovl_board::{Parcel, Piece, Work};
 use ovl_inode::Digest;
-use ovl_names::{Name, Path};
+use ovl_names::Name;
 use sha2::Sha256;
 use std::alloc::{AllocError, Global};
 use std::collections::BTreeSet;
@@ -173,12 +173,10 @@ fn digits_of_names(alloc: Global, blobs: &[Blob]) -> Result<BTreeSet<Name>, Allo
 fn digits_pieces(alloc: Global, digits: BTreeSet<Name>) -> Result<Vec<Piece>, AllocError>
     ensures { IfOk result (λ pieces. pieces.items ≡ map digits_piece digits.keys) }
 {
+    let root = Piece::root(alloc, BLOB_SPACE);
     let mut pieces = Vec::new(alloc);
     for name in digits {
-        pieces.push(Piece {
-            space: BLOB_SPACE,
-            dir: Path::root(alloc).child(alloc, &name)?,
-        })?;
+        pieces.push(root.child(alloc, &name)?)?;
     }
     Ok(pieces)
 }

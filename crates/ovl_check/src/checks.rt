@@ -4,11 +4,12 @@ ghost use Rattle.ovl_lookup.specs.Stacks.{all_layers};
 ghost use Rattle.ovl_names.specs.Paths.{child_path};
 ghost use Rattle.ovl_layer.specs.Layers.{entry_at};
 ghost use Rattle.ovl_lookup.specs.Sound as sound;
+ghost use Rattle.ovl_board.specs.Pieces.{piece_at};
 ghost use Rattle.ovl_check.specs.Codes.{all_codes, is_blob_fault};
 ghost use Rattle.ovl_check.specs.Findings.{finding, any_code};
 ghost use Rattle.ovl_check.specs.Blobs.{blob_views, are_in_order, wrong_names};
 ghost use Rattle.ovl_check.specs.Contents.{contents_of, contents_ascend};
-ghost use Rattle.ovl_check.specs.Checks.{check_seen, no_seen, sought_in, layer_at, directory_piece, findings_at_path, check_out};
+ghost use Rattle.ovl_check.specs.Checks.{check_seen, no_seen, sought_in, layer_at, findings_at_path, check_out};
 ghost use Rattle.ovl_check.specs.Checks as checks;
 ghost use Rattle.ovl_check.specs.CheckViews.{check_view};
 ghost use Rattle.ovl_check.specs.Facts.{IsGathered, IsBelow, IsBelowOf, IsMarked, asks, child_seen, entry_path, found_at_child, next_of, tells};
@@ -94,7 +95,7 @@ impl<'a> Work for CheckWork<'a> {
         let Some(directory) = directory_at(alloc, self.stack, i, &piece.dir, &plain)? else {
             return Ok((Vec::new(alloc), nothing(alloc)));
         };
-        let kids = kids_of(alloc, piece.space, &piece.dir, &directory.children)?;
+        let kids = kids_of(alloc, piece, &directory.children)?;
         let out = directory_out(alloc, self, piece.space, directory)?;
         Ok((kids, out))
     }
@@ -118,7 +119,7 @@ fn directory_out<'a>(
     requires below { IsBelowOf work.now.stack.now layer directory }
     ensures { IfOk result
         (λ out. check_seen out
-        ≡ check_out (check_view work.now) (directory_piece layer directory.entry.path.now)) }
+        ≡ check_out (check_view work.now) (piece_at layer directory.entry.path.now)) }
 {
     let mut findings = Vec::new(alloc);
     push_directory(alloc, work, layer, &directory, &mut findings)?;

@@ -1,13 +1,13 @@
 ghost use Rattle.std.specs.Prelude.{◌≡◌, ◌<◌, ◌++◌, false, None, All, length, map, filter, IfOk, OnOk, MatchOption};
 ghost use Rattle.std.specs.List.{list_any};
 ghost use Rattle.ovl_lookup.specs.Stacks.{all_layers};
-ghost use Rattle.ovl_names.specs.Paths.{child_path};
 ghost use Rattle.ovl_inode.specs.declared.marks.Mark.TheVariants.{DirPlain};
 ghost use Rattle.ovl_inode.specs.Attributes.{origin_name};
 ghost use Rattle.ovl_inode.specs.Marks as marks;
 ghost use Rattle.ovl_layer.specs.Layers.{is_directory_at};
 ghost use Rattle.ovl_layer.specs.Sheets.{path_at};
-ghost use Rattle.ovl_check.specs.Checks.{layer_at, directory_piece};
+ghost use Rattle.ovl_board.specs.Pieces.{piece_in};
+ghost use Rattle.ovl_check.specs.Checks.{layer_at};
 ghost use Rattle.ovl_check.specs.Facts.{IsGathered, IsBelowOf, IsMarked, child_seen, seen_at, held_in};
 
 use crate::below::below_children;
@@ -135,15 +135,14 @@ pub(crate) fn hold_origin(children: &[Child<'_>]) -> bool
         .any(|child| has_attribute(child.inode, overlay::ORIGIN))
 }
 
-/// The pieces of those of these that are directories themselves.
+/// The pieces of those entries of a piece's directory that are directories themselves.
 pub(crate) fn kids_of(
     alloc: Global,
-    space: u16,
-    dir: &Path,
+    piece: &Piece,
     children: &[Child<'_>],
 ) -> Result<Vec<Piece>, AllocError>
     ensures { IfOk result (λ kids. kids.items
-        ≡ map (λ child. directory_piece space (child_path dir.now child.name.now))
+        ≡ map (λ child. piece_in piece.now child.name.now)
         (filter (λ child. marks.is_directory child.inode.now) children.now)) }
 {
     let count = children
@@ -153,10 +152,7 @@ pub(crate) fn kids_of(
     let mut kids = Vec::with_capacity(alloc, count)?;
     for child in children {
         if is_directory(child.inode) {
-            kids.push(Piece {
-                space,
-                dir: dir.child(alloc, child.name)?,
-            })?;
+            kids.push(piece.child(alloc, child.name)?)?;
         }
     }
     Ok(kids)

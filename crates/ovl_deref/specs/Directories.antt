@@ -1,6 +1,6 @@
 -- The directories of the dereferenced layer as work: a piece is a directory, its kids are the
 -- directories in it, and its output is each name in it with its inode.
-use Rattle.std.specs.Prelude.{◌*◌, ℕ, Bool, Option, List, [], if◌then◌else◌, length}
+use Rattle.std.specs.Prelude.{◌*◌, ℕ, Bool, Option, List, if◌then◌else◌, length}
 use Rattle.std.specs.List.{filter_map}
 use Rattle.std.specs.Option.{option_map}
 use Rattle.ovl_names.specs.Names.{PathName}
@@ -13,6 +13,7 @@ use Rattle.ovl_lookup.specs.Passes.{kids_along}
 use Rattle.ovl_lookup.specs.Sound.{is_moved}
 use Rattle.ovl_lookup.specs.Words.{top_layer, lower_layers}
 use Rattle.ovl_board.specs.declared.pieces.Piece.{Piece}
+use Rattle.ovl_board.specs.Pieces.{space_root}
 use Rattle.ovl_board.specs.Parcels.{ParcelView, IsPlain}
 use Rattle.ovl_rewrite.specs.Directories.{NamedInode, directories_among, visited_kids}
 use Rattle.ovl_deref.specs.Deref.{any_prefix, dereferenced_at}
@@ -55,7 +56,7 @@ deref_depth stack = depth_limit * length stack.layers
 
 -- its root
 abbrev pub deref_root : Piece
-deref_root = record { space = 0; dir = [] }
+deref_root = space_root 0
 
 -- the parcels of the plain walk over all that a manifest can hold of the new layer
 abbrev pub IsDerefWalk : StackView → List (ParcelView (List NamedInode)) → Type 0

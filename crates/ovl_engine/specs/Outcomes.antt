@@ -6,11 +6,12 @@ use Rattle.ovl_manifest.specs.Text.{manifest_text}
 use Rattle.ovl_lookup.specs.Stacks.{StackView, all_layers, stack_with}
 use Rattle.ovl_lookup.specs.Words.{top_layer, lower_layers}
 use Rattle.ovl_board.specs.declared.pieces.Piece.{Piece}
+use Rattle.ovl_board.specs.Pieces.{space_root}
 use Rattle.ovl_pool.specs.declared.runs.RunFault.{RunFault}
 use Rattle.ovl_pool.specs.declared.runs.RunFault.TheVariants.{Workers as RunWorkers, Gate, Board, Memory as RunMemory}
 use Rattle.ovl_pool.specs.Runs.{MayBeRefused}
 use Rattle.ovl_check.specs.Blobs.{BlobView, blob_kids, blob_root}
-use Rattle.ovl_check.specs.Checks.{CheckView, check_kids, directory_piece}
+use Rattle.ovl_check.specs.Checks.{CheckView, check_kids}
 use Rattle.ovl_check.specs.declared.findings.Finding.{Finding}
 use Rattle.ovl_check.specs.Findings.{findings}
 use Rattle.ovl_vacuum.specs.Vacuum.{vacuumed_layer, removed_paths}
@@ -114,10 +115,6 @@ IsAnswer command stack blobs answer = IsAnswerOf command stack (findings blobs s
 abbrev pub check_of : StackView → CheckView
 check_of stack = record { stack = stack; contents = [] }
 
--- the root of a space of pieces
-abbrev pub root_of : ℕ → Piece
-root_of space = record { space = space; dir = [] }
-
 -- the gate may refuse a piece of the blobs, or a directory of a layer
 abbrev pub MayRefuseBlobs : List BlobView → (Piece → Type 0) → Type 0
 MayRefuseBlobs blobs may_refuse = MayBeRefused (blob_kids blobs) may_refuse blob_root
@@ -125,7 +122,7 @@ MayRefuseBlobs blobs may_refuse = MayBeRefused (blob_kids blobs) may_refuse blob
 abbrev pub MayRefuseLayer : StackView → (Piece → Type 0) → ℕ → Type 0
 MayRefuseLayer stack may_refuse i =
     (i < length (all_layers stack))
-    × MayBeRefused (check_kids (check_of stack)) may_refuse (directory_piece i [])
+    × MayBeRefused (check_kids (check_of stack)) may_refuse (space_root i)
 
 abbrev pub MayRefuseLayers : StackView → (Piece → Type 0) → Type 0
 MayRefuseLayers stack may_refuse = (i : ℕ) × MayRefuseLayer stack may_refuse i

@@ -1,12 +1,12 @@
 ghost use Rattle.std.specs.Prelude.{◌<◌, ◌≤◌, MatchResult};
 ghost use Rattle.ovl_board.specs.Machine.{worker_limit};
+ghost use Rattle.ovl_board.specs.Pieces.{space_root};
 ghost use Rattle.ovl_board.specs.Parcels.{IsPlain, parcel_views};
 ghost use Rattle.ovl_pool.specs.Runs.{MayBeRefused};
-ghost use Rattle.ovl_engine.specs.Outcomes.{IsFailedWalk, root_of};
+ghost use Rattle.ovl_engine.specs.Outcomes.{IsFailedWalk};
 
 use crate::faults::EngineFault;
 use ovl_board::{Parcel, Piece, Work};
-use ovl_names::Path;
 use ovl_pool::{Gate, run};
 use std::alloc::Global;
 use std::sync::Wait;
@@ -33,16 +33,13 @@ impl<G: Gate + Sync, R: Threads + Wait + Sync> Team<'_, G, R> {
         W::Out: Send,
         requires { (0 < self.now.workers) × (self.now.workers ≤ worker_limit) }
         ensures { MatchResult result
-            (λ parcels. IsPlain (W.kids_of work.now) (W.out_of work.now) (root_of space)
+            (λ parcels. IsPlain (W.kids_of work.now) (W.out_of work.now) (space_root space)
             (parcel_views W.seen parcels.items))
             (λ fault. IsFailedWalk
             (MayBeRefused (W.kids_of work.now) (G.may_refuse self.now.gate.now)
-            (root_of space)) fault) }
+            (space_root space)) fault) }
     {
-        let root = Piece {
-            space,
-            dir: Path::root(self.alloc),
-        };
+        let root = Piece::root(self.alloc, space);
         let (parcels, _) = run(self.rt, self.alloc, work, root, self.workers, self.gate)?;
         Ok(parcels)
     }

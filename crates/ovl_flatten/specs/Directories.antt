@@ -1,10 +1,11 @@
 -- The directories of the flattened layer as work: a piece is a directory, its kids are the
 -- directories in it, and its output is each name in it with its inode.
-use Rattle.std.specs.Prelude.{◌*◌, ℕ, List, [], length}
+use Rattle.std.specs.Prelude.{◌*◌, ℕ, List, length}
 use Rattle.ovl_names.specs.Paths.{depth_limit}
 use Rattle.ovl_lookup.specs.Stacks.{StackView}
 use Rattle.ovl_lookup.specs.ShownInodes.{shown_inodes}
 use Rattle.ovl_board.specs.declared.pieces.Piece.{Piece}
+use Rattle.ovl_board.specs.Pieces.{space_root}
 use Rattle.ovl_board.specs.Parcels.{ParcelView, IsPlain}
 use Rattle.ovl_rewrite.specs.Directories.{NamedInode, directories_among, visited_kids}
 
@@ -22,7 +23,7 @@ flatten_depth stack = depth_limit * length stack.layers
 
 -- its root
 abbrev pub flatten_root : Piece
-flatten_root = record { space = 0; dir = [] }
+flatten_root = space_root 0
 
 -- the parcels of the plain walk over all that a manifest can hold of the flattened layer
 abbrev pub IsFlattenWalk : StackView → List (ParcelView (List NamedInode)) → Type 0

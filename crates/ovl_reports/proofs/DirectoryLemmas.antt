@@ -3,8 +3,6 @@ use Rattle.std.proofs.Common.{◌≡◌, ◌*◌, ◌≤◌, inl, inr, Bool, tru
 use Rattle.std.specs.Prelude.{filter}
 use Rattle.std.specs.List.{list_all, All}
 use Rattle.std.specs.Ordering.{is_lt}
-use Rattle.std.specs.Cmp.Lexicographic.{nat_list_cmp_total}
-use Rattle.std.proofs.lemmas.Cmp.{tied_itself, nat_cmp_total}
 use Rattle.std.proofs.lemmas.List.Elements.{All-head, All-tail}
 use Rattle.ovl_names.specs.Names.{PathName, name_cmp}
 use Rattle.ovl_names.specs.Paths.{PathNames, child_path, depth_limit}
@@ -18,10 +16,10 @@ use Rattle.ovl_lookup.specs.ViewPasses.{AreLooks}
 use Rattle.ovl_lookup.proofs.LawsOfKids.{kids-ascend, kids-same, are-kids, kids-unique, no-name, none-along}
 use Rattle.ovl_lookup.proofs.LawsOfLooks.{directory-shows, shows-limited}
 use Rattle.ovl_board.specs.declared.pieces.Piece.{Piece}
-use Rattle.ovl_board.specs.Pieces.{IsBefore, IsOneBelow, HasLawfulKids}
+use Rattle.ovl_board.specs.Pieces.{piece_in, IsBefore, IsOneBelow, HasLawfulKids}
 use Rattle.ovl_board.proofs.LawsOfMembers.{In, Rises, All-Every, AllPairs-Rises}
-use Rattle.ovl_board.proofs.LawsOfPieces.{fork_before}
-use Rattle.ovl_reports.specs.Directories.{HasAllNames, NamedLook, named_look, looks_in, piece_in, show_kids, show_depth}
+use Rattle.ovl_board.proofs.LawsOfPieces.{entry-before}
+use Rattle.ovl_reports.specs.Directories.{HasAllNames, NamedLook, named_look, looks_in, show_kids, show_depth}
 
 -- ---- directories without names
 
@@ -62,10 +60,6 @@ all_names stack each dir = are-kids stack each dir (map (λ (entry : NamedLook).
 
 -- ---- the kids of a piece
 
-siblings_before : (piece : Piece) (one other : PathName) → is_lt (name_cmp one other) ≡ true → IsBefore (piece_in piece one) (piece_in piece other)
-siblings_before piece one other before =
-    rw (tied_itself nat_cmp_total piece.space) (fork_before name_cmp nat_list_cmp_total piece.dir one other [] [] (is_lt-Less (name_cmp one other) before))
-
 module _ (stack : StackView) (piece : Piece) where
   abbrev entries_of : List PathName → List NamedLook
   entries_of names = filter (λ (entry : NamedLook). is_shown_directory entry.1) (map (named_look stack piece.dir) names)
@@ -92,7 +86,7 @@ module _ (stack : StackView) (piece : Piece) where
       parts = both {a = is_lt (name_cmp first name)} {b = list_all (λ later. is_lt (name_cmp first later)) names} all
 
       by : (In q (pieces_for (entries_of names)) → IsBefore (piece_in piece first) q) → (b : Bool) → In q (pieces_for (cond b (named_look stack piece.dir name ∷ entries_of names) (entries_of names))) → IsBefore (piece_in piece first) q
-      by later true (inl same) = subst (IsBefore (piece_in piece first)) (sym same) (siblings_before piece first name parts.0)
+      by later true (inl same) = subst (IsBefore (piece_in piece first)) (sym same) (entry-before piece first name (is_lt-Less (name_cmp first name) parts.0))
       by later true (inr i) = later i
       by later false i = later i
 

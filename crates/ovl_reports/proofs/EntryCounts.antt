@@ -11,9 +11,10 @@ use Rattle.ovl_lookup.specs.Stacks.{StackView}
 use Rattle.ovl_lookup.specs.Merged.{look, is_shown_directory}
 use Rattle.ovl_lookup.specs.Passes.{kids_along}
 use Rattle.ovl_board.specs.declared.pieces.Piece.{Piece}
+use Rattle.ovl_board.specs.Pieces.{piece_in}
 use Rattle.ovl_board.specs.Walks.{preorder}
 use Rattle.ovl_board.specs.Parcels.{ParcelView}
-use Rattle.ovl_reports.specs.Directories.{NamedLook, ShowParcel, named_look, looks_in, piece_in, directories_in, show_kids, show_root, IsShowWalk}
+use Rattle.ovl_reports.specs.Directories.{NamedLook, ShowParcel, named_look, looks_in, directories_in, show_kids, show_root, IsShowWalk}
 use Rattle.ovl_reports.specs.Listings.{merged_tree}
 use Rattle.ovl_reports.specs.Listings.{IsShowReport}
 use Rattle.ovl_reports.specs.Reports.{show_line}

@@ -13,10 +13,11 @@ use Rattle.ovl_lookup.specs.Stacks.{StackView}
 use Rattle.ovl_lookup.specs.Merged.{IsMerged, look, is_shown_directory}
 use Rattle.ovl_lookup.specs.Passes.{kids_along}
 use Rattle.ovl_board.specs.declared.pieces.Piece.{Piece}
+use Rattle.ovl_board.specs.Pieces.{piece_in}
 use Rattle.ovl_board.specs.Walks.{preorder}
 use Rattle.ovl_board.specs.Parcels.{ParcelView, parcel_view, parcel_views}
 use Rattle.ovl_board.proofs.LawsOfMembers.{In, Every, In-left, In-right, In-cases, In-map-cases}
-use Rattle.ovl_reports.specs.Directories.{NamedLook, ShowParcel, named_look, looks_in, piece_in, directories_in, show_kids, show_root, IsShowWalk}
+use Rattle.ovl_reports.specs.Directories.{NamedLook, ShowParcel, named_look, looks_in, directories_in, show_kids, show_root, IsShowWalk}
 use Rattle.ovl_reports.proofs.DirectoryLemmas.{none_deepest, none_elsewhere}
 use Rattle.ovl_reports.proofs.MergedLemmas.{at, with_look, paths_from, below, own, tree_paths, tree_merged, views_are}
 

@@ -11,6 +11,7 @@ use Rattle.ovl_lookup.specs.Merged.{IsMerged, look}
 use Rattle.ovl_lookup.specs.Passes.{kids_along, looks_from, looks_under, looks_placed}
 use Rattle.ovl_lookup.proofs.LawsOfKids.{is-merged, shows-root}
 use Rattle.ovl_board.specs.declared.pieces.Piece.{Piece}
+use Rattle.ovl_board.specs.Pieces.{piece_at}
 use Rattle.ovl_board.specs.Walks.{preorder}
 use Rattle.ovl_board.specs.Parcels.{ParcelView, own_view}
 use Rattle.ovl_board.proofs.LawsOfWalks.{IsPlain-from_preorder, HasReachedPieces-holds}
@@ -22,7 +23,7 @@ Looks = List (PathNames × Look)
 
 -- a path as a piece
 abbrev pub at : PathNames → Piece
-at path = record { space = 0; dir = path }
+at path = piece_at 0 path
 
 module _ (stack : StackView) where
   abbrev pub with_look : PathNames → PathNames × Look

@@ -1,6 +1,6 @@
 -- The directories of the merged tree as work: a piece is a directory, its kids are the directories
 -- in it, and its output is all that is shown in it.
-use Rattle.std.specs.Prelude.{ℕ, ◌*◌, List, [], map, filter, length, Vec}
+use Rattle.std.specs.Prelude.{ℕ, ◌*◌, List, map, filter, length, Vec}
 use Rattle.std.specs.Global.{Global}
 use Rattle.std.specs.Coded.{Coded-set, codes}
 use Rattle.ovl_names.specs.Names.{PathName}
@@ -10,6 +10,7 @@ use Rattle.ovl_lookup.specs.Stacks.{StackView}
 use Rattle.ovl_lookup.specs.Merged.{look, AreKids, is_shown_directory}
 use Rattle.ovl_lookup.specs.Passes.{kids_along}
 use Rattle.ovl_board.specs.declared.pieces.Piece.{Piece}
+use Rattle.ovl_board.specs.Pieces.{space_root, piece_in}
 use Rattle.ovl_board.specs.declared.works.Parcel.{Parcel}
 use Rattle.ovl_board.specs.Parcels.{ParcelView, IsPlain}
 
@@ -29,10 +30,7 @@ abbrev pub HasAllNames : StackView → Type 0
 HasAllNames stack =
     (dir : PathNames) → AreKids stack dir (map (λ entry. entry.0) (looks_in stack dir))
 
--- an entry of a piece's directory as a piece, and all those that are directories
-abbrev pub piece_in : Piece → PathName → Piece
-piece_in piece name = record { space = piece.space; dir = child_path piece.dir name }
-
+-- those entries of a piece's directory that are directories, as pieces
 abbrev pub directories_in : Piece → List NamedLook → List Piece
 directories_in piece looks =
     map (λ entry. piece_in piece entry.0) (filter (λ entry. is_shown_directory entry.1) looks)
@@ -54,7 +52,7 @@ ShowParcel = Parcel (Vec NamedLook Global)
 
 -- the root of the merged tree
 abbrev pub show_root : Piece
-show_root = record { space = 0; dir = [] }
+show_root = space_root 0
 
 -- the parcels of the plain walk over the whole merged tree
 abbrev pub IsShowWalk : StackView → List (ParcelView (List NamedLook)) → Type 0

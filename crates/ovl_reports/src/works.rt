@@ -104,10 +104,7 @@ fn directories_in(
     let mut kids = Vec::new(alloc);
     for (name, look) in looks {
         if look.is_shown_directory() {
-            kids.push(Piece {
-                space: piece.space,
-                dir: piece.dir.child(alloc, name)?,
-            })?;
+            kids.push(piece.child(alloc, name)?)?;
         }
     }
     Ok(kids)

@@ -4,18 +4,16 @@ use Rattle.std.specs.Prelude.{filter}
 use Rattle.std.specs.Option.{option_map}
 use Rattle.std.specs.List.{cons_option, filter_map}
 use Rattle.std.specs.Map.{lookup}
-use Rattle.std.specs.Ordering.{ordering_then}
-use Rattle.std.specs.Cmp.Lexicographic.{nat_list_cmp_total, bytes_decides}
-use Rattle.std.proofs.lemmas.Cmp.{tied_itself, nat_cmp_total}
+use Rattle.std.specs.Cmp.Lexicographic.{bytes_decides}
 use Rattle.ovl_names.specs.Names.{PathName, name_eq, name_cmp}
-use Rattle.ovl_names.specs.Paths.{PathNames, child_path, path_cmp}
+use Rattle.ovl_names.specs.Paths.{PathNames, child_path}
 use Rattle.ovl_inode.specs.declared.inodes.Inode.{Inode}
 use Rattle.ovl_inode.specs.Marks.{is_directory}
 use Rattle.ovl_board.specs.declared.pieces.Piece.{Piece}
-use Rattle.ovl_board.specs.Pieces.{IsBefore, IsOneBelow, HasLawfulKids}
-use Rattle.ovl_board.proofs.LawsOfMembers.{In, Rises, All-Every, AllPairs-Rises, In-map-cases, In-filter-cases, Rises-filter}
-use Rattle.ovl_board.proofs.LawsOfPieces.{fork_before}
-use Rattle.ovl_rewrite.specs.Directories.{NamedInode, piece_in}
+use Rattle.ovl_board.specs.Pieces.{piece_in, HasLawfulKids}
+use Rattle.ovl_board.proofs.LawsOfMembers.{In, Rises, All-Every, In-map-cases, In-filter-cases, Rises-filter}
+use Rattle.ovl_board.proofs.LawsOfPieces.{entries-lawful}
+use Rattle.ovl_rewrite.specs.Directories.{NamedInode}
 use Rattle.ovl_rewrite.specs.Passes.{Tree, tree_kids, tree_out}
 use Rattle.ovl_rewrite.specs.NewLayers.{NewLayer, is_directory_found, has_directory, named_entry, tree_by, IsTold, AreEntriesOf, TellsLayer}
 use Rattle.ovl_rewrite.proofs.Ascents.{NameBefore, rising-ascend, rising-names, any-In}
@@ -123,32 +121,15 @@ module _ (new : NewLayer) where
     abbrev is_kid : NamedInode → Bool
     is_kid entry = is_directory entry.1
 
-    kid-entry : (piece kid : Piece) → In kid (tree_kids tree piece) → (entry : NamedInode) × (has_directory new (child_path piece.dir entry.0) ≡ true) × (kid ≡ piece_in piece entry)
+    kid-entry : (piece kid : Piece) → In kid (tree_kids tree piece) → (entry : NamedInode) × (has_directory new (child_path piece.dir entry.0) ≡ true) × (kid ≡ piece_in piece entry.0)
     kid-entry piece kid h =
-        let one = In-map-cases (piece_in piece) kid (filter is_kid (tree piece.dir)) h in
+        let one = In-map-cases (λ (entry : NamedInode). piece_in piece entry.0) kid (filter is_kid (tree piece.dir)) h in
         let there = In-filter-cases is_kid one.0 (tree piece.dir) one.1.0 in
         (one.0, ap is_directory_found (entry-new piece.dir one.0 there.0) ∙ there.1, one.1.1)
 
-    kids-rise : (piece : Piece) (entries : List NamedInode) → Rises EntryBefore entries → Rises IsBefore (map (piece_in piece) entries)
-    kids-rise piece [] up = tt
-    kids-rise piece (entry ∷ entries) up = (
-      (λ kid h.
-          let other = In-map-cases (piece_in piece) kid entries h in
-          subst (IsBefore (piece_in piece entry)) (sym other.1.1)
-          (ap (λ o. ordering_then o (path_cmp (child_path piece.dir entry.0) (child_path piece.dir other.0.0))) (tied_itself nat_cmp_total piece.space)
-          ∙ fork_before name_cmp nat_list_cmp_total piece.dir entry.0 other.0.0 [] [] (up.0 other.0 other.1.0))),
-      kids-rise piece entries up.1,
-    )
-
     pub kids-lawful : (most : ℕ) → deepest ≤ most → HasLawfulKids (tree_kids tree) most
     kids-lawful most deep = record {
-      lawful = λ piece. record {
-        below = All-Every (IsOneBelow piece) (tree_kids tree piece) (λ kid h.
-            let one = kid-entry piece kid h in
-            subst (IsOneBelow piece) (sym one.2) (refl, (one.0.0, refl)));
-        ascend = AllPairs-Rises IsBefore (tree_kids tree piece)
-            (kids-rise piece (filter is_kid (tree piece.dir)) (Rises-filter EntryBefore is_kid (tree piece.dir) (entries-rise piece.dir)));
-      };
+      lawful = λ piece. entries-lawful (λ (entry : NamedInode). entry.0) piece (filter is_kid (tree piece.dir)) (Rises-filter EntryBefore is_kid (tree piece.dir) (entries-rise piece.dir));
       shallow = λ piece. All-Every (λ kid. length kid.dir ≤ most) (tree_kids tree piece) (λ kid h.
           let one = kid-entry piece kid h in
           let short : length (child_path piece.dir one.0.0) ≤ deepest = told.shallow (child_path piece.dir one.0.0) one.1 in

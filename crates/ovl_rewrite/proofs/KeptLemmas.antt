@@ -9,15 +9,15 @@ use Rattle.ovl_inode.specs.declared.inodes.Inode.{Inode}
 use Rattle.ovl_inode.specs.Marks.{is_directory}
 use Rattle.ovl_layer.specs.Layers.{Entry, Entries, IsLayer, entry_cmp, is_within_limits}
 use Rattle.ovl_board.specs.declared.pieces.Piece.{Piece}
-use Rattle.ovl_board.specs.Pieces.{IsBefore, IsOneBelow, HasLawfulKids}
+use Rattle.ovl_board.specs.Pieces.{space_root, piece_in, IsBefore, IsOneBelow, HasLawfulKids}
 use Rattle.ovl_board.specs.Walks.{Reached, ToKid}
 use Rattle.ovl_board.specs.Walks.Reached.{start, next}
 use Rattle.ovl_board.specs.Parcels.{ParcelView, IsPlain, own_view, pieces_of}
 use Rattle.ovl_board.proofs.LawsOfMembers.{In, In-map, In-map-cases, In-Contains, Contains-In, In-filter-cases, All-Every, Every-All, AllPairs-Rises, Rises-AllPairs, Rises-filter}
 use Rattle.ovl_board.proofs.LawsOfWalks.{reached_by}
-use Rattle.ovl_rewrite.specs.Directories.{NamedInode, piece_in, directories_among, is_kept, visited_kids, is_past_limits}
+use Rattle.ovl_rewrite.specs.Directories.{NamedInode, directories_among, is_kept, visited_kids, is_past_limits}
 use Rattle.ovl_rewrite.specs.Passes.{Tree, View, tree_kids, tree_out, entries_under}
-use Rattle.ovl_rewrite.specs.NewLayers.{NewLayer, IsOf, IsToldBy, IsToldWithin, tree_by, root_piece, leaves_out}
+use Rattle.ovl_rewrite.specs.NewLayers.{NewLayer, IsOf, IsToldBy, IsToldWithin, tree_by, leaves_out}
 use Rattle.ovl_rewrite.proofs.DirectoryLemmas.{entry-new}
 use Rattle.ovl_rewrite.proofs.TreeLemmas.{found-In, told-ascend, told-of}
 
@@ -115,15 +115,15 @@ kept-all piece (entry ∷ entries) none = by (kept-all piece entries) (is_direct
         → filter is_kept (directories_among piece (entry ∷ entries)) ≡ directories_among piece (entry ∷ entries)
     by later false d w e none =
         let none_later : list_any (is_past_limits piece.dir) entries ≡ false = sym (λ j. (d j && not (is_within_limits (child_path piece.dir entry.0))) || list_any (is_past_limits piece.dir) entries) ∙ none in
-        (λ j. filter is_kept (map (piece_in piece) (cond (d j) (entry ∷ filter (λ (e : NamedInode). is_directory e.1) entries) (filter (λ (e : NamedInode). is_directory e.1) entries))))
+        (λ j. filter is_kept (map (λ (e : NamedInode). piece_in piece e.0) (cond (d j) (entry ∷ filter (λ (e : NamedInode). is_directory e.1) entries) (filter (λ (e : NamedInode). is_directory e.1) entries))))
         ∙ (later none_later
-        ∙ sym (λ j. map (piece_in piece) (cond (d j) (entry ∷ filter (λ (e : NamedInode). is_directory e.1) entries) (filter (λ (e : NamedInode). is_directory e.1) entries))))
+        ∙ sym (λ j. map (λ (e : NamedInode). piece_in piece e.0) (cond (d j) (entry ∷ filter (λ (e : NamedInode). is_directory e.1) entries) (filter (λ (e : NamedInode). is_directory e.1) entries))))
     by later true d true e none =
         let none_later : list_any (is_past_limits piece.dir) entries ≡ false = sym (λ j. (d j && not (e j)) || list_any (is_past_limits piece.dir) entries) ∙ none in
-        (λ j. filter is_kept (map (piece_in piece) (cond (d j) (entry ∷ filter (λ (e : NamedInode). is_directory e.1) entries) (filter (λ (e : NamedInode). is_directory e.1) entries))))
-        ∙ ((λ j. cond (e j) (piece_in piece entry ∷ filter is_kept (directories_among piece entries)) (filter is_kept (directories_among piece entries)))
-        ∙ (ap (λ (ps : List Piece). piece_in piece entry ∷ ps) (later none_later)
-        ∙ sym (λ j. map (piece_in piece) (cond (d j) (entry ∷ filter (λ (e : NamedInode). is_directory e.1) entries) (filter (λ (e : NamedInode). is_directory e.1) entries)))))
+        (λ j. filter is_kept (map (λ (e : NamedInode). piece_in piece e.0) (cond (d j) (entry ∷ filter (λ (e : NamedInode). is_directory e.1) entries) (filter (λ (e : NamedInode). is_directory e.1) entries))))
+        ∙ ((λ j. cond (e j) (piece_in piece entry.0 ∷ filter is_kept (directories_among piece entries)) (filter is_kept (directories_among piece entries)))
+        ∙ (ap (λ (ps : List Piece). piece_in piece entry.0 ∷ ps) (later none_later)
+        ∙ sym (λ j. map (λ (e : NamedInode). piece_in piece e.0) (cond (d j) (entry ∷ filter (λ (e : NamedInode). is_directory e.1) entries) (filter (λ (e : NamedInode). is_directory e.1) entries)))))
     by later true d false e none =
         let bad : true ≡ false = sym (λ j. (d j && not (e j)) || list_any (is_past_limits piece.dir) entries) ∙ none in cc
 
@@ -146,7 +146,7 @@ module _ (root : Inode) (views : List View) (new : NewLayer) (by : IsToldWithin 
     deepest = by.deepest;
     told = by.told;
     rooted = by.rooted;
-    walk = plain-whole (tree_kids tree) (tree_out tree) root_piece views by.walk (λ p h.
+    walk = plain-whole (tree_kids tree) (tree_out tree) (space_root 0) views by.walk (λ p h.
         kept-all p (tree p.dir) (any-none leaves_out views none (own_view (visited_kids (tree_kids tree)) (tree_out tree) p)
         (subst (In (own_view (visited_kids (tree_kids tree)) (tree_out tree) p)) (sym by.walk.own) (In-map (own_view (visited_kids (tree_kids tree)) (tree_out tree)) p (pieces_of views) h))));
   }

@@ -13,10 +13,11 @@ use Rattle.ovl_layer.specs.Siblings.{CanStand}
 use Rattle.ovl_layer.proofs.BackLemmas.{pairs-back}
 use Rattle.ovl_layer.proofs.NodeLemmas.{placed-root}
 use Rattle.ovl_layer.proofs.SiblingLemmas.{stand-layer}
+use Rattle.ovl_board.specs.Pieces.{space_root}
 use Rattle.ovl_board.specs.Parcels.{IsPlain}
 use Rattle.ovl_board.proofs.LawsOfWalks.{IsPlain-from_preorder, HasReachedPieces-holds}
 use Rattle.ovl_rewrite.specs.Passes.{Tree, IsTree, tree_kids, tree_out, entries_under, View, views_under, WalksUnder, StopsUnder}
-use Rattle.ovl_rewrite.specs.NewLayers.{NewLayer, IsOf, IsToldBy, tree_by, root_piece}
+use Rattle.ovl_rewrite.specs.NewLayers.{NewLayer, IsOf, IsToldBy, tree_by}
 use Rattle.ovl_rewrite.proofs.TreeLemmas.{told-ascend, told-of, is-tree}
 
 -- ---- pairs that are a layer are its entries
@@ -61,11 +62,11 @@ layer-refused entries fault is told = told-memory entries fault (subst (λ (r : 
 -- ---- the entries that the parcels tell
 
 -- the plain walk has the parcels under the root
-walk-under : (tree : Tree) (deepest : ℕ) → IsTree tree deepest → (views : List View) → IsPlain (tree_kids tree) (tree_out tree) root_piece views → views ≡ views_under tree deepest root_piece
+walk-under : (tree : Tree) (deepest : ℕ) → IsTree tree deepest → (views : List View) → IsPlain (tree_kids tree) (tree_out tree) (space_root 0) views → views ≡ views_under tree deepest (space_root 0)
 walk-under tree deepest is views plain =
-    let nodes : List View = views_under tree deepest root_piece in
-    let other = IsPlain-from_preorder (tree_kids tree) (tree_out tree) deepest is.lawful root_piece nodes refl in
-    sym ((HasReachedPieces-holds (tree_kids tree) (tree_out tree) root_piece views plain).3 nodes other)
+    let nodes : List View = views_under tree deepest (space_root 0) in
+    let other = IsPlain-from_preorder (tree_kids tree) (tree_out tree) deepest is.lawful (space_root 0) nodes refl in
+    sym ((HasReachedPieces-holds (tree_kids tree) (tree_out tree) (space_root 0) views plain).3 nodes other)
 
 -- those of its tree are in order, and have at each path what the new layer has
 module _ (root : Inode) (views : List View) (new : NewLayer) (by : IsToldBy new root views) where
@@ -82,23 +83,23 @@ module _ (root : Inode) (views : List View) (new : NewLayer) (by : IsToldBy new 
   is = is-tree new by.names by.deepest by.told
 
   abbrev whole : List View
-  whole = views_under tree (suc by.deepest) root_piece
+  whole = views_under tree (suc by.deepest) (space_root 0)
 
   all-views : views ≡ whole ++ []
   all-views = walk-under tree (suc by.deepest) is views by.walk ∙ sym (append-nil whole)
 
-  at_root : suc by.deepest - length root_piece.dir ≡ suc by.deepest
+  at_root : suc by.deepest - length (space_root 0).dir ≡ suc by.deepest
   at_root = omega arith
 
   pub told-whole : (after : List View) (below : Entries) → WalksUnder views after below → entries_from root below ≡ told_entries
   told-whole after below walks =
       ap (λ (entries : Entries). ([], root) ∷ entries)
-      (sym (placed-root below) ∙ ((walks tree (suc by.deepest) is root_piece [] all-views).1 ∙ ap (λ n. entries_under tree n []) at_root))
+      (sym (placed-root below) ∙ ((walks tree (suc by.deepest) is (space_root 0) [] all-views).1 ∙ ap (λ n. entries_under tree n []) at_root))
 
   -- no layer has them where none has those under the root
   pub told-stops : StopsUnder views → IsLayer told_entries → ⊥
   told-stops stops layer =
-      stops tree (suc by.deepest) is root_piece [] all-views
+      stops tree (suc by.deepest) is (space_root 0) [] all-views
       (subst (λ (n : ℕ). CanStand (entries_under tree n [])) (sym at_root) (stand-layer root (entries_under tree (suc by.deepest) []) layer))
 
 -- ---- two facts of what is given

@@ -13,11 +13,12 @@ use Rattle.ovl_layer.specs.Siblings.{CanStand}
 use Rattle.ovl_layer.proofs.NodeLemmas.{placed-append, placed-under}
 use Rattle.ovl_layer.proofs.SiblingLemmas.{stand-front, stand-back, stand-placed}
 use Rattle.ovl_board.specs.declared.pieces.Piece.{Piece}
+use Rattle.ovl_board.specs.Pieces.{piece_in}
 use Rattle.ovl_board.specs.Walks.{preorder}
 use Rattle.ovl_board.specs.Parcels.{own_view}
 use Rattle.ovl_board.proofs.LawsOfMembers.{get_or-In, Contains-In, In}
 use Rattle.ovl_board.proofs.LawsOfWalks.{preorder_step}
-use Rattle.ovl_rewrite.specs.Directories.{NamedInode, piece_in, directories_among}
+use Rattle.ovl_rewrite.specs.Directories.{NamedInode, directories_among}
 use Rattle.ovl_rewrite.specs.Passes.{Tree, IsTree, tree_kids, tree_out, entries_under, View, views_under, WalksUnder, StopsUnder}
 
 module _ (tree : Tree) (deepest : ℕ) where
@@ -43,18 +44,18 @@ module _ (tree : Tree) (deepest : ℕ) where
 
   -- a directory among the entries
   directory-views : (piece : Piece) (entry : NamedInode) (entries : List NamedInode) → is_directory entry.1 ≡ true
-      → views_among piece (entry ∷ entries) ≡ views_under tree deepest (piece_in piece entry) ++ views_among piece entries
+      → views_among piece (entry ∷ entries) ≡ views_under tree deepest (piece_in piece entry.0) ++ views_among piece entries
   directory-views piece entry entries is =
       let walked : Piece → List Piece = λ kid. preorder (tree_kids tree) (room piece - 1) kid in
-      ap (λ b. map own (flat_map walked (map (piece_in piece) (cond b (entry ∷ filter (λ e. is_directory e.1) entries) (filter (λ e. is_directory e.1) entries))))) is
-      ∙ (map-append own (walked (piece_in piece entry)) (flat_map walked (directories_among piece entries))
-      ∙ ap (λ n. map own (preorder (tree_kids tree) n (piece_in piece entry)) ++ views_among piece entries) (sym (room-child piece entry)))
+      ap (λ b. map own (flat_map walked (map (λ (e : NamedInode). piece_in piece e.0) (cond b (entry ∷ filter (λ e. is_directory e.1) entries) (filter (λ e. is_directory e.1) entries))))) is
+      ∙ (map-append own (walked (piece_in piece entry.0)) (flat_map walked (directories_among piece entries))
+      ∙ ap (λ n. map own (preorder (tree_kids tree) n (piece_in piece entry.0)) ++ views_among piece entries) (sym (room-child piece entry)))
 
   -- another entry has none
   file-views : (piece : Piece) (entry : NamedInode) (entries : List NamedInode) → is_directory entry.1 ≡ false → views_among piece (entry ∷ entries) ≡ views_among piece entries
   file-views piece entry entries is =
       let walked : Piece → List Piece = λ kid. preorder (tree_kids tree) (room piece - 1) kid in
-      ap (λ b. map own (flat_map walked (map (piece_in piece) (cond b (entry ∷ filter (λ e. is_directory e.1) entries) (filter (λ e. is_directory e.1) entries))))) is
+      ap (λ b. map own (flat_map walked (map (λ (e : NamedInode). piece_in piece e.0) (cond b (entry ∷ filter (λ e. is_directory e.1) entries) (filter (λ e. is_directory e.1) entries))))) is
 
   more-entries : (piece : Piece) (entries : List NamedInode) (entry : NamedInode)
       → entries_among piece (entries ++ entry ∷ []) ≡ entries_among piece entries ++ told (deepest - length (child_path piece.dir entry.0)) piece.dir entry
@@ -161,18 +162,18 @@ module _ (before : List View) (view : View) (later : List View) (first : before 
 
     -- the parcels that are left, where the entry is a directory: those at and under it first
     left-first : (tree : Tree) (deepest : ℕ) (piece : Piece) (rest : List View) → At tree deepest piece rest → is_directory entry.1 ≡ true
-        → after ≡ views_under tree deepest (piece_in piece entry) ++ (views_among tree deepest piece (drop (i + 1) (tree piece.dir)) ++ rest)
+        → after ≡ views_under tree deepest (piece_in piece entry.0) ++ (views_among tree deepest piece (drop (i + 1) (tree piece.dir)) ++ rest)
     left-first tree deepest piece rest a directory =
         a.left
         ∙ (ap (λ (views : List View). views ++ rest) (directory-views tree deepest piece entry (drop (i + 1) (tree piece.dir)) directory)
-        ∙ append_assoc (views_under tree deepest (piece_in piece entry)) (views_among tree deepest piece (drop (i + 1) (tree piece.dir))) rest)
+        ∙ append_assoc (views_under tree deepest (piece_in piece entry.0)) (views_among tree deepest piece (drop (i + 1) (tree piece.dir))) rest)
 
     pub walk-directory : is_directory entry.1 ≡ true → (further : List View) (kids : Entries)
         → WalksUnder after further kids → WalksAmong before further (i + 1) (mid ++ under entry.0 (entries_from entry.1 kids))
     walk-directory directory further kids below tree deepest is piece rest is_under =
         let a = at tree deepest is piece rest is_under in
         let more : List View = views_among tree deepest piece (drop (i + 1) (tree piece.dir)) in
-        let done = below tree deepest is (piece_in piece entry) (more ++ rest) (left-first tree deepest piece rest a directory) in
+        let done = below tree deepest is (piece_in piece entry.0) (more ++ rest) (left-first tree deepest piece rest a directory) in
         (done.0, grown tree deepest piece rest a kids done.1)
 
     pub walk-file : is_directory entry.1 ≡ false → (kids : Entries) → kids ≡ [] → WalksAmong before after (i + 1) (mid ++ under entry.0 (entries_from entry.1 kids))
@@ -195,5 +196,5 @@ module _ (before : List View) (view : View) (later : List View) (first : before 
         subst (λ (es : List NamedInode). CanStand (entries_among tree deepest piece es)) a.onward
         (stand-back (entries_among tree deepest piece (take i (tree piece.dir))) (entries_among tree deepest piece (drop i (tree piece.dir))) (subst CanStand (parted tree deepest is piece i) can)) in
         let own : CanStand under_it = stand-back ((path, entry.1) ∷ []) under_it (stand-front ((path, entry.1) ∷ under_it) (entries_among tree deepest piece others) behind) in
-        stops tree deepest is (piece_in piece entry) (views_among tree deepest piece others ++ rest) (left-first tree deepest piece rest a directory)
+        stops tree deepest is (piece_in piece entry.0) (views_among tree deepest piece others ++ rest) (left-first tree deepest piece rest a directory)
         (subst (λ (n : ℕ). CanStand (entries_under tree n path)) (sym (room-child tree deepest piece entry)) own)

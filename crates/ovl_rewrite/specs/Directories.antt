@@ -9,21 +9,18 @@ use Rattle.ovl_inode.specs.declared.inodes.Inode.{Inode}
 use Rattle.ovl_inode.specs.Marks.{is_directory}
 use Rattle.ovl_layer.specs.Layers.{is_within_limits}
 use Rattle.ovl_board.specs.declared.pieces.Piece.{Piece}
+use Rattle.ovl_board.specs.Pieces.{piece_in}
 use Rattle.ovl_rewrite.specs.declared.rooms.NameRoom.{NameRoom}
 
 -- an entry of a directory: its name and its inode
 abbrev pub NamedInode : Type 0
 NamedInode = PathName × Inode
 
--- an entry of a piece's directory as a piece
-abbrev pub piece_in : Piece → NamedInode → Piece
-piece_in piece entry = record { space = piece.space; dir = child_path piece.dir entry.0 }
-
 -- the kids of a directory are the directories in it, and its output is each name in it, in order,
 -- with its inode
 abbrev pub directories_among : Piece → List NamedInode → List Piece
 directories_among piece entries =
-    map (piece_in piece) (filter (λ entry. is_directory entry.1) entries)
+    map (λ entry. piece_in piece entry.0) (filter (λ entry. is_directory entry.1) entries)
 
 -- a manifest can hold a piece's directory
 abbrev pub is_kept : Piece → Bool

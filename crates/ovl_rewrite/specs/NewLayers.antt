@@ -10,6 +10,7 @@ use Rattle.ovl_inode.specs.declared.inodes.Inode.{Inode}
 use Rattle.ovl_inode.specs.Marks.{is_directory}
 use Rattle.ovl_layer.specs.Layers.{Entries, entry_at}
 use Rattle.ovl_board.specs.declared.pieces.Piece.{Piece}
+use Rattle.ovl_board.specs.Pieces.{space_root}
 use Rattle.ovl_board.specs.Parcels.{IsPlain}
 use Rattle.ovl_rewrite.specs.Directories.{NamedInode, directories_among, visited_kids, is_past_limits}
 use Rattle.ovl_rewrite.specs.Passes.{Tree, View, tree_kids, tree_out}
@@ -62,17 +63,13 @@ pub record IsTold (new : NewLayer) (names : PathNames → List PathName) (deepes
   pub shallow : (directory : PathNames) → has_directory new directory ≡ true
       → length directory ≤ deepest
 
--- the root as a piece
-abbrev pub root_piece : Piece
-root_piece = record { space = 0; dir = [] }
-
 -- parcels tell a new layer with this root: they are the plain walk over its directories
 pub record IsToldBy (new : NewLayer) (root : Inode) (views : List View) : Type 0 where
   pub names : PathNames → List PathName
   pub deepest : ℕ
   pub told : IsTold new names deepest
   pub rooted : new [] ≡ Some root
-  pub walk : IsPlain (tree_kids (tree_by new names)) (tree_out (tree_by new names)) root_piece views
+  pub walk : IsPlain (tree_kids (tree_by new names)) (tree_out (tree_by new names)) (space_root 0) views
 
 -- the same where what no manifest can hold is left out of the walk
 pub record IsToldWithin (new : NewLayer) (root : Inode) (views : List View) : Type 0 where
@@ -81,7 +78,7 @@ pub record IsToldWithin (new : NewLayer) (root : Inode) (views : List View) : Ty
   pub told : IsTold new names deepest
   pub rooted : new [] ≡ Some root
   pub walk : IsPlain (visited_kids (tree_kids (tree_by new names))) (tree_out (tree_by new names))
-      root_piece views
+      (space_root 0) views
 
 -- something was left out at a directory
 abbrev pub leaves_out : View → Bool

@@ -21,10 +21,7 @@ pub fn directories(
     let mut kids = Vec::new(alloc);
     for (name, inode) in inodes {
         if is_directory(inode) && room.fits(name) {
-            kids.push(Piece {
-                space: piece.space,
-                dir: piece.dir.child(alloc, name)?,
-            })?;
+            kids.push(piece.child(alloc, name)?)?;
         }
     }
     Ok(kids)

@@ -2,10 +2,9 @@
 use Rattle.std.proofs.Common.{◌≡◌, ◌≤◌, inl, inr, Bool, true, false, cond, Option, Some, None, List, [], ◌∷◌, length, map, refl, sym, ap, ◌∙◌, subst}
 use Rattle.std.specs.Prelude.{filter}
 use Rattle.std.specs.List.{cons_option, list_all}
-use Rattle.std.specs.Ordering.{is_lt, ordering_then}
+use Rattle.std.specs.Ordering.{is_lt}
 use Rattle.std.specs.declared.cmp.Ordering.TheVariants.{Less}
 use Rattle.std.specs.Cmp.Lexicographic.{nat_list_cmp_total, pointwise_decides, bytes_decides}
-use Rattle.std.proofs.lemmas.Cmp.{tied_itself, nat_cmp_total}
 use Rattle.ovl_names.specs.Names.{PathName, name_eq, name_cmp}
 use Rattle.ovl_names.specs.Order.{ascends}
 use Rattle.ovl_names.specs.Paths.{PathNames, child_path, path_eq, path_cmp, depth_limit}
@@ -14,10 +13,9 @@ use Rattle.ovl_inode.specs.declared.inodes.Inode.{Inode}
 use Rattle.ovl_layer.specs.Layers.{Entries, Entry, entry_at, entry_cmp, name_below, names_below, IsLayer}
 use Rattle.ovl_lookup.proofs.LawsOfWalks.{entry-limited, name_below-child}
 use Rattle.ovl_board.specs.declared.pieces.Piece.{Piece}
-use Rattle.ovl_board.specs.Pieces.{IsBefore, IsOneBelow, HasLawfulKids}
-use Rattle.ovl_board.proofs.LawsOfMembers.{In, Every, Rises, All-Every, AllPairs-Rises, In-map-cases, In-filter-cases, Rises-filter}
-use Rattle.ovl_board.proofs.LawsOfPieces.{siblings, fork_before}
-use Rattle.ovl_vacuum.specs.Directories.{piece_in}
+use Rattle.ovl_board.specs.Pieces.{piece_in, HasLawfulKids}
+use Rattle.ovl_board.proofs.LawsOfMembers.{In, Every, Rises, All-Every, In-map-cases, In-filter-cases, Rises-filter}
+use Rattle.ovl_board.proofs.LawsOfPieces.{siblings, entries-lawful}
 
 -- ---- the paths of a layer
 
@@ -111,17 +109,6 @@ names-rise (entry ∷ layer) directory up = by (names-rise layer directory up.1)
 
 -- ---- the pieces of those that pass a test are lawful kids
 
-kids-rise : (piece : Piece) (names : List PathName) → Rises NameBefore names → Rises IsBefore (map (piece_in piece) names)
-kids-rise piece [] up = tt
-kids-rise piece (name ∷ names) up = (
-  (λ kid h.
-      let other = In-map-cases (piece_in piece) kid names h in
-      subst (IsBefore (piece_in piece name)) (sym other.1.1)
-      (ap (λ o. ordering_then o (path_cmp (child_path piece.dir name) (child_path piece.dir other.0))) (tied_itself nat_cmp_total piece.space)
-      ∙ fork_before name_cmp nat_list_cmp_total piece.dir name other.0 [] [] (up.0 other.0 other.1.0))),
-  kids-rise piece names up.1,
-)
-
 module _ (layer : Entries) (test : PathNames → Bool) where
   abbrev pub kids_that : Piece → List Piece
   kids_that piece = map (piece_in piece) (filter (λ name. test (child_path piece.dir name)) (names_below layer piece.dir))
@@ -135,15 +122,9 @@ module _ (layer : Entries) (test : PathNames → Bool) where
 
   pub kids-lawful : IsLayer layer → HasLawfulKids kids_that depth_limit
   kids-lawful is = record {
-    lawful = λ piece. record {
-      below = All-Every (IsOneBelow piece) (kids_that piece) (λ kid h.
-          let one = kid-path piece kid h in
-          subst (IsOneBelow piece) (sym one.1.1.1) (refl, (one.0, refl)));
-      ascend = AllPairs-Rises IsBefore (kids_that piece)
-          (kids-rise piece (filter (λ name. test (child_path piece.dir name)) (names_below layer piece.dir))
-          (Rises-filter NameBefore (λ name. test (child_path piece.dir name)) (names_below layer piece.dir)
-          (names-rise layer piece.dir (paths-rise layer is.in_order))));
-    };
+    lawful = λ piece. entries-lawful (λ name. name) piece (filter (λ name. test (child_path piece.dir name)) (names_below layer piece.dir))
+        (Rises-filter NameBefore (λ name. test (child_path piece.dir name)) (names_below layer piece.dir)
+        (names-rise layer piece.dir (paths-rise layer is.in_order)));
     shallow = λ piece. All-Every (λ kid. length kid.dir ≤ depth_limit) (kids_that piece) (λ kid h.
         let one = kid-path piece kid h in
         let entry = path-entry layer (child_path piece.dir one.0) one.1.0 in

@@ -31,12 +31,12 @@ use Rattle.ovl_lookup.proofs.LawsOfWalks.{entry-of_row, entry-parent, entry-abov
 use Rattle.ovl_board.specs.declared.pieces.Piece.{Piece}
 use Rattle.ovl_board.specs.declared.works.Parcel.{Parcel}
 use Rattle.ovl_board.specs.Parcels.{ParcelView, parcel_view, parcel_views, pieces_of, own_view}
-use Rattle.ovl_board.specs.Pieces.{IsBefore}
+use Rattle.ovl_board.specs.Pieces.{piece_at, piece_in, IsBefore}
 use Rattle.ovl_board.specs.Walks.{Reached, start, next, ToKid}
 use Rattle.ovl_board.proofs.LawsOfMembers.{In, Rises, AllPairs-Rises, Rises-AllPairs, Contains-In, In-Contains, In-map, In-map-cases, In-filter-cases, Rises-filter, Every-All, place, rising_same}
 use Rattle.ovl_board.proofs.LawsOfPieces.{before_trans, less_differs, piece_eq}
 use Rattle.ovl_vacuum.specs.Vacuum.{is_idle, is_idle_throughout, vacuumed_layer, removed_paths}
-use Rattle.ovl_vacuum.specs.Directories.{IdleName, idle_name, names_seen, is_idle_at, piece_in, vacuum_kids, vacuum_out, vacuum_root, IsVacuumWalk}
+use Rattle.ovl_vacuum.specs.Directories.{IdleName, idle_name, names_seen, is_idle_at, vacuum_kids, vacuum_out, vacuum_root, IsVacuumWalk}
 use Rattle.ovl_vacuum.specs.Passes.{idle_flags, gone_flags, names_told, IsTold, TellsBelow}
 use Rattle.ovl_vacuum.proofs.VacuumLemmas.{idle-at}
 use Rattle.ovl_vacuum.proofs.KeptLemmas.{root-stays, throughout-child, IsLayer-vacuumed}
@@ -166,9 +166,6 @@ directory-earlier layer up number directory name inside within path = by (cases_
 
 -- ---- the parcels are those of the directories, in the order of their rows
 
-abbrev piece_of : PathNames → Piece
-piece_of path = record { space = 0; dir = path }
-
 -- the directories among these paths
 abbrev directories_in : Entries → List PathNames → List PathNames
 directories_in layer paths = filter (is_directory_at layer) paths
@@ -183,12 +180,12 @@ In-filter {X} test x (y ∷ xs) h is = by (In-filter test x xs) (test y) refl h
     by later false e (inl same) = let bad : true ≡ false = sym is ∙ (ap test same ∙ e) in cc
     by later false e (inr k) = later k is
 
-pieces-rise : (paths : List PathNames) → Rises PathBefore paths → Rises IsBefore (map piece_of paths)
+pieces-rise : (paths : List PathNames) → Rises PathBefore paths → Rises IsBefore (map (piece_at 0) paths)
 pieces-rise [] up = tt
 pieces-rise (path ∷ paths) up = (
   (λ piece h.
-      let other = In-map-cases piece_of piece paths h in
-      subst (IsBefore (piece_of path)) (sym other.1.1) (up.0 other.0 other.1.0)),
+      let other = In-map-cases (piece_at 0) piece paths h in
+      subst (IsBefore (piece_at 0 path)) (sym other.1.1) (up.0 other.0 other.1.0)),
   pieces-rise paths up.1,
 )
 
@@ -205,44 +202,44 @@ module _ (stack : StackView) (is : IsLayer (top_layer stack)) where
       In-filter (is_directory_at (top_layer stack)) path (paths_of (top_layer stack)) (entry-path (top_layer stack) path found.0 found.1) holds
 
   -- what is reached is a directory of the layer
-  reached-told : (piece : Piece) → Reached (ToKid (vacuum_kids stack)) vacuum_root piece → In piece (map piece_of (directories_in (top_layer stack) (paths_of (top_layer stack))))
-  reached-told _ start = In-map piece_of [] directories (directory-In [] is.rooted)
+  reached-told : (piece : Piece) → Reached (ToKid (vacuum_kids stack)) vacuum_root piece → In piece (map (piece_at 0) (directories_in (top_layer stack) (paths_of (top_layer stack))))
+  reached-told _ start = In-map (piece_at 0) [] directories (directory-In [] is.rooted)
   reached-told _ (next {p = piece} {q = kid} reached step) =
-      let above = In-map-cases piece_of piece directories (reached-told piece reached) in
+      let above = In-map-cases (piece_at 0) piece directories (reached-told piece reached) in
       let one = kid-path layer (is_directory_at layer) piece kid (In-Contains kid (vacuum_kids stack piece) step) in
-      let same : kid ≡ piece_of (child_path piece.dir one.0) = one.1.1.1 ∙ piece_eq (piece_in piece one.0) (piece_of (child_path piece.dir one.0)) (ap (λ (p : Piece). p.space) above.1.1) refl in
-      subst (λ (p : Piece). In p (map piece_of directories)) (sym same) (In-map piece_of (child_path piece.dir one.0) directories (directory-In (child_path piece.dir one.0) one.1.1.0))
+      let same : kid ≡ piece_at 0 (child_path piece.dir one.0) = one.1.1.1 ∙ piece_eq (piece_in piece one.0) (piece_at 0 (child_path piece.dir one.0)) (ap (λ (p : Piece). p.space) above.1.1) refl in
+      subst (λ (p : Piece). In p (map (piece_at 0) directories)) (sym same) (In-map (piece_at 0) (child_path piece.dir one.0) directories (directory-In (child_path piece.dir one.0) one.1.1.0))
 
-  step-to : (path : PathNames) (name : PathName) → is_directory_at (top_layer stack) (child_path path name) ≡ true → ToKid (vacuum_kids stack) (piece_of path) (piece_of (child_path path name))
+  step-to : (path : PathNames) (name : PathName) → is_directory_at (top_layer stack) (child_path path name) ≡ true → ToKid (vacuum_kids stack) (piece_at 0 path) (piece_at 0 (child_path path name))
   step-to path name holds =
       let found = directory-entry layer (child_path path name) holds in
-      Contains-In (piece_of (child_path path name)) (vacuum_kids stack (piece_of path))
-      (In-map (piece_in (piece_of path)) name (filter (λ own. is_directory_at layer (child_path path own)) (names_below layer path))
+      Contains-In (piece_at 0 (child_path path name)) (vacuum_kids stack (piece_at 0 path))
+      (In-map (piece_in (piece_at 0 path)) name (filter (λ own. is_directory_at layer (child_path path own)) (names_below layer path))
       (In-filter (λ own. is_directory_at layer (child_path path own)) name (names_below layer path) (In-name layer path name (entry-path layer (child_path path name) found.0 found.1)) holds))
 
-  reach : (front rest : PathNames) → Reached (ToKid (vacuum_kids stack)) vacuum_root (piece_of front) → is_directory_at (top_layer stack) (front ++ rest) ≡ true → Reached (ToKid (vacuum_kids stack)) vacuum_root (piece_of (front ++ rest))
-  reach front [] reached holds = subst (λ (p : PathNames). Reached (ToKid (vacuum_kids stack)) vacuum_root (piece_of p)) (sym (append-nil front)) reached
+  reach : (front rest : PathNames) → Reached (ToKid (vacuum_kids stack)) vacuum_root (piece_at 0 front) → is_directory_at (top_layer stack) (front ++ rest) ≡ true → Reached (ToKid (vacuum_kids stack)) vacuum_root (piece_at 0 (front ++ rest))
+  reach front [] reached holds = subst (λ (p : PathNames). Reached (ToKid (vacuum_kids stack)) vacuum_root (piece_at 0 p)) (sym (append-nil front)) reached
   reach front (name ∷ rest) reached holds =
       let whole : child_path front name ++ rest ≡ front ++ name ∷ rest = append_assoc front (name ∷ []) rest in
       let there : is_directory_at layer (child_path front name ++ rest) ≡ true = ap (is_directory_at layer) whole ∙ holds in
       let own = directory-above layer (child_path front name) rest is there in
-      subst (λ (p : PathNames). Reached (ToKid (vacuum_kids stack)) vacuum_root (piece_of p)) whole
+      subst (λ (p : PathNames). Reached (ToKid (vacuum_kids stack)) vacuum_root (piece_at 0 p)) whole
       (reach (child_path front name) rest (next reached (step-to front name own)) there)
 
-  pieces-told : (views : List (ParcelView (List IdleName))) → IsVacuumWalk stack views → pieces_of views ≡ map piece_of (directories_in (top_layer stack) (paths_of (top_layer stack)))
-  pieces-told views plain = rising_same IsBefore (λ x lt. less_differs x x lt refl) before_trans (pieces_of views) (map piece_of directories)
+  pieces-told : (views : List (ParcelView (List IdleName))) → IsVacuumWalk stack views → pieces_of views ≡ map (piece_at 0) (directories_in (top_layer stack) (paths_of (top_layer stack)))
+  pieces-told views plain = rising_same IsBefore (λ x lt. less_differs x x lt refl) before_trans (pieces_of views) (map (piece_at 0) directories)
       (Rises-AllPairs IsBefore (pieces_of views) plain.walk.ascend)
       (pieces-rise directories (Rises-filter PathBefore (is_directory_at layer) (paths_of layer) (paths-rise layer is.in_order)))
       (λ piece h. reached-told piece (Every-All (Reached (ToKid (vacuum_kids stack)) vacuum_root) (pieces_of views) plain.walk.reached piece h))
       (λ piece h.
-      let one = In-map-cases piece_of piece directories h in
+      let one = In-map-cases (piece_at 0) piece directories h in
       let holds = (In-filter-cases (is_directory_at layer) one.0 (paths_of layer) one.1.0).1 in
       In-Contains piece (pieces_of views) (plain.walk.whole piece (subst (Reached (ToKid (vacuum_kids stack)) vacuum_root) (sym one.1.1) (reach [] one.0 start holds))))
 
 -- the parcels from a place on are those of the directories among the rows from a number on
 abbrev pub AreLeft : StackView → List (Parcel (Vec IdleName Global)) → ℕ → ℕ → Type 0
 AreLeft stack parcels at number =
-    drop at (pieces_of (parcel_views names_seen parcels)) ≡ map piece_of (directories_in (top_layer stack) (drop number (paths_of (top_layer stack))))
+    drop at (pieces_of (parcel_views names_seen parcels)) ≡ map (piece_at 0) (directories_in (top_layer stack) (drop number (paths_of (top_layer stack))))
 
 module _ (stack : StackView) (is : IsLayer (top_layer stack)) (parcels : List (Parcel (Vec IdleName Global))) (plain : IsVacuumWalk stack (parcel_views names_seen parcels)) where
   abbrev views : List (ParcelView (List IdleName))
@@ -263,15 +260,15 @@ module _ (stack : StackView) (is : IsLayer (top_layer stack)) (parcels : List (P
     pub left-file : is_directory_at (top_layer stack) (path_at (top_layer stack) number) ≡ false → AreLeft stack parcels at (number + 1)
     left-file file =
         left
-        ∙ (ap (λ (ps : List PathNames). map piece_of (directories_in (top_layer stack) ps)) next-path
-        ∙ ap (λ b. map piece_of (cond b (path ∷ directories_in (top_layer stack) (drop (number + 1) (paths_of (top_layer stack)))) (directories_in (top_layer stack) (drop (number + 1) (paths_of (top_layer stack)))))) file)
+        ∙ (ap (λ (ps : List PathNames). map (piece_at 0) (directories_in (top_layer stack) ps)) next-path
+        ∙ ap (λ b. map (piece_at 0) (cond b (path ∷ directories_in (top_layer stack) (drop (number + 1) (paths_of (top_layer stack)))) (directories_in (top_layer stack) (drop (number + 1) (paths_of (top_layer stack)))))) file)
 
     module _ (holds : is_directory_at (top_layer stack) (path_at (top_layer stack) number) ≡ true) where
-      left-next : drop at (pieces_of (parcel_views names_seen parcels)) ≡ piece_of (path_at (top_layer stack) number) ∷ map piece_of (directories_in (top_layer stack) (drop (number + 1) (paths_of (top_layer stack))))
+      left-next : drop at (pieces_of (parcel_views names_seen parcels)) ≡ piece_at 0 (path_at (top_layer stack) number) ∷ map (piece_at 0) (directories_in (top_layer stack) (drop (number + 1) (paths_of (top_layer stack))))
       left-next =
           left
-          ∙ (ap (λ (ps : List PathNames). map piece_of (directories_in (top_layer stack) ps)) next-path
-          ∙ ap (λ b. map piece_of (cond b (path ∷ directories_in (top_layer stack) (drop (number + 1) (paths_of (top_layer stack)))) (directories_in (top_layer stack) (drop (number + 1) (paths_of (top_layer stack)))))) holds)
+          ∙ (ap (λ (ps : List PathNames). map (piece_at 0) (directories_in (top_layer stack) ps)) next-path
+          ∙ ap (λ b. map (piece_at 0) (cond b (path ∷ directories_in (top_layer stack) (drop (number + 1) (paths_of (top_layer stack)))) (directories_in (top_layer stack) (drop (number + 1) (paths_of (top_layer stack)))))) holds)
 
       many : at < length (pieces_of (parcel_views names_seen parcels))
       many = omega (arith, ap length left-next, length-drop at (pieces_of views))
@@ -279,7 +276,7 @@ module _ (stack : StackView) (is : IsLayer (top_layer stack)) (parcels : List (P
       pub left-inside : at < length parcels
       left-inside = omega (arith, many, length-map views (λ (v : ParcelView (List IdleName)). v.piece), length-map parcels (parcel_view names_seen))
 
-      heads : get_or (pieces_of (parcel_views names_seen parcels)) at vacuum_root ∷ drop (at + 1) (pieces_of (parcel_views names_seen parcels)) ≡ piece_of (path_at (top_layer stack) number) ∷ map piece_of (directories_in (top_layer stack) (drop (number + 1) (paths_of (top_layer stack))))
+      heads : get_or (pieces_of (parcel_views names_seen parcels)) at vacuum_root ∷ drop (at + 1) (pieces_of (parcel_views names_seen parcels)) ≡ piece_at 0 (path_at (top_layer stack) number) ∷ map (piece_at 0) (directories_in (top_layer stack) (drop (number + 1) (paths_of (top_layer stack))))
       heads = sym (drop_more (pieces_of views) at vacuum_root many) ∙ left-next
 
       pub left-after : AreLeft stack parcels (at + 1) (number + 1)
@@ -290,8 +287,8 @@ module _ (stack : StackView) (is : IsLayer (top_layer stack)) (parcels : List (P
       left-names parcel is_parcel =
           let own : Piece → ParcelView (List IdleName) = own_view (vacuum_kids stack) (vacuum_out stack) in
           let view : ParcelView (List IdleName) = parcel_view names_seen parcel in
-          let piece : get_or (pieces_of views) at vacuum_root ≡ piece_of path = ap (λ (ps : List Piece). get_or ps 0 vacuum_root) heads in
-          let seen : view ≡ own (piece_of path) =
+          let piece : get_or (pieces_of views) at vacuum_root ≡ piece_at 0 path = ap (λ (ps : List Piece). get_or ps 0 vacuum_root) heads in
+          let seen : view ≡ own (piece_at 0 path) =
           ap (parcel_view names_seen) is_parcel
           ∙ (sym (get_or-map (parcel_view names_seen) parcels at parcel view left-inside)
           ∙ (ap (λ (vs : List (ParcelView (List IdleName))). get_or vs at view) plain.own

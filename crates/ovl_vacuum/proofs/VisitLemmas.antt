@@ -38,9 +38,10 @@ use Rattle.ovl_lookup.proofs.LawsOfPaths.{length-child, parent_path-child}
 use Rattle.ovl_lookup.proofs.LawsOfWalks.{natural_path-child, names_below-has, entry-parent, walk-child_directory, walk-child_end, file-is_found, entry-of_row, own-mark, directory_found}
 use Rattle.ovl_lookup.proofs.LawsOfKids.{kid-names-ascend}
 use Rattle.ovl_board.specs.declared.pieces.Piece.{Piece}
+use Rattle.ovl_board.specs.Pieces.{piece_in}
 use Rattle.ovl_board.proofs.LawsOfMembers.{In}
 use Rattle.ovl_vacuum.specs.Vacuum.{may_be_idle, is_idle}
-use Rattle.ovl_vacuum.specs.Directories.{is_idle_at, IdleName, idle_name, piece_in, TellsIdle}
+use Rattle.ovl_vacuum.specs.Directories.{is_idle_at, IdleName, idle_name, TellsIdle}
 use Rattle.ovl_vacuum.specs.declared.directories.Directory.{Directory}
 use Rattle.ovl_vacuum.specs.Visits.{IsVisited, is_metacopy}
 use Rattle.ovl_vacuum.proofs.DirectoryLemmas.{name-In, path-entry}
@@ -68,46 +69,61 @@ own-found layer is path None file = file-names layer is path file
 own-found layer is path (Some own) stands = stands
 
 -- a directory is visited as what it is
-pub visited-own : (stack : StackView) (path : PathNames) (directory : Directory) → IsVisited stack path directory → IsVisited directory.stack.now directory.path.now directory
-visited-own stack path directory is =
-    subst (λ (p : PathNames). IsVisited directory.stack.now p directory) (sym is.stands) (subst (λ (s : StackView). IsVisited s path directory) (sym is.over) is)
+pub visited-own : (stack : StackView) (piece : Piece) (directory : Directory) → IsVisited stack piece directory → IsVisited directory.stack.now directory.piece.now directory
+visited-own stack piece directory is =
+    subst (λ (p : Piece). IsVisited directory.stack.now p directory) (sym is.stands) (subst (λ (s : StackView). IsVisited s piece directory) (sym is.over) is)
 
 -- ---- the rows in a directory, and their names
 
 module _ (layer : Entries) (directory : PathNames) (rows : List ℕ) (paths : map (path_at layer) rows ≡ map (child_path directory) (names_below layer directory)) where
-  pub same-count : length rows ≡ length (names_below layer directory)
+  same-count : length rows ≡ length (names_below layer directory)
   same-count = omega (arith, ap length paths, length-map rows (path_at layer), length-map (names_below layer directory) (child_path directory))
 
-  pub row-stands : (i : ℕ) → i < length rows → path_at layer (get_or rows i 0) ≡ child_path directory (get_or (names_below layer directory) i [])
+  row-stands : (i : ℕ) → i < length rows → path_at layer (get_or rows i 0) ≡ child_path directory (get_or (names_below layer directory) i [])
   row-stands i inside =
       sym (get_or-map (path_at layer) rows i 0 [] inside)
       ∙ (ap (λ (ps : List PathNames). get_or ps i []) paths
       ∙ get_or-map (child_path directory) (names_below layer directory) i [] [] (omega (arith, inside, same-count)))
 
-  -- a row's name is the one at its place
-  pub row-named : (i : ℕ) → i < length rows → (name : PathName) → Some name ≡ last_name (path_at layer (get_or rows i 0)) → name ≡ get_or (names_below layer directory) i []
-  row-named i inside name named =
-      let own : PathName = get_or (names_below layer directory) i [] in
-      let same : Some name ≡ Some own = named ∙ (ap last_name (row-stands i inside) ∙ last_name-child directory own) in
-      ap (λ (o : Option PathName). unwrap_or o name) same
+  row-name : (i : ℕ) → i < length rows → last_name (path_at layer (get_or rows i 0)) ≡ Some (get_or (names_below layer directory) i [])
+  row-name i inside = ap last_name (row-stands i inside) ∙ last_name-child directory (get_or (names_below layer directory) i [])
 
-  pub row-unnamed : (i : ℕ) → i < length rows → None ≡ last_name (path_at layer (get_or rows i 0)) → ⊥
-  row-unnamed i inside unnamed =
-      let own : PathName = get_or (names_below layer directory) i [] in
-      let bad : None ≡ Some own = unnamed ∙ (ap last_name (row-stands i inside) ∙ last_name-child directory own) in cc
+-- a row in a directory, whose name comes next among those of the directory
+pub record IsNextRow (layer : Entries) (directory : PathNames) (row i : ℕ) (name : PathName) : Type 0 where
+  pub stands : path_at layer row ≡ child_path directory name
+  pub more : take (i + 1) (names_below layer directory) ≡ take i (names_below layer directory) ++ name ∷ []
 
-  pub names-more : (i : ℕ) → i < length rows → take (i + 1) (names_below layer directory) ≡ take i (names_below layer directory) ++ get_or (names_below layer directory) i [] ∷ []
-  names-more i inside = take_more (names_below layer directory) i [] (omega (arith, inside, same-count))
+-- the rows of a directory that is visited, as its sheet has them
+module _ (directory : Directory) (is : IsVisited directory.stack.now directory.piece.now directory)
+    (sheet : Entries) (same : sheet ≡ top_layer directory.stack.now) (rows : List ℕ)
+    (are : map (path_at sheet) rows ≡ map (child_path (path_at sheet directory.row)) (names_below sheet (path_at sheet directory.row))) where
+  abbrev top : Entries
+  top = top_layer directory.stack.now
 
-  pub names-all : (i : ℕ) → length rows ≤ i → take i (names_below layer directory) ≡ names_below layer directory
-  names-all i end = take_all i (names_below layer directory) (omega (arith, end, same-count))
+  abbrev dir : PathNames
+  dir = directory.piece.now.dir
 
--- the same of a sheet that is the layer
-pub rows-paths : (sheet layer : Entries) → sheet ≡ layer → (rows : List ℕ) (directory : ℕ) (path : PathNames) → path_at layer directory ≡ path
-    → map (path_at sheet) rows ≡ map (child_path (path_at sheet directory)) (names_below sheet (path_at sheet directory)) → map (path_at layer) rows ≡ map (child_path path) (names_below layer path)
-rows-paths sheet layer same rows directory path here are =
-    subst (λ (p : PathNames). map (path_at layer) rows ≡ map (child_path p) (names_below layer p)) here
-    (subst (λ (l : Entries). map (path_at l) rows ≡ map (child_path (path_at l directory)) (names_below l (path_at l directory))) same are)
+  paths : map (path_at top) rows ≡ map (child_path dir) (names_below top dir)
+  paths =
+      subst (λ (path : PathNames). map (path_at top) rows ≡ map (child_path path) (names_below top path)) is.here
+      (subst (λ (layer : Entries). map (path_at layer) rows ≡ map (child_path (path_at layer directory.row)) (names_below layer (path_at layer directory.row))) same are)
+
+  named : (i : ℕ) → i < length rows → last_name (path_at sheet (get_or rows i 0)) ≡ Some (get_or (names_below top dir) i [])
+  named i inside = (λ j. last_name (path_at (same j) (get_or rows i 0))) ∙ row-name top dir rows paths i inside
+
+  pub next-row : (i : ℕ) → i < length rows → (name : PathName) → Some name ≡ last_name (path_at sheet (get_or rows i 0)) → IsNextRow (top_layer directory.stack.now) directory.piece.now.dir (get_or rows i 0) i name
+  next-row i inside name has =
+      let own : get_or (names_below top dir) i [] ≡ name = ap (λ (o : Option PathName). unwrap_or o name) (sym (has ∙ named i inside)) in
+      record {
+        stands = row-stands top dir rows paths i inside ∙ ap (child_path dir) own;
+        more = take_more (names_below top dir) i [] (omega (arith, inside, same-count top dir rows paths)) ∙ ap (λ (name : PathName). take i (names_below top dir) ++ name ∷ []) own;
+      }
+
+  pub never-unnamed : (i : ℕ) → i < length rows → None ≡ last_name (path_at sheet (get_or rows i 0)) → ⊥
+  never-unnamed i inside unnamed = let bad : None ≡ Some (get_or (names_below top dir) i []) = unnamed ∙ named i inside in cc
+
+  pub names-all : (i : ℕ) → length rows ≤ i → take i (names_below (top_layer directory.stack.now) directory.piece.now.dir) ≡ names_below (top_layer directory.stack.now) directory.piece.now.dir
+  names-all i end = take_all i (names_below top dir) (omega (arith, end, same-count top dir rows paths))
 
 -- what stands in a row
 module _ (layer : Entries) (is : IsLayer layer) (row : ℕ) (inside : row < length layer) (path : PathNames) (stands : path_at layer row ≡ path) (sheet : Entries) (same : sheet ≡ layer) where

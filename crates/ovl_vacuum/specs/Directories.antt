@@ -1,6 +1,6 @@
 -- The directories of the topmost layer as work: a piece is a directory, its kids are the
 -- directories in it, and its output is each name in it with whether its entry is idle.
-use Rattle.std.specs.Prelude.{◌≡◌, ℕ, Bool, true, false, Some, None, List, [], map, filter, Vec}
+use Rattle.std.specs.Prelude.{◌≡◌, Bool, true, false, Some, None, List, map, filter, Vec}
 use Rattle.std.specs.Global.{Global}
 use Rattle.std.specs.Coded.{Coded-set, codes}
 use Rattle.std.specs.Option.{option_map}
@@ -12,6 +12,7 @@ use Rattle.ovl_layer.specs.Layers.{entry_at, is_directory_at, names_below}
 use Rattle.ovl_lookup.specs.Stacks.{StackView}
 pub use Rattle.ovl_lookup.specs.Words.{top_layer, lower_layers}
 use Rattle.ovl_board.specs.declared.pieces.Piece.{Piece}
+use Rattle.ovl_board.specs.Pieces.{space_root, piece_in}
 use Rattle.ovl_board.specs.Parcels.{ParcelView, IsPlain}
 use Rattle.ovl_vacuum.specs.Vacuum.{is_idle}
 
@@ -27,13 +28,6 @@ IdleName = PathName × Bool
 
 abbrev pub idle_name : StackView → PathNames → PathName → IdleName
 idle_name stack directory name = (name, is_idle_at stack (child_path directory name))
-
--- a directory as a piece, and an entry of a piece's directory as one
-abbrev pub directory_piece : ℕ → PathNames → Piece
-directory_piece space path = record { space = space; dir = path }
-
-abbrev pub piece_in : Piece → PathName → Piece
-piece_in piece name = record { space = piece.space; dir = child_path piece.dir name }
 
 -- the kids of a directory are the directories in it, and its output is each name in it, in order,
 -- with whether its entry is idle
@@ -67,7 +61,7 @@ pub record TellsIdle (stack : StackView) : Type 0 where
 
 -- the root of the topmost layer
 abbrev pub vacuum_root : Piece
-vacuum_root = record { space = 0; dir = [] }
+vacuum_root = space_root 0
 
 -- the parcels of the plain walk over the whole topmost layer
 abbrev pub IsVacuumWalk : StackView → List (ParcelView (List IdleName)) → Type 0

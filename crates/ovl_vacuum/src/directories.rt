@@ -1,4 +1,4 @@
-ghost use Rattle.std.specs.Prelude.{◌≡◌, ◌<◌, [], length, map, unwrap_or, IfOk, IfSome, MatchOption};
+ghost use Rattle.std.specs.Prelude.{◌≡◌, ◌<◌, [], length, unwrap_or, IfOk, IfSome, MatchOption};
 ghost use Rattle.ovl_names.specs.Paths.{child_path};
 ghost use Rattle.ovl_layer.specs.Layers.{names_below};
 ghost use Rattle.ovl_layer.specs.Sheets.{path_at};
@@ -9,21 +9,20 @@ ghost use Rattle.ovl_lookup.specs.DirViews.{IsViewOf};
 ghost use Rattle.ovl_lookup.specs.Passes.{IsOwnDirectory};
 ghost use Rattle.ovl_lookup.specs.Words.{top_layer};
 ghost use Rattle.ovl_vacuum.specs.Vacuum.{may_be_idle as idle_mark};
-ghost use Rattle.ovl_vacuum.specs.Directories.{is_idle_at, idle_name, directory_piece, vacuum_kids};
+ghost use Rattle.ovl_vacuum.specs.Directories.{is_idle_at, vacuum_kids, vacuum_out};
 ghost use Rattle.ovl_vacuum.specs.Visits.{IsVisited, IsBelow, is_metacopy as metacopy_mark};
 
-use crate::places::path_in;
 use ovl_board::Piece;
 use ovl_inode::{Inode, Mark, is_directory, visible};
 use ovl_lookup::{DirView, Look, OwnDirectory, Stack, Trail};
 use ovl_names::{Name, Path};
 use std::alloc::{AllocError, Global};
 
-/// A directory of the topmost layer, sought once for all that is in it.
+/// A piece's directory in the topmost layer, sought once for all that is in it.
 #[derive(Drop)]
 pub(crate) struct Directory<'a> {
     stack: &'a Stack,
-    path: &'a Path,
+    piece: &'a Piece,
     // The number of its row.
     row: u32,
     // The view of the layers below where its walk goes on; `None` where that is closed, or they
@@ -32,17 +31,17 @@ pub(crate) struct Directory<'a> {
 }
 
 impl<'a> Directory<'a> {
-    /// The directory that the topmost layer has at a path, and `None` where it has none.
+    /// The directory that the topmost layer has at a piece's path, and `None` where it has none.
     pub(crate) fn of(
         alloc: Global,
         stack: &'a Stack,
-        path: &'a Path,
+        piece: &'a Piece,
     ) -> Result<Option<Directory<'a>>, AllocError>
         ensures { IfOk result (λ found. MatchOption found
-            (names_below (top_layer stack.now) path.now ≡ [])
-            (IsVisited stack.now path.now)) }
+            (names_below (top_layer stack.now) piece.now.dir ≡ [])
+            (IsVisited stack.now piece.now)) }
     {
-        let Some(own) = own_directory(alloc, stack, path)? else {
+        let Some(own) = own_directory(alloc, stack, &piece.dir)? else {
             return Ok(None);
         };
         let OwnDirectory {
@@ -50,10 +49,10 @@ impl<'a> Directory<'a> {
             turned,
             closed,
         } = own;
-        let below = view_below(alloc, stack, path, turned, closed)?;
+        let below = view_below(alloc, stack, &piece.dir, turned, closed)?;
         Ok(Some(Directory {
             stack,
-            path,
+            piece,
             row,
             below,
         }))
@@ -61,37 +60,32 @@ impl<'a> Directory<'a> {
 
     /// The pieces of the directories in it, and the names in it, each with whether its entry is
     /// idle.
-    pub(crate) fn told(
-        &self,
-        alloc: Global,
-        space: u16,
-    ) -> Result<(Vec<Piece>, Vec<(Name, bool)>), AllocError>
-        requires { IsVisited self.now.stack.now self.now.path.now self.now }
-        ensures kids { IfOk result (λ told. told.0.items
-            ≡ vacuum_kids self.now.stack.now (directory_piece space self.now.path.now)) }
-        ensures names { IfOk result (λ told. told.1.items
-            ≡ map (idle_name self.now.stack.now self.now.path.now)
-            (names_below (top_layer self.now.stack.now) self.now.path.now)) }
+    pub(crate) fn told(&self, alloc: Global) -> Result<(Vec<Piece>, Vec<(Name, bool)>), AllocError>
+        requires { IsVisited self.now.stack.now self.now.piece.now self.now }
+        ensures kids { IfOk result
+            (λ told. told.0.items ≡ vacuum_kids self.now.stack.now self.now.piece.now) }
+        ensures names { IfOk result
+            (λ told. told.1.items ≡ vacuum_out self.now.stack.now self.now.piece.now) }
     {
-        let kids = self.kids(alloc, space)?;
+        let kids = self.kids(alloc)?;
         let names = self.idle_names(alloc)?;
         Ok((kids, names))
     }
 
     // The pieces of the directories in it.
-    fn kids(&self, alloc: Global, space: u16) -> Result<Vec<Piece>, AllocError>
-        requires { IsVisited self.now.stack.now self.now.path.now self.now }
+    fn kids(&self, alloc: Global) -> Result<Vec<Piece>, AllocError>
+        requires { IsVisited self.now.stack.now self.now.piece.now self.now }
         ensures { IfOk result
-            (λ kids. kids.items
-            ≡ vacuum_kids self.now.stack.now (directory_piece space self.now.path.now)) }
+            (λ kids. kids.items ≡ vacuum_kids self.now.stack.now self.now.piece.now) }
     {
         let sheet = self.stack.top();
         let rows = sheet.kids(self.row);
         let mut kids = Vec::new(alloc);
         for row in rows {
-            if is_directory(sheet.inode(*row)) {
-                let dir = path_in(alloc, sheet, *row, self.path)?;
-                kids.push(Piece { space, dir })?;
+            if let Some(name) = sheet.name(*row) {
+                if is_directory(sheet.inode(*row)) {
+                    kids.push(self.piece.child(alloc, name)?)?;
+                }
             }
         }
         Ok(kids)
@@ -99,10 +93,9 @@ impl<'a> Directory<'a> {
 
     // The names in it, each with whether its entry is idle.
     fn idle_names(&self, alloc: Global) -> Result<Vec<(Name, bool)>, AllocError>
-        requires { IsVisited self.now.stack.now self.now.path.now self.now }
-        ensures { IfOk result (λ names. names.items
-            ≡ map (idle_name self.now.stack.now self.now.path.now)
-            (names_below (top_layer self.now.stack.now) self.now.path.now)) }
+        requires { IsVisited self.now.stack.now self.now.piece.now self.now }
+        ensures { IfOk result
+            (λ names. names.items ≡ vacuum_out self.now.stack.now self.now.piece.now) }
     {
         let sheet = self.stack.top();
         let rows = sheet.kids(self.row);
@@ -126,14 +119,14 @@ impl<'a> Directory<'a> {
         row: u32,
         name: &Name,
     ) -> Result<bool, AllocError>
-        requires visited { IsVisited self.now.stack.now self.now.path.now self.now }
-        requires whole { IfSome whole.old (IsViewOf self.now.stack.now 0 self.now.path.now) }
+        requires visited { IsVisited self.now.stack.now self.now.piece.now self.now }
+        requires whole { IfSome whole.old (IsViewOf self.now.stack.now 0 self.now.piece.now.dir) }
         requires inside { row < length (top_layer self.now.stack.now) }
         requires stands { path_at (top_layer self.now.stack.now) row
-            ≡ child_path self.now.path.now name.now }
-        ensures idle { IfOk result
-            (λ idle. idle ≡ is_idle_at self.now.stack.now (child_path self.now.path.now name.now)) }
-        ensures whole { IfSome whole.new (IsViewOf self.now.stack.now 0 self.now.path.now) }
+            ≡ child_path self.now.piece.now.dir name.now }
+        ensures idle { IfOk result (λ idle. idle
+            ≡ is_idle_at self.now.stack.now (child_path self.now.piece.now.dir name.now)) }
+        ensures whole { IfSome whole.new (IsViewOf self.now.stack.now 0 self.now.piece.now.dir) }
     {
         let sheet = self.stack.top();
         let Some(below) = &self.below else {
@@ -147,7 +140,7 @@ impl<'a> Directory<'a> {
             let look = below.look(alloc, self.stack, name)?;
             return is_visible(alloc, &look, sheet.inode(row));
         }
-        let shown = DirView::look_kept(alloc, self.stack, whole, self.path, name)?;
+        let shown = DirView::look_kept(alloc, self.stack, whole, &self.piece.dir, name)?;
         let lower = below.look(alloc, self.stack, name)?;
         Ok(lower == shown)
     }

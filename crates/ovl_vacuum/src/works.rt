@@ -61,10 +61,10 @@ impl<'a> Work for VacuumWork<'a> {
         alloc: Global,
         piece: &Piece,
     ) -> Result<(Vec<Piece>, Vec<(Name, bool)>), AllocError> {
-        let Some(directory) = Directory::of(alloc, self.stack, &piece.dir)? else {
+        let Some(directory) = Directory::of(alloc, self.stack, piece)? else {
             return Ok((Vec::new(alloc), Vec::new(alloc)));
         };
-        directory.told(alloc, piece.space)
+        directory.told(alloc)
     }
 
     fn deepest(&self) -> u32 {

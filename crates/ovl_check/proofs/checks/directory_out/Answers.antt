@@ -3,7 +3,7 @@ use Rattle.std.specs.Prelude.{not, ◌||◌, ◌&&◌}
 use Rattle.ovl_inode.specs.declared.inodes.Inode.{Inode}
 use Rattle.ovl_inode.specs.Marks.{is_directory}
 use Rattle.ovl_lookup.specs.Sound.{is_moved}
-use Rattle.ovl_check.specs.Checks.{directory_piece}
+use Rattle.ovl_board.specs.Pieces.{piece_at}
 use Rattle.ovl_check.specs.CheckViews.{check_view}
 use Rattle.ovl_check.specs.Facts.{next_of}
 use Rattle.ovl_check.proofs.OutLemmas.{seen-same, found-all}
@@ -14,7 +14,7 @@ returns c =
     let work = check_view c.args.work.now in
     let directory = c.args.directory in
     let gathered = c.requires.gathered in
-    seen-same work (directory_piece c.args.layer directory.path.now) _ (next_of directory) directory.closed _ _
+    seen-same work (piece_at c.args.layer directory.path.now) _ (next_of directory) directory.closed _ _
     (ap (λ (o : Option Inode). elim o as (λ _. Bool) [ Some i ↦ is_directory i | None ↦ false ]) gathered.inode ∙ gathered.kind)
     (found-all work c.args.layer directory gathered c.new-findings.result.items c.push_directory.new.findings.items _ c.new-findings.ensures.items c.in_ok-push_directory.ensures
     c.in_ok-push_files.ensures)

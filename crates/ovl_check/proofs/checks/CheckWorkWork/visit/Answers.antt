@@ -2,12 +2,12 @@ use Rattle.std.proofs.Common.{◌≡◌, ◌∙◌, sym, ap, map, List, ℕ, fal
 use Rattle.std.specs.Prelude.{filter}
 use Rattle.ovl_layer.specs.Layers.{is_directory_at}
 use Rattle.ovl_names.specs.Names.{PathName}
-use Rattle.ovl_names.specs.Paths.{child_path}
 use Rattle.ovl_inode.specs.Marks.{is_directory}
 use Rattle.ovl_board.specs.declared.pieces.Piece.{Piece}
+use Rattle.ovl_board.specs.Pieces.{piece_in}
 use Rattle.ovl_check.specs.declared.directories.Child.{Child}
 use Rattle.ovl_lookup.specs.Stacks.{all_layers}
-use Rattle.ovl_check.specs.Checks.{layer_at, directory_piece}
+use Rattle.ovl_check.specs.Checks.{layer_at}
 use Rattle.ovl_check.specs.CheckViews.{check_view}
 use Rattle.ovl_check.specs.Facts.{child_seen, held_in}
 use Rattle.ovl_check.proofs.HeldLemmas.{kids-children}
@@ -34,7 +34,7 @@ returns-clause-kids c =
     let found = rw c.in-Some.is at c.in_ok-directory.ensures in
     let same : map child_seen directory.children.items ≡ held_in (layer_at stack space) dir =
     found.1.children ∙ (λ j. held_in (layer_at stack (c.from-i.ensures j)) (found.0 j)) in
-    let piece : PathName → Piece = λ name. directory_piece space (child_path dir name) in
+    let kid : PathName → Piece = piece_in c.args.piece.now in
     c.in_ok-kids.ensures
-    ∙ (ap (λ (children : List Child). map (λ child. piece child.name.now) (filter (λ child. is_directory child.inode.now) children)) c.deref.ensures.value
-    ∙ kids-children (layer_at stack space) dir directory.children.items same piece)
+    ∙ (ap (λ (children : List Child). map (λ child. kid child.name.now) (filter (λ child. is_directory child.inode.now) children)) c.deref.ensures.value
+    ∙ kids-children (layer_at stack space) dir directory.children.items same kid)

@@ -9,6 +9,6 @@ use Rattle.ovl_vacuum.proofs.directories.Directory.idle_names.Given as goal
 -- those of the rows so far
 abbrev pub invariant-loop-row : goal.invariant-loop-row
 invariant-loop-row l = record {
-  whole : IfSome l.whole (IsViewOf l.self.stack.now 0 l.self.path.now);
-  names : l.names.items ≡ map (idle_name l.self.stack.now l.self.path.now) (take l.row-index (names_below (top_layer l.self.stack.now) l.self.path.now));
+  whole : IfSome l.whole (IsViewOf l.self.stack.now 0 l.self.piece.now.dir);
+  names : l.names.items ≡ map (idle_name l.self.stack.now l.self.piece.now.dir) (take l.row-index (names_below (top_layer l.self.stack.now) l.self.piece.now.dir));
 }

@@ -22,7 +22,7 @@ use Rattle.ovl_vacuum.proofs.directories.Directory.is_idle.Goals as goal
 pub returns-in_default-clause-idle : goal.returns-in_default-clause-idle
 returns-in_default-clause-idle c =
     let stack : StackView = c.args.self.now.stack.now in
-    let path : PathNames = c.args.self.now.path.now in
+    let path : PathNames = c.args.self.now.piece.now.dir in
     let name : PathName = c.args.name.now in
     let top : Entries = top_layer stack in
     let each = c.top-sheet.ensures.each in
@@ -34,7 +34,7 @@ returns-in_default-clause-idle c =
 pub returns-then-not-is_metacopy-clause-idle : goal.returns-then-not-is_metacopy-clause-idle
 returns-then-not-is_metacopy-clause-idle c =
     let stack : StackView = c.args.self.now.stack.now in
-    let path : PathNames = c.args.self.now.path.now in
+    let path : PathNames = c.args.self.now.piece.now.dir in
     let name : PathName = c.args.name.now in
     let top : Entries = top_layer stack in
     let each = c.top-sheet.ensures.each in
@@ -59,7 +59,7 @@ returns-then-not-is_metacopy-clause-idle c =
 pub returns-clause-idle : goal.returns-clause-idle
 returns-clause-idle c =
     let stack : StackView = c.args.self.now.stack.now in
-    let path : PathNames = c.args.self.now.path.now in
+    let path : PathNames = c.args.self.now.piece.now.dir in
     let name : PathName = c.args.name.now in
     let top : Entries = top_layer stack in
     let each = c.top-sheet.ensures.each in

@@ -3,12 +3,12 @@ use Rattle.std.specs.Prelude.{filter}
 use Rattle.ovl_names.specs.Paths.{child_path}
 use Rattle.ovl_layer.specs.Layers.{is_directory_at, names_below}
 use Rattle.ovl_lookup.specs.Words.{top_layer}
-use Rattle.ovl_vacuum.specs.Directories.{directory_piece, piece_in}
+use Rattle.ovl_board.specs.Pieces.{piece_in}
 use Rattle.ovl_vacuum.proofs.directories.Directory.kids.Given as goal
 
 -- those of the rows so far
 abbrev pub invariant-loop-row : goal.invariant-loop-row
 invariant-loop-row l =
     l.kids.items
-    ≡ map (piece_in (directory_piece l.space l.self.path.now))
-    (filter (λ name. is_directory_at (top_layer l.self.stack.now) (child_path l.self.path.now name)) (take l.row-index (names_below (top_layer l.self.stack.now) l.self.path.now)))
+    ≡ map (piece_in l.self.piece.now)
+    (filter (λ name. is_directory_at (top_layer l.self.stack.now) (child_path l.self.piece.now.dir name)) (take l.row-index (names_below (top_layer l.self.stack.now) l.self.piece.now.dir)))
