@@ -19,7 +19,8 @@ pub mod RowLemmas
 pub mod RowStacks
 pub mod ViewLemmas
 pub mod PlaceLemmas
-pub mod TopMerge
+pub mod LawsOfNamedLists
+mod JoinLemmas
 pub mod TopLemmas
 pub mod DirViewLemmas
 pub mod ViewSteps

@@ -2,7 +2,7 @@
 use Rattle.std.proofs.Common.{◌≡◌, ℕ, zero, suc, ◌+◌, ◌<◌, length, arith, Bool, true, false, cond, Option, Some, None, is_some, List, [], ◌∷◌, ◌++◌, drop, map, refl, sym, ap, ◌∙◌, subst}
 use Rattle.std.specs.Prelude.{◌||◌, ◌&&◌, not, filter, slice_get, unwrap_or, IsSomeAnd}
 use Rattle.std.specs.List.{All, AllByRecursion, list_all, list_any}
-use Rattle.std.specs.Option.{option_or}
+use Rattle.std.specs.Option.{option_and_then, option_or}
 use Rattle.std.specs.Ordering.{is_lt}
 use Rattle.std.specs.Cmp.Lexicographic.{bytes_decides}
 use Rattle.std.proofs.Math.Bool.{and-false}
@@ -18,13 +18,14 @@ use Rattle.ovl_layer.specs.Layers.{Entries, IsLayer, entry_at, names_below}
 use Rattle.ovl_lookup.specs.declared.looks.Look.{Look}
 use Rattle.ovl_lookup.specs.Stacks.{StackView, from_layer}
 use Rattle.ovl_lookup.specs.Merged.{look, shown_of, is_nothing}
+use Rattle.ovl_lookup.specs.NamedLists.{AreInOrder, both_joined, names_of}
 use Rattle.ovl_lookup.specs.Laws.{ViewsLook}
 use Rattle.ovl_lookup.specs.Views.{Reached, reached, entry_in, found_below}
-use Rattle.ovl_lookup.specs.ViewPasses.{First, first_in, AreInOrder, AreTops, AreMerged, looks_from_tops, AreLooks}
+use Rattle.ovl_lookup.specs.ViewPasses.{First, first_in, AreTops, upper_place, looks_from_tops, AreLooks}
 use Rattle.ovl_lookup.proofs.LawsOfFound.{any_found, shown-any}
 use Rattle.ovl_lookup.proofs.LawsOfWalks.{names_below-has}
 use Rattle.ovl_lookup.proofs.LawsOfKids.{any-filter, kid-names-ascend}
-use Rattle.ovl_lookup.proofs.TopMerge.{at, names_of, is_before, each-own, merge, are-merged}
+use Rattle.ovl_lookup.proofs.LawsOfNamedLists.{at, is_before, each-own, both-ascend, both-at}
 use Rattle.ovl_lookup.proofs.ViewLemmas.{found_below_by, views-find}
 
 -- ---- the first place that has a name
@@ -109,11 +110,19 @@ module _ (layers : List Entries) (i : ℕ) (places : List Reached) (tops : List 
   named name = sym (is_some-lookup (name_eq name) tops) ∙ ap is_some (are.each name)
 
 -- those of places and of the places after them are those of all
-pub merged-tops : (layers : List Entries) (i : ℕ) (front rest : List Reached) (upper lower tops : List (PathName × First)) → AreTops layers i front upper → AreTops layers (i + length front) rest lower → AreMerged upper lower tops → AreTops layers i (front ++ rest) tops
-merged-tops layers i front rest upper lower tops above below are = record {
-  in_order = are.in_order;
-  each = λ name. are.each name ∙ ((λ j. option_or (above.each name j) (below.each name j)) ∙ sym (first-append layers i front rest name));
+pub merged-tops : (layers : List Entries) (i : ℕ) (front rest : List Reached) (upper lower : List (PathName × First)) → AreTops layers i front upper → AreTops layers (i + length front) rest lower → AreTops layers i (front ++ rest) (both_joined upper_place upper lower)
+merged-tops layers i front rest upper lower above below = record {
+  in_order = both-ascend upper_place upper lower above.in_order;
+  each = λ name.
+      sym (and-some (at name (both_joined upper_place upper lower)))
+      ∙ (both-at upper_place (λ first. Some first) (λ one other. refl) name upper lower above.in_order below.in_order
+      ∙ ((λ j. option_or ((and-some (at name upper) ∙ above.each name) j) ((and-some (at name lower) ∙ below.each name) j))
+      ∙ sym (first-append layers i front rest name)));
 }
+  where
+    and-some : (found : Option First) → option_and_then (λ first. Some first) found ≡ found
+    and-some None = refl
+    and-some (Some first) = refl
 
 pub no-tops : (layers : List Entries) (i : ℕ) → AreTops layers i [] []
 no-tops layers i = record { in_order = refl; each = λ name. refl }
@@ -246,7 +255,7 @@ tops-exist layers each i (place ∷ rest) = by (tops-exist layers each (suc i) r
         let one = tops-of_place layers i place each in
         let next : suc i ≡ i + 1 = omega arith in
         let behind = subst (λ n. AreTops layers n rest lower.0) next lower.1 in
-        (merge upper lower.0, merged-tops layers i (place ∷ []) rest upper lower.0 (merge upper lower.0) one behind (are-merged upper lower.0 one.in_order lower.1.in_order))
+        (both_joined upper_place upper lower.0, merged-tops layers i (place ∷ []) rest upper lower.0 one behind)
 
 -- ---- what is shown at each name
 

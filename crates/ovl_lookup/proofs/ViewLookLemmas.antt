@@ -33,7 +33,7 @@ use Rattle.ovl_lookup.proofs.LawsOfFound.{data_of-metacopy, data_of-bad, data_be
 use Rattle.ovl_lookup.proofs.SightLemmas.{sight-first}
 use Rattle.ovl_lookup.proofs.WalkFacts.{take-rest}
 use Rattle.ovl_lookup.proofs.ViewSteps.{found-whiteout, found-entry, looks-next}
-use Rattle.ovl_lookup.proofs.TopMerge.{names_of}
+use Rattle.ovl_lookup.specs.NamedLists.{names_of}
 use Rattle.ovl_lookup.proofs.TopLemmas.{IsFirst, all-first, names_in, StandHere, stand-more}
 use Rattle.ovl_lookup.proofs.DirViewLemmas.{entry-here}
 use Rattle.ovl_lookup.proofs.LawsOfKids.{kid-path}

@@ -3,6 +3,7 @@ pub mod Stacks
 pub mod Trace
 pub mod Trails
 pub mod Merged
+pub mod NamedLists
 pub mod Passes
 pub mod ShownInodes
 pub mod Sights

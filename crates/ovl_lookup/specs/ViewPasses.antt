@@ -1,10 +1,8 @@
 -- What the passes over the places of a view keep.
-use Rattle.std.specs.Prelude.{◌≡◌, ℕ, suc, true, not, Option, Some, None, List, [], ◌∷◌, drop, filter, map}
+use Rattle.std.specs.Prelude.{◌≡◌, ℕ, suc, not, Option, Some, None, List, [], ◌∷◌, drop, filter, map}
 use Rattle.std.specs.List.{All}
 use Rattle.std.specs.Map.{lookup}
-use Rattle.std.specs.Option.{option_or}
-use Rattle.ovl_names.specs.Names.{PathName, name_eq, name_cmp}
-use Rattle.ovl_names.specs.Order.{ascends}
+use Rattle.ovl_names.specs.Names.{PathName, name_eq}
 use Rattle.ovl_names.specs.Paths.{PathNames, child_path}
 use Rattle.ovl_inode.specs.declared.inodes.Inode.{Inode}
 use Rattle.ovl_layer.specs.Layers.{Entries}
@@ -12,6 +10,7 @@ use Rattle.ovl_lookup.specs.declared.looks.Look.{Look}
 use Rattle.ovl_lookup.specs.declared.tops.Top.{Top}
 use Rattle.ovl_lookup.specs.Stacks.{StackView}
 use Rattle.ovl_lookup.specs.Merged.{AreKids, look, shown_of, is_nothing}
+use Rattle.ovl_lookup.specs.NamedLists.{AreInOrder}
 use Rattle.ovl_lookup.specs.Views.{Reached, entry_in, found_below}
 
 -- the first place that has a name, by its number, and the inode there
@@ -29,22 +28,15 @@ first_in layers i (place ∷ rest) name =
       | None ↦ first_in layers (suc i) rest name
     ]
 
--- names, each with a place, are in order, and none of them comes twice
-abbrev pub AreInOrder : List (PathName × First) → Type 0
-AreInOrder tops = ascends name_cmp (map (λ top. top.0) tops) ≡ true
-
 -- all names in the directories of these places in order, each with the first place that has it
 pub record AreTops (layers : List Entries) (i : ℕ) (places : List Reached)
     (tops : List (PathName × First)) : Type 0 where
   pub in_order : AreInOrder tops
   pub each : (name : PathName) → lookup (name_eq name) tops ≡ first_in layers i places name
 
--- the names of both lists in order, with the upper's place where both have a name
-pub record AreMerged (upper lower tops : List (PathName × First)) : Type 0 where
-  pub in_order : AreInOrder tops
-  pub each : (name : PathName)
-      → lookup (name_eq name) tops
-      ≡ option_or (lookup (name_eq name) upper) (lookup (name_eq name) lower)
+-- of two places that have one name, the upper
+abbrev pub upper_place : First → First → First
+upper_place upper lower = upper
 
 -- the names of a pass with their places
 abbrev pub top_told : Top → PathName × First

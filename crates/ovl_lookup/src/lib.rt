@@ -5,6 +5,7 @@ mod inodes;
 pub mod laws;
 mod lists;
 mod looks;
+mod named_lists;
 mod onward;
 mod sights;
 mod stacks;
@@ -18,6 +19,7 @@ mod views;
 
 pub use inodes::shown_inodes;
 pub use looks::{Look, is_moved, is_well_formed_metacopy};
+pub use named_lists::{HasName, join_lists};
 pub use onward::Onward;
 pub use sights::Sight;
 pub use stacks::{LAYER_LIMIT, Stack, StackFault};

@@ -1,14 +1,14 @@
 ghost use Rattle.std.specs.Prelude.{[], ◌∷◌, ◌+◌, ◌<◌, ◌^◌, length, IfOk};
 ghost use Rattle.std.specs.List.{All};
-ghost use Rattle.ovl_lookup.specs.ViewPasses.{AreInOrder, AreTops, AreMerged, tops_told};
+ghost use Rattle.ovl_lookup.specs.ViewPasses.{AreTops, tops_told};
 ghost use Rattle.ovl_lookup.specs.DirViews.{IsPlaceOver, place_in, places_in};
 
 use crate::Stack;
+use crate::named_lists::{HasName, join_lists};
 use crate::views::DirPlace;
 use ovl_inode::Inode;
 use ovl_names::Name;
 use std::alloc::{AllocError, Global};
-use std::cmp::Ordering;
 
 /// A name in the directories of a view, with its inode in the first place that has it, and the
 /// number of that place.
@@ -17,6 +17,25 @@ pub(crate) struct Top<'a> {
     pub(crate) name: &'a Name,
     pub(crate) inode: &'a Inode,
     pub(crate) place: usize,
+}
+
+impl<'a> HasName for Top<'a> {
+    ghost use Rattle.ovl_lookup.specs.ViewPasses.{First, top_told, upper_place};
+
+    ghost Own = { First };
+
+    ghost told = { top_told };
+
+    ghost joined_of = { upper_place };
+
+    fn name(&self) -> &Name {
+        self.name
+    }
+
+    // The upper one stays.
+    fn joined(&self, _: &Top<'a>) -> Top<'a> {
+        *self
+    }
 }
 
 /// The names in the directories of these places, in order, each once; `first` is the number of the
@@ -41,7 +60,7 @@ pub(crate) fn tops_of<'a>(
             let (above, below) = places.split_at(places.len() / 2);
             let upper = tops_of(alloc, stack, above, first)?;
             let lower = tops_of(alloc, stack, below, first + above.len())?;
-            merged(alloc, &upper, &lower)
+            join_lists(alloc, &upper, &lower)
         }
     }
 }
@@ -71,42 +90,5 @@ fn tops_in<'a>(
             })?;
         }
     }
-    Ok(tops)
-}
-
-// Both lists as one, in the order of names, in which each of them is; of a name that both have, the
-// upper's stays.
-fn merged<'a>(
-    alloc: Global,
-    upper: &[Top<'a>],
-    lower: &[Top<'a>],
-) -> Result<Vec<Top<'a>>, AllocError>
-    requires upper { AreInOrder (tops_told upper.now) }
-    requires lower { AreInOrder (tops_told lower.now) }
-    ensures { IfOk result
-        (λ tops. AreMerged (tops_told upper.now) (tops_told lower.now) (tops_told tops.items)) }
-{
-    let mut tops = Vec::with_capacity(alloc, upper.len().saturating_add(lower.len()))?;
-    let (mut i, mut j) = (0, 0);
-    while i < upper.len() && j < lower.len() {
-        let (one, other) = (&upper[i], &lower[j]);
-        match one.name.cmp(other.name) {
-            Ordering::Less => {
-                tops.push(*one)?;
-                i += 1;
-            }
-            Ordering::Equal => {
-                tops.push(*one)?;
-                i += 1;
-                j += 1;
-            }
-            Ordering::Greater => {
-                tops.push(*other)?;
-                j += 1;
-            }
-        }
-    }
-    tops.extend_from_slice(&upper[i..])?;
-    tops.extend_from_slice(&lower[j..])?;
     Ok(tops)
 }

@@ -14,9 +14,11 @@ use Rattle.ovl_inode.specs.declared.inodes.Inode.{Inode}
 use Rattle.ovl_layer.specs.Layers.{Entries, IsLayer, entry_at, names_below}
 use Rattle.ovl_lookup.specs.declared.steps.Step.{Step}
 use Rattle.ovl_lookup.specs.Walk.{walk, nothing_found}
+use Rattle.ovl_lookup.specs.NamedLists.{both_joined, names_of}
 use Rattle.ovl_lookup.specs.Passes.{own_names_along, put_names}
 use Rattle.ovl_lookup.proofs.LawsOfWalks.{walk-child_end, passes-over}
 use Rattle.ovl_lookup.proofs.LawsOfKids.{ascends-put, any-put, kids-ascend, kid-names-ascend}
+use Rattle.ovl_lookup.proofs.LawsOfNamedLists.{at, each-own, names_of-both}
 use Rattle.ovl_rewrite.specs.Directories.{NamedInode}
 use Rattle.ovl_merge.specs.declared.stands.Stand.{Stand}
 use Rattle.ovl_merge.specs.declared.candidates.Candidate.{Candidate}
@@ -28,10 +30,10 @@ use Rattle.ovl_merge.specs.MergeDown.{merged_entry, merged_entry_of, new_whiteou
 use Rattle.ovl_merge.specs.Directories.{named_inode, base_names, entries_in}
 use Rattle.ovl_merge.specs.Stands.{StandsAt, IsRowAt, onward_on, step_onward}
 use Rattle.ovl_merge.specs.Reckoned.{IsBelow, onward_at, upper_onward}
-use Rattle.ovl_merge.specs.Candidates.{Rowed, AreCandidates, AreMerged, AreRowsOf, IsCandidate, candidate_told, candidates_told, hidden_names, names_of, row_at, row_on, unrowed}
+use Rattle.ovl_merge.specs.Candidates.{Rowed, AreCandidates, AreRowsOf, IsCandidate, candidate_told, candidates_told, hidden_names, joined, row_at, row_on, unrowed}
 use Rattle.ovl_merge.proofs.Firsts.{first_hit-steps, first_step}
 use Rattle.ovl_merge.proofs.NameLists.{put-none, put-unentered}
-use Rattle.ovl_merge.proofs.RowLists.{at, each-own, names-unrowed, or-nothing, rows-unrowed}
+use Rattle.ovl_merge.proofs.RowLists.{names-unrowed, or-nothing, rows-both, rows-unrowed}
 use Rattle.ovl_merge.proofs.StandLemmas.{own-onward, unnamed}
 use Rattle.ovl_merge.proofs.VisitLemmas.{own-names}
 
@@ -136,6 +138,11 @@ module _ (m : Merge) (upper : IsLayer m.upper) (lower : IsLayer m.lower) (dir : 
       by None there onwards = let bad : false ≡ true = onwards in cc
       by (Some rest) there onwards = own-entries row place here goes below.row rest there
 
+-- ---- the rows of one layer
+
+pub rows-ascend : (side : Side) (layer : Entries) → IsLayer layer → (path : PathNames) (told : Rowed) → AreRowsOf side layer path told → ascends name_cmp (names_of told) ≡ true
+rows-ascend side layer is path told rows = ap (ascends name_cmp) rows.below ∙ kid-names-ascend layer path is.in_order
+
 -- ---- the names that are hidden
 
 module _ (m : Merge) (directory : Directory) where
@@ -173,34 +180,38 @@ module _ (m : Merge) (directory : Directory) where
   }
 
   -- and of the lower one
-  pub both-candidates : IsLayer m.upper → (place : PathNames) → upper_onward m directory.path ≡ Some place → (one other both : Rowed) → AreRowsOf Upper m.upper directory.path one → AreRowsOf Lower m.lower place other → AreMerged one other both
-      → AreCandidates m directory (put_names [] (own_names_along (two_layers m).layers directory.path)) both
-  both-candidates upper place on one other both above beneath are = record {
+  pub both-candidates : IsLayer m.upper → IsLayer m.lower → (place : PathNames) → upper_onward m directory.path ≡ Some place → (one other : Rowed) → AreRowsOf Upper m.upper directory.path one → AreRowsOf Lower m.lower place other
+      → AreCandidates m directory (put_names [] (own_names_along (two_layers m).layers directory.path)) (both_joined joined one other)
+  both-candidates upper lower place on one other above beneath = record {
     all =
-        are.names
+        names_of-both joined one other
         ∙ ((λ j. put_names (above.below j) (beneath.below j))
         ∙ (ap (λ (own : List PathName). put_names own (names_below m.lower place)) (sym (put-none (names_below m.upper directory.path) (kid-names-ascend m.upper directory.path upper.in_order)))
         ∙ own-names m directory.path (Some place) (sym on)));
     rows = λ name. record {
-      upper = subst (IsRowAt m.upper (child_path directory.path name)) (sym (are.rows Upper name ∙ or-nothing (row_at Upper name one) (row_at Upper name other) (beneath.other name))) (above.own name);
+      upper = subst (IsRowAt m.upper (child_path directory.path name)) (sym (rows Upper name ∙ or-nothing (row_at Upper name one) (row_at Upper name other) (beneath.other name))) (above.own name);
       lower =
-          subst (λ (o : Option PathNames). IfSome o (λ below. IsRowAt m.lower (child_path below name) (row_at Lower name both))) (sym on)
-          (subst (IsRowAt m.lower (child_path place name)) (sym (are.rows Lower name ∙ ap (λ (o : Option ℕ). option_or o (row_at Lower name other)) (above.other name))) (beneath.own name));
+          subst (λ (o : Option PathNames). IfSome o (λ below. IsRowAt m.lower (child_path below name) (row_at Lower name (both_joined joined one other)))) (sym on)
+          (subst (IsRowAt m.lower (child_path place name)) (sym (rows Lower name ∙ ap (λ (o : Option ℕ). option_or o (row_at Lower name other)) (above.other name))) (beneath.own name));
     };
   }
+    where
+      rows : (side : Side) (name : PathName) → row_at side name (both_joined joined one other) ≡ option_or (row_at side name one) (row_at side name other)
+      rows side name = rows-both side name one other (rows-ascend Upper m.upper upper directory.path one above) (rows-ascend Lower m.lower lower place other beneath)
 
   -- with those that are hidden
-  pub hidden-candidates : (names hidden : List PathName) (own both : Rowed) → AreCandidates m directory names own → AreMerged own (unrowed hidden) both → AreCandidates m directory (put_names names hidden) both
-  hidden-candidates names hidden own both is are = record {
-    all = are.names ∙ (λ j. put_names (is.all j) (names-unrowed hidden j));
+  pub hidden-candidates : (names hidden : List PathName) → ascends name_cmp names ≡ true → ascends name_cmp hidden ≡ true → (own : Rowed) → AreCandidates m directory names own → AreCandidates m directory (put_names names hidden) (both_joined joined own (unrowed hidden))
+  hidden-candidates names hidden up also own is = record {
+    all = names_of-both joined own (unrowed hidden) ∙ (λ j. put_names (is.all j) (names-unrowed hidden j));
     rows = λ name. record {
       upper = subst (IsRowAt m.upper (child_path directory.path name)) (sym (kept Upper name)) (is.rows name).upper;
       lower = subst (λ (row : Option ℕ). IfSome (upper_onward m directory.path) (λ below. IsRowAt m.lower (child_path below name) row)) (sym (kept Lower name)) (is.rows name).lower;
     };
   }
     where
-      kept : (side : Side) (name : PathName) → row_at side name both ≡ row_at side name own
-      kept side name = are.rows side name ∙ or-nothing (row_at side name own) (row_at side name (unrowed hidden)) (rows-unrowed side name hidden)
+      kept : (side : Side) (name : PathName) → row_at side name (both_joined joined own (unrowed hidden)) ≡ row_at side name own
+      kept side name =
+          rows-both side name own (unrowed hidden) (ap (ascends name_cmp) is.all ∙ up) (ap (ascends name_cmp) (names-unrowed hidden) ∙ also) ∙ or-nothing (row_at side name own) (row_at side name (unrowed hidden)) (rows-unrowed side name hidden)
 
   -- each by itself
   pub each-candidate : (items : List Candidate) (names : List PathName) → ascends name_cmp names ≡ true → AreCandidates m directory names (candidates_told items) → All (IsCandidate m directory) items
@@ -238,13 +249,8 @@ listed-more m dir items j candidate inside here listed found so_far is =
         ∙ (ap names_of (map-append candidate_told (take j items) (candidate ∷ []))
         ∙ map-append (λ name. name.0) (candidates_told (take j items)) (candidate_told candidate ∷ []))
 
--- ---- the rows of one layer
-
 -- a sheet's rows are those of the layer that it is
 pub rows-there : (side : Side) (layer sheet : Entries) → layer ≡ sheet → (told : Rowed) (row : Option ℕ) (path : PathNames) (next : Option PathNames) → StandsAt layer path row next
     → ((path : PathNames) (next : Option PathNames) → StandsAt sheet path row next → AreRowsOf side sheet path told) → AreRowsOf side layer path told
 rows-there side layer sheet same told row path next stands are =
     subst (λ (l : Entries). AreRowsOf side l path told) (sym same) (are path next (subst (λ (l : Entries). StandsAt l path row next) same stands))
-
-pub rows-ascend : (side : Side) (layer : Entries) → IsLayer layer → (path : PathNames) (told : Rowed) → AreRowsOf side layer path told → ascends name_cmp (names_of told) ≡ true
-rows-ascend side layer is path told rows = ap (ascends name_cmp) rows.below ∙ kid-names-ascend layer path is.in_order

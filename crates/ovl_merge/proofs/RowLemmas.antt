@@ -14,11 +14,12 @@ use Rattle.ovl_layer.specs.Sheets.{last_name, path_at}
 use Rattle.ovl_layer.proofs.SheetLemmas.{last_name-child}
 use Rattle.ovl_lookup.proofs.LawsOfPaths.{length-child, parent_path-child}
 use Rattle.ovl_lookup.proofs.LawsOfWalks.{nothing-below}
+use Rattle.ovl_lookup.specs.NamedLists.{names_of}
 use Rattle.ovl_merge.specs.declared.candidates.Candidate.{Candidate}
 use Rattle.ovl_merge.specs.declared.candidates.Side.{Side}
 use Rattle.ovl_merge.specs.declared.candidates.Side.TheVariants.{Upper, Lower}
 use Rattle.ovl_merge.specs.Stands.{IsRowAt, StandsAt}
-use Rattle.ovl_merge.specs.Candidates.{Rows, Rowed, AreRowsOf, candidate_told, candidates_told, names_of, other_side, row_at, row_on, rows_on}
+use Rattle.ovl_merge.specs.Candidates.{Rows, Rowed, AreRowsOf, candidate_told, candidates_told, other_side, row_at, row_on, rows_on}
 use Rattle.ovl_merge.proofs.StandLemmas.{unnamed}
 
 -- a name with the row that a layer has by it in a directory

@@ -7,7 +7,7 @@ use Rattle.std.specs.Option.{option_and_then, option_or}
 use Rattle.ovl_names.specs.Names.{PathName, name_eq}
 use Rattle.ovl_names.specs.Paths.{PathNames, child_path}
 use Rattle.ovl_layer.specs.Layers.{Entries, names_below}
-use Rattle.ovl_lookup.specs.Passes.{put_names}
+use Rattle.ovl_lookup.specs.NamedLists.{names_of}
 use Rattle.ovl_merge.specs.declared.candidates.Candidate.{Candidate}
 use Rattle.ovl_merge.specs.declared.candidates.Side.{Side}
 use Rattle.ovl_merge.specs.declared.candidates.Side.TheVariants.{Upper, Lower}
@@ -38,9 +38,6 @@ candidate_told candidate = (candidate.name.now, (candidate.upper, candidate.lowe
 abbrev pub candidates_told : List Candidate → Rowed
 candidates_told candidates = map candidate_told candidates
 
-abbrev pub names_of : Rowed → List PathName
-names_of names = map (λ name. name.0) names
-
 abbrev pub without_row : PathName → PathName × Rows
 without_row name = (name, (None, None))
 
@@ -63,12 +60,6 @@ row_at side name names = option_and_then (row_on side) (lookup (name_eq name) na
 -- those of the first, and where it has none those of the second
 abbrev pub joined : Rows → Rows → Rows
 joined one other = (option_or one.0 other.0, option_or one.1 other.1)
-
--- both as one
-pub record AreMerged (one other both : Rowed) : Type 0 where
-  pub names : names_of both ≡ put_names (names_of one) (names_of other)
-  pub rows : (side : Side) (name : PathName)
-      → row_at side name both ≡ option_or (row_at side name one) (row_at side name other)
 
 -- ---- those of a directory
 

@@ -1,21 +1,19 @@
-ghost use Rattle.std.specs.Prelude.{◌≡◌, ◌<◌, [], Option, true, length, IfOk, IfSome};
-ghost use Rattle.ovl_names.specs.Names.{name_cmp};
+ghost use Rattle.std.specs.Prelude.{◌≡◌, ◌<◌, [], Option, length, IfOk, IfSome};
 ghost use Rattle.ovl_names.specs.Paths.{PathNames};
-ghost use Rattle.ovl_names.specs.Order.{ascends};
 ghost use Rattle.ovl_layer.specs.Sheets.{path_at};
+ghost use Rattle.ovl_lookup.specs.NamedLists.{AreInOrder, both_joined};
 ghost use Rattle.ovl_lookup.specs.Passes.{own_names_along, put_names};
 ghost use Rattle.ovl_merge.specs.Places.{merge_of, two_layers};
 ghost use Rattle.ovl_merge.specs.Stands.{StandsAt};
 ghost use Rattle.ovl_merge.specs.Reckoned.{IsVisited};
-ghost use Rattle.ovl_merge.specs.Candidates.{AreCandidates, AreMerged, AreRowsOf, HaveEntries, candidate_told, candidates_told, names_of, unrowed, rows_on};
+ghost use Rattle.ovl_merge.specs.Candidates.{AreCandidates, AreRowsOf, HaveEntries, candidate_told, candidates_told, unrowed, rows_on};
 ghost use Rattle.ovl_merge.specs.Candidates as candidates;
 
 use crate::directories::Directory;
 use ovl_layer::Sheet;
-use ovl_lookup::Stack;
+use ovl_lookup::{HasName, Stack, join_lists};
 use ovl_names::Name;
 use std::alloc::{AllocError, Global};
-use std::cmp::Ordering;
 
 /// A name in a directory, with the numbers of the rows that the two layers have by it there.
 #[derive(Clone, Copy)]
@@ -50,15 +48,23 @@ impl<'a> Candidate<'a> {
             },
         }
     }
+}
 
-    // The name with the rows of both.
-    fn joined(&self, other: &Candidate<'a>) -> Candidate<'a>
-        ensures { candidate_told result
-            ≡ (
-              self.now.name.now,
-              candidates.joined (candidate_told self.now).1 (candidate_told other.now).1,
-            ) }
-    {
+impl<'a> HasName for Candidate<'a> {
+    ghost use Rattle.ovl_merge.specs.Candidates.{Rows, candidate_told, joined};
+
+    ghost Own = { Rows };
+
+    ghost told = { candidate_told };
+
+    ghost joined_of = { joined };
+
+    fn name(&self) -> &Name {
+        self.name
+    }
+
+    // The rows of both.
+    fn joined(&self, other: &Candidate<'a>) -> Candidate<'a> {
         Candidate {
             name: self.name,
             upper: self.upper.or(other.upper),
@@ -192,11 +198,11 @@ fn merged<'a>(
     upper: Vec<Candidate<'a>>,
     lower: Vec<Candidate<'a>>,
 ) -> Result<Vec<Candidate<'a>>, AllocError>
-    requires upper { ascends name_cmp (names_of (candidates_told upper.items)) ≡ true }
-    requires lower { ascends name_cmp (names_of (candidates_told lower.items)) ≡ true }
+    requires { AreInOrder (candidates_told lower.items) }
     ensures { IfOk result
-        (λ both. AreMerged (candidates_told upper.entry.items) (candidates_told lower.entry.items)
-        (candidates_told both.items)) }
+        (λ both. candidates_told both.items
+        ≡ both_joined candidates.joined (candidates_told upper.entry.items)
+        (candidates_told lower.entry.items)) }
 {
     if upper.is_empty() {
         return Ok(lower);
@@ -204,42 +210,5 @@ fn merged<'a>(
     if lower.is_empty() {
         return Ok(upper);
     }
-    interleaved(alloc, &upper, &lower)
-}
-
-// The same, name by name.
-fn interleaved<'a>(
-    alloc: Global,
-    upper: &[Candidate<'a>],
-    lower: &[Candidate<'a>],
-) -> Result<Vec<Candidate<'a>>, AllocError>
-    requires upper { ascends name_cmp (names_of (candidates_told upper.now)) ≡ true }
-    requires lower { ascends name_cmp (names_of (candidates_told lower.now)) ≡ true }
-    ensures { IfOk result
-        (λ both. AreMerged (candidates_told upper.now) (candidates_told lower.now)
-        (candidates_told both.items)) }
-{
-    let mut both = Vec::with_capacity(alloc, upper.len().saturating_add(lower.len()))?;
-    let (mut i, mut j) = (0, 0);
-    while i < upper.len() && j < lower.len() {
-        let (one, other) = (&upper[i], &lower[j]);
-        match one.name.cmp(other.name) {
-            Ordering::Less => {
-                both.push(*one)?;
-                i += 1;
-            }
-            Ordering::Equal => {
-                both.push(one.joined(other))?;
-                i += 1;
-                j += 1;
-            }
-            Ordering::Greater => {
-                both.push(*other)?;
-                j += 1;
-            }
-        }
-    }
-    both.extend_from_slice(&upper[i..])?;
-    both.extend_from_slice(&lower[j..])?;
-    Ok(both)
+    join_lists(alloc, &upper, &lower)
 }

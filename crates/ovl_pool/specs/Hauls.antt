@@ -1,5 +1,5 @@
 -- What workers bring.
-use Rattle.std.specs.Prelude.{◌≡◌, ◌++◌, ◌||◌, List, [], ◌∷◌, None, IfSome, false, AllPairs, IsPermutation}
+use Rattle.std.specs.Prelude.{◌≡◌, ◌++◌, ◌||◌, List, None, IfSome, false, AllPairs, IsPermutation}
 use Rattle.std.specs.Option.{option_or}
 use Rattle.ovl_board.specs.declared.pieces.Piece.{Piece}
 use Rattle.ovl_board.specs.declared.works.Parcel.{Parcel}
@@ -29,8 +29,3 @@ pub record IsHaulOfBoth {O : Type 0} (first second both : Haul O) : Type 0 where
       → AreInPieceOrder both.parcels.items
   pub refused : both.refused ≡ option_or first.refused second.refused
   pub starved : both.starved ≡ (first.starved || second.starved)
-
--- the first of these parcels, if there is one, doesn't come before that parcel
-abbrev pub IsAtFront : {O : Type 0} → Parcel O → List (Parcel O) → Type 0
-IsAtFront parcel [] = Unit {0}
-IsAtFront parcel (other ∷ others) = ¬ IsBefore other.piece parcel.piece

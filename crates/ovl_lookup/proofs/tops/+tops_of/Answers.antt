@@ -5,7 +5,8 @@ use Rattle.ovl_lookup.specs.declared.tops.Top.{Top}
 use Rattle.ovl_lookup.specs.declared.views.DirPlace.{DirPlace}
 use Rattle.ovl_lookup.specs.Stacks.{StackView}
 use Rattle.ovl_lookup.specs.Views.{Reached}
-use Rattle.ovl_lookup.specs.ViewPasses.{AreTops, AreMerged, tops_told}
+use Rattle.ovl_lookup.specs.NamedLists.{both_joined}
+use Rattle.ovl_lookup.specs.ViewPasses.{AreTops, tops_told, upper_place}
 use Rattle.ovl_lookup.specs.DirViews.{place_in, places_in}
 use Rattle.ovl_lookup.proofs.TopLemmas.{merged-tops}
 use Rattle.ovl_lookup.proofs.tops.+tops_of.Goals as goal
@@ -21,11 +22,10 @@ returns-in_ok-lower-in_default t c =
     sym (ap (places_in stack) c.split_at.ensures.by_index.0 ∙ map-append (place_in stack) above below) in
     let behind : AreTops stack.layers (c.args.first + length (places_in stack above)) (places_in stack below) (tops_told lower) =
     subst (λ n. AreTops stack.layers (c.args.first + n) (places_in stack below) (tops_told lower)) (sym (length-map above (place_in stack))) c.in_ok-lower-in_default.ensures in
-    IfOk-weaker c.merged.result (λ tops. AreMerged (tops_told c.deref.result.now) (tops_told c.deref-in_default.result.now) (tops_told tops.items)) (λ tops. AreTops stack.layers c.args.first (places_in stack c.args.places.now) (tops_told tops.items))
-    (λ tops are.
-    let both : AreMerged (tops_told upper) (tops_told lower) (tops_told tops.items) =
-    subst (λ (ts : List Top). AreMerged (tops_told upper) (tops_told ts) (tops_told tops.items)) c.deref-in_default.ensures.value
-    (subst (λ (ts : List Top). AreMerged (tops_told ts) (tops_told c.deref-in_default.result.now) (tops_told tops.items)) c.deref.ensures.value are) in
-    subst (λ (ps : List Reached). AreTops stack.layers c.args.first ps (tops_told tops.items)) whole
-    (merged-tops stack.layers c.args.first (places_in stack above) (places_in stack below) (tops_told upper) (tops_told lower) (tops_told tops.items) c.in_ok-upper-in_default.ensures behind both))
-    c.merged.ensures
+    let both : AreTops stack.layers c.args.first (places_in stack c.args.places.now) (both_joined upper_place (tops_told upper) (tops_told lower)) =
+    subst (λ (ps : List Reached). AreTops stack.layers c.args.first ps (both_joined upper_place (tops_told upper) (tops_told lower))) whole
+    (merged-tops stack.layers c.args.first (places_in stack above) (places_in stack below) (tops_told upper) (tops_told lower) c.in_ok-upper-in_default.ensures behind) in
+    IfOk-weaker c.join_lists.result _ _ (λ tops are.
+    subst (AreTops stack.layers c.args.first (places_in stack c.args.places.now))
+    (sym (are ∙ (λ j. both_joined upper_place (tops_told (c.deref.ensures.value j)) (tops_told (c.deref-in_default.ensures.value j))))) both)
+    c.join_lists.ensures

@@ -6,7 +6,7 @@ use Rattle.ovl_lookup.specs.Stacks.{StackView}
 use Rattle.ovl_lookup.specs.Views.{Reached}
 use Rattle.ovl_lookup.specs.ViewPasses.{tops_told}
 use Rattle.ovl_lookup.specs.DirViews.{place_in}
-use Rattle.ovl_lookup.proofs.TopMerge.{names_of}
+use Rattle.ovl_lookup.specs.NamedLists.{names_of}
 use Rattle.ovl_lookup.proofs.TopLemmas.{names_in, StandHere, tops-here}
 use Rattle.ovl_lookup.proofs.ViewLookLemmas.{kid-named, kid-stands, kid-told, kids-all}
 use Rattle.ovl_lookup.proofs.tops.tops_in.Goals as goal

@@ -1,7 +1,7 @@
 use Rattle.std.proofs.Common.{◌≡◌, take}
 use Rattle.ovl_lookup.specs.ViewPasses.{tops_told}
 use Rattle.ovl_lookup.specs.DirViews.{place_in}
-use Rattle.ovl_lookup.proofs.TopMerge.{names_of}
+use Rattle.ovl_lookup.specs.NamedLists.{names_of}
 use Rattle.ovl_lookup.proofs.TopLemmas.{names_in, StandHere}
 use Rattle.ovl_lookup.proofs.tops.tops_in.Given as goal
 

@@ -1,12 +1,13 @@
-use Rattle.std.proofs.Common.{◌≡◌, ◌<◌, None, length, subst}
+use Rattle.std.proofs.Common.{◌≡◌, ◌<◌, None, [], length, sym, subst}
 use Rattle.std.specs.Prelude.{IfSome}
 use Rattle.std.proofs.lemmas.Result.{IfOk-weaker}
 use Rattle.ovl_layer.specs.Layers.{Entries}
+use Rattle.ovl_lookup.specs.Passes.{own_names_along, put_names}
 use Rattle.ovl_merge.specs.declared.candidates.Side.TheVariants.{Upper, Lower}
-use Rattle.ovl_merge.specs.Places.{merge_of}
+use Rattle.ovl_merge.specs.Places.{merge_of, two_layers}
 use Rattle.ovl_merge.specs.Stands.{IsOver}
 use Rattle.ovl_merge.specs.Reckoned.{IsBelow, upper_onward}
-use Rattle.ovl_merge.specs.Candidates.{candidates_told}
+use Rattle.ovl_merge.specs.Candidates.{AreCandidates, candidates_told}
 use Rattle.ovl_merge.proofs.FinishLemmas.{merge-each}
 use Rattle.ovl_merge.proofs.LayerLemmas.{upper, lower}
 use Rattle.ovl_merge.proofs.StandLemmas.{upper-sheet, lower-sheet, over-row, below-over, below-place}
@@ -48,14 +49,9 @@ merged-requires c =
     let directory = c.args.directory.now in
     let below = c.in-Some.below in
     let place = below-place m.lower (upper_onward m directory.path) below (subst (IsBelow m.lower (upper_onward m directory.path)) c.in-Some.is c.requires.visited.lower) in
-    let one = candidates_told c.in_ok-upper.upper.items in
     let other = candidates_told c.in_ok-lower.lower.items in
-    record {
-      upper = rows-ascend Upper m.upper (upper m each) directory.path one
-          (rows-there Upper m.upper c.sheet.result.now (upper-sheet stack c.sheet.result.now c.sheet.ensures) one directory.upper directory.path (upper_onward m directory.path) c.requires.visited.upper c.in_ok-upper.ensures);
-      lower = rows-ascend Lower m.lower (lower m each) place.0 other
-          (rows-there Lower m.lower c.sheet-2.result.now (lower-sheet stack c.requires.several c.sheet-2.result.now c.sheet-2.ensures) other below.row place.0 below.next place.2 c.in_ok-lower.ensures);
-    }
+    rows-ascend Lower m.lower (lower m each) place.0 other
+    (rows-there Lower m.lower c.sheet-2.result.now (lower-sheet stack c.requires.several c.sheet-2.result.now c.sheet-2.ensures) other below.row place.0 below.next place.2 c.in_ok-lower.ensures)
 
 pub returns : goal.returns
 returns c =
@@ -69,5 +65,6 @@ returns c =
     let other = candidates_told c.in_ok-lower.lower.items in
     let upper_rows = rows-there Upper m.upper c.sheet.result.now (upper-sheet stack c.sheet.result.now c.sheet.ensures) one directory.upper directory.path (upper_onward m directory.path) c.requires.visited.upper c.in_ok-upper.ensures in
     let lower_rows = rows-there Lower m.lower c.sheet-2.result.now (lower-sheet stack c.requires.several c.sheet-2.result.now c.sheet-2.ensures) other below.row place.0 below.next place.2 c.in_ok-lower.ensures in
+    let names = put_names [] (own_names_along (two_layers m).layers directory.path) in
     IfOk-weaker c.merged.result _ _ (λ both are.
-    both-candidates m directory (upper m each) place.0 place.1 one other (candidates_told both.items) upper_rows lower_rows are) c.merged.ensures
+    subst (AreCandidates m directory names) (sym are) (both-candidates m directory (upper m each) (lower m each) place.0 place.1 one other upper_rows lower_rows)) c.merged.ensures

@@ -3,8 +3,9 @@ use Rattle.std.specs.List.{AllByRecursion}
 use Rattle.ovl_names.specs.Paths.{PathNames}
 use Rattle.ovl_layer.specs.Layers.{names_below}
 use Rattle.ovl_layer.specs.Sheets.{path_at}
+use Rattle.ovl_lookup.specs.NamedLists.{names_of}
 use Rattle.ovl_merge.specs.declared.candidates.Candidate.{Candidate}
-use Rattle.ovl_merge.specs.Candidates.{candidates_told, names_of}
+use Rattle.ovl_merge.specs.Candidates.{candidates_told}
 use Rattle.ovl_merge.proofs.RowLemmas.{IsOwnRow, kid-named, kids-many, row-more, rows-all}
 use Rattle.ovl_merge.proofs.candidates.rows_in.Goals as goal
 use Rattle.ovl_merge.proofs.candidates.rows_in.Goals.{in-Some+in_ok-push, in_default}

@@ -2,7 +2,8 @@ use Rattle.std.proofs.Common.{◌≡◌, take}
 use Rattle.std.specs.List.{AllByRecursion}
 use Rattle.ovl_layer.specs.Layers.{names_below}
 use Rattle.ovl_layer.specs.Sheets.{path_at}
-use Rattle.ovl_merge.specs.Candidates.{candidates_told, names_of}
+use Rattle.ovl_lookup.specs.NamedLists.{names_of}
+use Rattle.ovl_merge.specs.Candidates.{candidates_told}
 use Rattle.ovl_merge.proofs.RowLemmas.{IsOwnRow}
 use Rattle.ovl_merge.proofs.candidates.rows_in.Given as goal
 

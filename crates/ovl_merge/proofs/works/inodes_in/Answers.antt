@@ -1,11 +1,12 @@
 use Rattle.std.proofs.Common.{◌≡◌, ◌∙◌, ◌++◌, ◌∷◌, [], List, Some, None, sym, ap}
 use Rattle.std.specs.List.{filter_map}
 use Rattle.std.proofs.lemmas.List.{append-nil, take_all}
+use Rattle.ovl_lookup.specs.NamedLists.{names_of}
 use Rattle.ovl_rewrite.specs.Directories.{NamedInode}
 use Rattle.ovl_merge.specs.declared.candidates.Candidate.{Candidate}
 use Rattle.ovl_merge.specs.Places.{merge_of}
 use Rattle.ovl_merge.specs.Directories.{named_inode}
-use Rattle.ovl_merge.specs.Candidates.{candidates_told, names_of}
+use Rattle.ovl_merge.specs.Candidates.{candidates_told}
 use Rattle.ovl_merge.proofs.VisitLemmas.{not-some}
 use Rattle.ovl_merge.proofs.CandidateLemmas.{candidate-at, listed-more}
 use Rattle.ovl_merge.proofs.works.inodes_in.Goals as goal
