@@ -19,7 +19,7 @@ use Rattle.ovl_lookup.specs.Passes.{data_below}
 use Rattle.ovl_lookup.proofs.LawsOfFound.{shown-any}
 use Rattle.ovl_lookup.proofs.LawsOfLooks.{ShowsParents-holds}
 use Rattle.ovl_check.specs.Checks.{first_below, layers_below}
-use Rattle.ovl_check.specs.Facts.{IsBelow, data_size}
+use Rattle.ovl_check.specs.Facts.{IsViewBelow, data_size}
 
 module _ (stack : StackView) (each : All IsLayer stack.layers) (i : ℕ) (directory : PathNames) (none : shows_directory (layers_below stack i) directory ≡ false) (name : PathName) where
   nothing : is_nothing (look (layers_below stack i) (child_path directory name)) ≡ true
@@ -50,11 +50,11 @@ module _ (stack : StackView) (each : All IsLayer stack.layers) (i : ℕ) (direct
 
 -- ---- in a directory that they show
 
-pub below-over : (stack : StackView) (i : ℕ) (next : PathNames) (below : Option DirView) → IsBelow stack i next below → IfSome below (IsViewOver stack)
+pub below-over : (stack : StackView) (i : ℕ) (next : PathNames) (below : Option DirView) → IsViewBelow stack i next below → IfSome below (IsViewOver stack)
 below-over stack i next None is = tt
 below-over stack i next (Some view) is = is.over
 
-module _ (stack : StackView) (i : ℕ) (next : PathNames) (view : DirView) (is : IsBelow stack i next (Some view)) (name : PathName) where
+module _ (stack : StackView) (i : ℕ) (next : PathNames) (view : DirView) (is : IsViewBelow stack i next (Some view)) (name : PathName) where
   pub shows-below : shows (from_layer view.from stack) (child_path view.path name) ≡ shows (layers_below stack i) (child_path next name)
   shows-below = λ j. shows (from_layer (is.starts j) stack) (child_path (is.stands j) name)
 

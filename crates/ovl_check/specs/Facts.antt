@@ -38,7 +38,7 @@ use Rattle.ovl_check.specs.declared.facts.Facts.{Facts}
 use Rattle.ovl_check.specs.declared.checks.EntryPlace.{EntryPlace}
 use Rattle.ovl_check.specs.declared.checks.EntryPlace.TheVariants.{At, In}
 use Rattle.ovl_check.specs.declared.directories.Child.{Child}
-use Rattle.ovl_check.specs.declared.directories.Directory.{Directory}
+use Rattle.ovl_check.specs.declared.directories.GatheredDirectory.{GatheredDirectory}
 use Rattle.ovl_check.specs.declared.contents.Content.{Content}
 use Rattle.ovl_check.specs.Contents.{find_content}
 use Rattle.ovl_check.specs.Checks.{CheckView, layer_at, first_below, layers_below, findings_alone}
@@ -66,15 +66,15 @@ seen_at layer path =
     elim (last_name path) [ Some name ↦ held name (entry_at layer path) | None ↦ [] ]
 
 -- its mark is that of its inode
-abbrev pub IsMarked : Child → Type 0
-IsMarked child = child.mark.now ≡ mark_of child.inode.now
+abbrev pub IsChildMarked : Child → Type 0
+IsChildMarked child = child.mark.now ≡ mark_of child.inode.now
 
 -- the path by which the layers below know a directory
-abbrev pub next_of : Directory → PathNames
+abbrev pub next_of : GatheredDirectory → PathNames
 next_of directory = unwrap_or directory.turned directory.path.now
 
 -- what was gathered of a directory is what the layer has there
-pub record IsGathered (layer : Entries) (directory : Directory) : Type 0 where
+pub record IsGathered (layer : Entries) (directory : GatheredDirectory) : Type 0 where
   pub layered : IsLayer layer
   pub inode : entry_at layer directory.path.now ≡ Some directory.inode.now
   pub kind : is_directory directory.inode.now ≡ true
@@ -83,7 +83,7 @@ pub record IsGathered (layer : Entries) (directory : Directory) : Type 0 where
   pub next : next_of directory ≡ (walk layer directory.path.now).next
   pub closed : directory.closed ≡ (walk layer directory.path.now).closed
   pub children : map child_seen directory.children.items ≡ held_in layer directory.path.now
-  pub marks : All IsMarked directory.children.items
+  pub marks : All IsChildMarked directory.children.items
 
 -- an entry of this mark asks what the layers below have at its name
 abbrev pub asks : Mark → Bool
@@ -92,17 +92,17 @@ asks (Meta redirect) = true
 asks _ = false
 
 -- the view of the layers below layer `i` at a path, and none where they show no directory there
-abbrev pub IsBelow : StackView → ℕ → PathNames → Option DirView → Type 0
-IsBelow stack i next below =
+abbrev pub IsViewBelow : StackView → ℕ → PathNames → Option DirView → Type 0
+IsViewBelow stack i next below =
     MatchOption below (shows_directory (layers_below stack i) next ≡ false)
     (λ view. IsViewOf stack (first_below stack i) next view)
 
 -- a directory has that view where its walk goes on, if that is open and something in it asks
-abbrev pub IsBelowOf : StackView → ℕ → Directory → Type 0
+abbrev pub IsBelowOf : StackView → ℕ → GatheredDirectory → Type 0
 IsBelowOf stack i directory =
     directory.closed ≡ false
     → list_any (λ child. asks child.mark.now) directory.children.items ≡ true
-    → IsBelow stack i (next_of directory) directory.below
+    → IsViewBelow stack i (next_of directory) directory.below
 
 -- ---- the facts of an entry of a layer, by its mark
 
@@ -130,7 +130,7 @@ data_size_on below place step =
     else data_size below place step.next
 
 -- a whiteout in this directory
-abbrev pub whiteout_in : StackView → Directory → PathName → KindFacts
+abbrev pub whiteout_in : StackView → GatheredDirectory → PathName → KindFacts
 whiteout_in below directory name =
     if is_opaque (Some directory.mark.now) then WhiteoutInOpaque
     else Whiteout directory.is_marked

@@ -4,11 +4,11 @@ use Rattle.sha2.specs.Sha256.{sha256}
 use Rattle.sha2.specs.Hashers.{Holds256}
 use Rattle.ovl_check.specs.declared.contents.Content.{Content}
 use Rattle.ovl_check.specs.Contents.{content_of}
-use Rattle.ovl_check.specs.declared.tellings.Told.{Told}
+use Rattle.ovl_check.specs.declared.tellings.Measured.{Measured}
 use Rattle.ovl_check.specs.declared.tellings.Reading.{Reading}
 
 -- how many these bytes are, and their SHA-256 digest; FIPS 180-4
-pub record IsToldOf (bytes : List ℕ) (told : Told) : Type 0 where
+pub record IsMeasured (bytes : List ℕ) (told : Measured) : Type 0 where
   pub length : told.length ≡ length bytes
   pub digest : told.digest ≡ sha256 bytes
 

@@ -5,10 +5,10 @@ ghost use Rattle.ovl_names.specs.Paths.{child_path};
 ghost use Rattle.ovl_lookup.specs.DirViews.{IsViewOver};
 ghost use Rattle.ovl_lookup.specs.Merged.{shows};
 ghost use Rattle.ovl_check.specs.Checks.{layers_below};
-ghost use Rattle.ovl_check.specs.Facts.{IsBelow, data_size, next_of};
+ghost use Rattle.ovl_check.specs.Facts.{IsViewBelow, data_size, next_of};
 ghost use Rattle.ovl_check.specs.Facts as facts;
 
-use crate::directories::{Child, Directory};
+use crate::directories::{Child, GatheredDirectory};
 use crate::places::{first_below, size_in};
 use ovl_inode::Mark;
 use ovl_lookup::{DirView, Stack, Trail};
@@ -29,7 +29,7 @@ pub(crate) fn below_children<'p, 'a: 'p>(
     requires { i < length (all_layers stack.now) }
     ensures { IfOk result
         (λ below. closed ≡ false → list_any (λ child. facts.asks child.mark.now) children.now ≡ true
-        → IsBelow stack.now i (unwrap_or turned.now path.now) below) }
+        → IsViewBelow stack.now i (unwrap_or turned.now path.now) below) }
 {
     if closed {
         return Ok(None);
@@ -58,9 +58,9 @@ fn asks(mark: &Mark) -> bool
 }
 
 /// Whether the layers below that of a directory show something under a name in its place.
-pub(crate) fn show_in(stack: &Stack, directory: &Directory<'_, '_>, name: &Name) -> bool
+pub(crate) fn show_in(stack: &Stack, directory: &GatheredDirectory<'_, '_>, name: &Name) -> bool
     requires { IfSome directory.now.below (IsViewOver stack.now) }
-    ensures { (i : ℕ) → IsBelow stack.now i (next_of directory.now) directory.now.below
+    ensures { (i : ℕ) → IsViewBelow stack.now i (next_of directory.now) directory.now.below
         → result ≡ shows (layers_below stack.now i) (child_path (next_of directory.now) name.now) }
 {
     // Each of them is a layer.
@@ -75,12 +75,12 @@ pub(crate) fn show_in(stack: &Stack, directory: &Directory<'_, '_>, name: &Name)
 pub(crate) fn data_size_in(
     alloc: Global,
     stack: &Stack,
-    directory: &Directory<'_, '_>,
+    directory: &GatheredDirectory<'_, '_>,
     name: &Name,
 ) -> Result<Option<u64>, AllocError>
     requires { IfSome directory.now.below (IsViewOver stack.now) }
     ensures { IfOk result
-        (λ size. (i : ℕ) → IsBelow stack.now i (next_of directory.now) directory.now.below
+        (λ size. (i : ℕ) → IsViewBelow stack.now i (next_of directory.now) directory.now.below
         → size ≡ data_size (layers_below stack.now i) None
         (child_path (next_of directory.now) name.now)) }
 {

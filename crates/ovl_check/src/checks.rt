@@ -12,17 +12,17 @@ ghost use Rattle.ovl_check.specs.Contents.{contents_of, contents_ascend};
 ghost use Rattle.ovl_check.specs.Checks.{check_seen, no_seen, sought_in, layer_at, findings_at_path, check_out};
 ghost use Rattle.ovl_check.specs.Checks as checks;
 ghost use Rattle.ovl_check.specs.CheckViews.{check_view};
-ghost use Rattle.ovl_check.specs.Facts.{IsGathered, IsBelow, IsBelowOf, IsMarked, asks, child_seen, entry_path, found_at_child, next_of, tells};
+ghost use Rattle.ovl_check.specs.Facts.{IsGathered, IsViewBelow, IsBelowOf, IsChildMarked, asks, child_seen, entry_path, found_at_child, next_of, tells};
 
 use crate::blobs::Blob;
 use crate::contents::Content;
-use crate::directories::{Child, Directory, directory_at, hold_origin, kids_of};
+use crate::directories::{Child, GatheredDirectory, directory_at, hold_origin, kids_of};
 use crate::facts::{BLOB_CODES, CODES, Facts, NamedBlob, is_silent};
 use crate::findings::{Code, Finding};
 use crate::gathering::{facts_of_child, facts_of_directory};
 use crate::named::ByName;
-use crate::next_places::Place;
-use crate::sources::HeldBlobs;
+use crate::next_places::NextPlace;
+use crate::sources::CheckedBlobs;
 use crate::subjects::{CheckOut, CheckWork, ToldBlobs};
 use ovl_board::{Piece, Work};
 use ovl_inode::{Digest, Mark, is_directory};
@@ -42,7 +42,7 @@ impl<'a> CheckWork<'a> {
     {
         CheckWork {
             stack,
-            told: ToldBlobs::Held(HeldBlobs {
+            told: ToldBlobs::Held(CheckedBlobs {
                 blobs: ByName::of(blobs),
                 wrong,
             }),
@@ -112,7 +112,7 @@ fn directory_out<'a>(
     alloc: Global,
     work: &CheckWork<'_>,
     layer: u16,
-    directory: Directory<'_, 'a>,
+    directory: GatheredDirectory<'_, 'a>,
 ) -> Result<CheckOut<'a>, AllocError>
     requires inside { layer < length (all_layers work.now.stack.now) }
     requires gathered { IsGathered (layer_at work.now.stack.now layer) directory }
@@ -126,7 +126,7 @@ fn directory_out<'a>(
     push_files(alloc, work, layer, &directory, &mut findings)?;
     let ordinary = is_ordinary(work.stack, layer);
     let moved = is_moved_in(ordinary, directory.mark);
-    let Directory {
+    let GatheredDirectory {
         path,
         turned,
         closed,
@@ -167,14 +167,14 @@ fn place_of<'a>(
     path: &Path,
     turned: Option<Trail<'a>>,
     closed: bool,
-) -> Result<Option<Place<'a>>, AllocError>
+) -> Result<Option<NextPlace<'a>>, AllocError>
     ensures { IfOk result
         (λ place. place ≡ (if closed then None else Some (unwrap_or turned.entry path.now))) }
 {
     if closed {
         return Ok(None);
     }
-    Ok(Some(Place::of(alloc, path, turned)?))
+    Ok(Some(NextPlace::of(alloc, path, turned)?))
 }
 
 fn nothing<'a>(alloc: Global) -> CheckOut<'a>
@@ -211,7 +211,7 @@ fn push_directory(
     alloc: Global,
     work: &CheckWork<'_>,
     layer: u16,
-    directory: &Directory<'_, '_>,
+    directory: &GatheredDirectory<'_, '_>,
     findings: &mut Vec<Finding>,
 ) -> Result<(), AllocError>
     requires inside { layer < length (all_layers work.now.stack.now) }
@@ -235,7 +235,7 @@ fn push_files(
     alloc: Global,
     work: &CheckWork<'_>,
     layer: u16,
-    directory: &Directory<'_, '_>,
+    directory: &GatheredDirectory<'_, '_>,
     findings: &mut Vec<Finding>,
 ) -> Result<(), AllocError>
     requires inside { layer < length (all_layers work.now.stack.now) }
@@ -257,7 +257,7 @@ fn push_file(
     alloc: Global,
     work: &CheckWork<'_>,
     layer: u16,
-    directory: &Directory<'_, '_>,
+    directory: &GatheredDirectory<'_, '_>,
     child: &Child<'_>,
     findings: &mut Vec<Finding>,
 ) -> Result<(), AllocError>
@@ -265,9 +265,9 @@ fn push_file(
     requires gathered { IsGathered (layer_at work.now.stack.now layer) directory.now }
     requires entry { entry_at (layer_at work.now.stack.now layer)
         (child_path directory.now.path.now child.now.name.now) ≡ Some child.now.inode.now }
-    requires marked { IsMarked child.now }
+    requires marked { IsChildMarked child.now }
     requires below { directory.now.closed ≡ false → asks child.now.mark.now ≡ true
-        → IsBelow work.now.stack.now layer (next_of directory.now) directory.now.below }
+        → IsViewBelow work.now.stack.now layer (next_of directory.now) directory.now.below }
     ensures { OnOk result (findings.new.items ≡ findings.old.items
         ++ found_at_child (check_view work.now) layer directory.now.path.now
         (child_seen child.now)) }

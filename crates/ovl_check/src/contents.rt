@@ -7,12 +7,12 @@ ghost use Rattle.ovl_check.specs.Facts as facts;
 use crate::blobs::Blob;
 use crate::facts::NamedBlob;
 use crate::named::ByName;
-use crate::sources::HeldBlobs;
+use crate::sources::CheckedBlobs;
 use ovl_inode::{Digest, Inode, blob_of};
 use std::alloc::{AllocError, Global};
 
 /// What is told of the blob that an inode names, sought once.
-pub(crate) fn blob_named(held: &HeldBlobs<'_>, inode: &Inode) -> NamedBlob
+pub(crate) fn blob_named(held: &CheckedBlobs<'_>, inode: &Inode) -> NamedBlob
     ensures { result
         ≡ facts.blob_named (contents_of (blob_views held.now.blobs.elements.now)) inode.now }
 {

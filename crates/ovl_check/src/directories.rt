@@ -8,7 +8,7 @@ ghost use Rattle.ovl_layer.specs.Layers.{is_directory_at};
 ghost use Rattle.ovl_layer.specs.Sheets.{path_at};
 ghost use Rattle.ovl_board.specs.Pieces.{piece_in};
 ghost use Rattle.ovl_check.specs.Checks.{layer_at};
-ghost use Rattle.ovl_check.specs.Facts.{IsGathered, IsBelowOf, IsMarked, child_seen, seen_at, held_in};
+ghost use Rattle.ovl_check.specs.Facts.{IsGathered, IsBelowOf, IsChildMarked, child_seen, seen_at, held_in};
 
 use crate::below::below_children;
 use crate::marks::{attribute_is, has_attribute};
@@ -30,7 +30,7 @@ pub(crate) struct Child<'a> {
 
 /// A directory of a layer, gathered once for all that is in it.
 #[derive(Drop)]
-pub(crate) struct Directory<'p, 'a> {
+pub(crate) struct GatheredDirectory<'p, 'a> {
     pub(crate) path: &'p Path,
     pub(crate) inode: &'a Inode,
     pub(crate) mark: &'p Mark,
@@ -53,7 +53,7 @@ pub(crate) fn directory_at<'p, 'a: 'p>(
     i: usize,
     path: &'p Path,
     plain: &'p Mark,
-) -> Result<Option<Directory<'p, 'a>>, AllocError>
+) -> Result<Option<GatheredDirectory<'p, 'a>>, AllocError>
     requires inside { i < length (all_layers stack.now) }
     requires plain { plain.now ≡ DirPlain }
     ensures { IfOk result (λ found. MatchOption found
@@ -76,7 +76,7 @@ pub(crate) fn directory_at<'p, 'a: 'p>(
     let mark = mark_in(sheet, row, path, plain);
     let children = children_in(alloc, sheet, row)?;
     let below = below_children(alloc, stack, i, path, &turned, closed, &children)?;
-    Ok(Some(Directory {
+    Ok(Some(GatheredDirectory {
         path,
         inode,
         mark,
@@ -93,7 +93,7 @@ fn children_in(alloc: Global, sheet: &Sheet, row: u32) -> Result<Vec<Child<'_>>,
     requires { row < length sheet.now }
     ensures seen { IfOk result
         (λ children. map child_seen children.items ≡ held_in sheet.now (path_at sheet.now row)) }
-    ensures marks { IfOk result (λ children. All IsMarked children.items) }
+    ensures marks { IfOk result (λ children. All IsChildMarked children.items) }
 {
     let kids = sheet.kids(row);
     let mut children = Vec::with_capacity(alloc, kids.len())?;
@@ -114,7 +114,7 @@ fn push_child<'a>(
         (map child_seen children.new.items
         ≡ map child_seen children.old.items ++ seen_at sheet.now (path_at sheet.now number)) }
     ensures marks { OnOk result
-        (All IsMarked children.old.items → All IsMarked children.new.items) }
+        (All IsChildMarked children.old.items → All IsChildMarked children.new.items) }
 {
     let Some(name) = sheet.name(number) else {
         return Ok(());

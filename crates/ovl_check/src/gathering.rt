@@ -16,11 +16,11 @@ ghost use Rattle.ovl_lookup.specs.Merged.{place_of_data};
 ghost use Rattle.ovl_lookup.specs.Sound.{is_seen_there};
 ghost use Rattle.ovl_check.specs.Checks.{layer_at, layers_below};
 ghost use Rattle.ovl_check.specs.CheckViews.{check_view};
-ghost use Rattle.ovl_check.specs.Facts.{IsGathered, IsBelow, IsMarked, AreFacts, asks, data_size_on, next_of};
+ghost use Rattle.ovl_check.specs.Facts.{IsGathered, IsViewBelow, IsChildMarked, AreFacts, asks, data_size_on, next_of};
 ghost use Rattle.ovl_check.specs.Facts as facts;
 
 use crate::below::{data_size_in, show_in};
-use crate::directories::{Child, Directory};
+use crate::directories::{Child, GatheredDirectory};
 use crate::facts::{Facts, KindFacts, NamedBlob, OldPlace, ThingShown};
 use crate::marks::is_plain;
 use crate::places::{data_size_below, sight_below, step_of};
@@ -35,7 +35,7 @@ pub(crate) fn facts_of_directory<'a>(
     alloc: Global,
     work: &CheckWork<'_>,
     i: usize,
-    directory: &'a Directory<'_, '_>,
+    directory: &'a GatheredDirectory<'_, '_>,
     holds_origin: bool,
 ) -> Result<Facts<'a>, AllocError>
     requires inside { i < length (all_layers work.now.stack.now) }
@@ -67,7 +67,7 @@ pub(crate) fn facts_of_child<'a>(
     alloc: Global,
     work: &CheckWork<'_>,
     i: usize,
-    directory: &Directory<'_, '_>,
+    directory: &GatheredDirectory<'_, '_>,
     child: &'a Child<'_>,
     blob: NamedBlob,
 ) -> Result<Facts<'a>, AllocError>
@@ -76,9 +76,9 @@ pub(crate) fn facts_of_child<'a>(
     requires entry { entry_at (layer_at work.now.stack.now i)
         (child_path directory.now.path.now child.now.name.now) ≡ Some child.now.inode.now }
     requires none { is_directory child.now.inode.now ≡ false }
-    requires marked { IsMarked child.now }
+    requires marked { IsChildMarked child.now }
     requires below { directory.now.closed ≡ false → asks child.now.mark.now ≡ true
-        → IsBelow work.now.stack.now i (next_of directory.now) directory.now.below }
+        → IsViewBelow work.now.stack.now i (next_of directory.now) directory.now.below }
     requires blob { blob ≡ facts.blob_named (check_view work.now).contents child.now.inode.now }
     ensures { IfOk result
         (λ facts. (facts.inode.now ≡ child.now.inode.now)
@@ -107,7 +107,7 @@ fn old_place(
     alloc: Global,
     stack: &Stack,
     i: usize,
-    directory: &Directory<'_, '_>,
+    directory: &GatheredDirectory<'_, '_>,
 ) -> Result<OldPlace, AllocError>
     requires { i < length (all_layers stack.now) }
     ensures { IfOk result
@@ -205,11 +205,11 @@ fn is_elsewhere(turned: &Option<Trail<'_>>, place: &Trail<'_>) -> bool
 }
 
 // A whiteout in a directory.
-fn whiteout_in(stack: &Stack, directory: &Directory<'_, '_>, name: &Name) -> KindFacts
+fn whiteout_in(stack: &Stack, directory: &GatheredDirectory<'_, '_>, name: &Name) -> KindFacts
     requires { directory.now.closed ≡ false → IfSome directory.now.below (IsViewOver stack.now) }
     ensures { (i : ℕ)
         → (directory.now.closed ≡ false
-        → IsBelow stack.now i (next_of directory.now) directory.now.below)
+        → IsViewBelow stack.now i (next_of directory.now) directory.now.below)
         → result ≡ facts.whiteout_in (layers_below stack.now i) directory.now name.now }
 {
     if matches!(directory.mark, Mark::DirOpaque) {
@@ -234,13 +234,13 @@ fn data_size(
     alloc: Global,
     stack: &Stack,
     i: usize,
-    directory: &Directory<'_, '_>,
+    directory: &GatheredDirectory<'_, '_>,
     name: &Name,
     redirect: &Option<Redirect>,
 ) -> Result<Option<u64>, AllocError>
     requires inside { i < length (all_layers stack.now) }
     requires below { directory.now.closed ≡ false
-        → IsBelow stack.now i (next_of directory.now) directory.now.below }
+        → IsViewBelow stack.now i (next_of directory.now) directory.now.below }
     ensures { IfOk result (λ size. (inode : Inode) → size
         ≡ data_size_on (layers_below stack.now i) (place_of_data (Meta redirect.now))
         (walk_to_file inode (Meta redirect.now)

@@ -24,7 +24,7 @@ pub use blobs::{BLOB_SPACE, Blob, BlobWork, blobs_in_order, finish_blobs};
 pub use contents::{Content, contents_held};
 pub use findings::{Code, Finding};
 pub use finish::finish_check;
-pub use next_places::Place;
+pub use next_places::NextPlace;
 pub use stated::stated_names;
 pub use subjects::{CheckOut, CheckWork};
 pub use tellings::{PART, ReadFault, content_in};

@@ -15,14 +15,14 @@ use std::marker::Model;
 /// The path by which the layers below know a directory: its own, or where marks turn that, another
 /// one.
 #[derive(Debug, Drop)]
-pub struct Place<'a> {
+pub struct NextPlace<'a> {
     // Names that the layer holds, where in a text of their own they would take more bytes.
     held: Trail<'a>,
     // The names below these.
     below: Path,
 }
 
-impl<'a> Model for Place<'a> {
+impl<'a> Model for NextPlace<'a> {
     ghost use Rattle.std.specs.Prelude.{◌++◌};
     ghost use Rattle.ovl_names.specs.Paths.{PathNames};
 
@@ -31,27 +31,27 @@ impl<'a> Model for Place<'a> {
     ghost view = { λ a. a.held ++ a.below };
 }
 
-impl<'a> Place<'a> {
+impl<'a> NextPlace<'a> {
     /// That of a directory of this path, unless marks turn it.
     pub(crate) fn of(
         alloc: Global,
         path: &Path,
         turned: Option<Trail<'a>>,
-    ) -> Result<Place<'a>, AllocError>
+    ) -> Result<NextPlace<'a>, AllocError>
         ensures { IfOk result (λ place. place ≡ unwrap_or turned.entry path.now) }
     {
         let Some(held) = turned else {
-            return Ok(Place {
+            return Ok(NextPlace {
                 held: Trail::root(alloc),
                 below: path.copy(alloc)?,
             });
         };
         match held.short_path(alloc)? {
-            Some(below) => Ok(Place {
+            Some(below) => Ok(NextPlace {
                 held: Trail::root(alloc),
                 below,
             }),
-            None => Ok(Place {
+            None => Ok(NextPlace {
                 held,
                 below: Path::root(alloc),
             }),
@@ -72,7 +72,7 @@ impl<'a> Place<'a> {
 /// redirect begin with all its names.
 #[derive(Debug, Drop)]
 pub(crate) struct LentPlace<'p, 'a> {
-    pub(crate) place: &'p Place<'a>,
+    pub(crate) place: &'p NextPlace<'a>,
 }
 
 impl<'p, 'a> Model for LentPlace<'p, 'a> {

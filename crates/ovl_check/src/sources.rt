@@ -7,7 +7,7 @@ use ovl_inode::Digest;
 
 /// Blobs that are held, and the names of those with wrong bytes.
 #[derive(Drop)]
-pub(crate) struct HeldBlobs<'a> {
+pub(crate) struct CheckedBlobs<'a> {
     pub(crate) blobs: ByName<'a, Blob>,
     pub(crate) wrong: &'a [Digest],
     ghost all_wrong: { wrong.now ≡ wrong_names (blob_views blobs.elements.now) },

@@ -6,8 +6,8 @@ use crate::contents::{Content, blob_named, content_named};
 use crate::facts::NamedBlob;
 use crate::findings::Finding;
 use crate::named::ByName;
-use crate::next_places::Place;
-use crate::sources::HeldBlobs;
+use crate::next_places::NextPlace;
+use crate::sources::CheckedBlobs;
 use ovl_inode::Inode;
 use ovl_lookup::Stack;
 
@@ -19,7 +19,7 @@ pub struct CheckOut<'a> {
     pub findings: Vec<Finding>,
     /// The path by which the layers below know the directory, where they aren't hidden; none in a
     /// data-only layer.
-    pub place: Option<Place<'a>>,
+    pub place: Option<NextPlace<'a>>,
     /// Whether the directory is a moved one; none is in a data-only layer.
     pub moved: bool,
 }
@@ -35,7 +35,7 @@ pub struct CheckWork<'a> {
 /// What is told of the blobs.
 #[derive(Drop)]
 pub(crate) enum ToldBlobs<'a> {
-    Held(HeldBlobs<'a>),
+    Held(CheckedBlobs<'a>),
     Told(ByName<'a, Content>),
 }
 

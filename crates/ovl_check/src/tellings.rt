@@ -1,7 +1,7 @@
 ghost use Rattle.std.specs.Prelude.{◌≡◌, ◌<◌, ◌+◌, ◌-◌, ◌^◌, ◌++◌, [], List, ℕ, Err, IfOk, IfSome, OnOk, length};
 ghost use Rattle.std.specs.Io.KnownBytes.{Consumes, IsAtEnd};
 ghost use Rattle.ovl_check.specs.declared.tellings.ReadFault.TheVariants.{TooLong};
-ghost use Rattle.ovl_check.specs.Told.{IsToldOf, HasRead, IsContentOf};
+ghost use Rattle.ovl_check.specs.Told.{IsMeasured, HasRead, IsContentOf};
 
 use crate::contents::Content;
 use ovl_inode::Digest;
@@ -22,7 +22,7 @@ pub enum ReadFault {
 
 // What is told of bytes that aren't held: how many they are, and their SHA-256 digest.
 #[derive(Clone, Copy, Debug)]
-struct Told {
+struct Measured {
     length: u64,
     digest: [u8; 32],
 }
@@ -58,14 +58,14 @@ pub fn content_in<R: Read>(
 }
 
 // The length and the digest of all that a reader gives up to its end.
-fn digest_in<R: Read>(reader: &mut R, room: &mut [u8]) -> Result<Told, ReadFault>
+fn digest_in<R: Read>(reader: &mut R, room: &mut [u8]) -> Result<Measured, ReadFault>
     requires { 0 < length room.old }
     ensures room { length room.new ≡ length room.old }
     ensures taken { IfOk result (λ told. (bytes : List ℕ)
         × (Consumes (R.remaining reader.old) (R.remaining reader.new) bytes
-        × IsToldOf bytes told)) }
+        × IsMeasured bytes told)) }
     ensures whole { IfOk result
-        (λ told. IfSome (R.remaining reader.old) (λ left. IsToldOf left told)) }
+        (λ told. IfSome (R.remaining reader.old) (λ left. IsMeasured left told)) }
     ensures end { OnOk result (IsAtEnd (R.remaining reader.new)) }
     ensures lost { (bytes : List ℕ)
         × Consumes (R.remaining reader.old) (R.remaining reader.new) bytes }
@@ -124,10 +124,10 @@ impl Reading {
         Ok(count)
     }
 
-    fn told(self) -> Told
-        ensures { (bytes : List ℕ) → HasRead bytes self → IsToldOf bytes result }
+    fn told(self) -> Measured
+        ensures { (bytes : List ℕ) → HasRead bytes self → IsMeasured bytes result }
     {
-        Told {
+        Measured {
             length: self.length,
             digest: sha2::Digest::finalize(self.hasher),
         }

@@ -1,7 +1,7 @@
 use Rattle.std.proofs.Common.{◌∙◌, ap, subst}
 use Rattle.std.specs.Option.{option_map}
 use Rattle.ovl_inode.specs.Kinds.{size_of}
-use Rattle.ovl_check.specs.Facts.{IsBelow, next_of}
+use Rattle.ovl_check.specs.Facts.{IsViewBelow, next_of}
 use Rattle.ovl_check.proofs.BelowLemmas.{data-nothing, data-below}
 use Rattle.ovl_check.proofs.below.data_size_in.Goals as goal
 
@@ -12,4 +12,4 @@ pub returns : goal.returns
 returns c i is =
     let stack = c.args.stack.now in
     let next = next_of c.args.directory.now in
-    c.size_in.ensures ∙ (ap (option_map size_of) c.in_ok-data.ensures ∙ data-below stack i next c.in-Some.view (subst (IsBelow stack i next) c.in-Some.is is) c.args.name.now)
+    c.size_in.ensures ∙ (ap (option_map size_of) c.in_ok-data.ensures ∙ data-below stack i next c.in-Some.view (subst (IsViewBelow stack i next) c.in-Some.is is) c.args.name.now)

@@ -6,7 +6,7 @@ use Rattle.ovl_check.specs.declared.directories.Child.{Child}
 use Rattle.ovl_check.specs.declared.findings.Finding.{Finding}
 use Rattle.ovl_check.specs.Checks.{layer_at}
 use Rattle.ovl_check.specs.CheckViews.{check_view}
-use Rattle.ovl_check.specs.Facts.{IsMarked, asks, child_seen, found_at_child}
+use Rattle.ovl_check.specs.Facts.{IsChildMarked, asks, child_seen, found_at_child}
 use Rattle.ovl_check.proofs.HeldLemmas.{child-there, any-at}
 use Rattle.ovl_check.proofs.ListFacts.{flat-more}
 use Rattle.ovl_check.proofs.checks.push_files.Goals as goal
@@ -24,7 +24,7 @@ pub push_file-requires-clause-marked : goal.push_file-requires-clause-marked
 push_file-requires-clause-marked c =
     let same = c.deref-child-items.ensures.value in
     let is : c.child-item.result ≡ get_or c.args.directory.now.children.items c.loop-child.child-index c.child-item.result = c.child-item.is ∙ ap (λ (children : List Child). get_or children c.loop-child.child-index c.child-item.result) same in
-    subst IsMarked (sym is) (c.requires.gathered.marks c.loop-child.child-index c.child-item.result (omega (arith, ap length same)))
+    subst IsChildMarked (sym is) (c.requires.gathered.marks c.loop-child.child-index c.child-item.result (omega (arith, ap length same)))
 
 pub push_file-requires-clause-below : goal.push_file-requires-clause-below
 push_file-requires-clause-below c opened asked =
