@@ -8,7 +8,6 @@ ghost use Rattle.ovl_check.specs.Walks.{AreLayerWalks};
 use crate::samples::stack_of;
 use ovl_board::{Parcel, Piece, plain_walk};
 use ovl_check::{CheckOut, CheckWork, finish_check};
-use ovl_names::Path;
 use std::alloc::Global;
 use std::test::Fail;
 
@@ -25,11 +24,7 @@ fn walks_of<'a>(
 {
     let mut layers = Vec::new(alloc);
     for i in 0..count {
-        let root = Piece {
-            space: i,
-            dir: Path::root(alloc),
-        };
-        layers.push(plain_walk(alloc, work, root)?)?;
+        layers.push(plain_walk(alloc, work, Piece::root(alloc, i))?)?;
     }
     Ok(layers)
 }

@@ -15,16 +15,6 @@ use std::thread::Threads;
 
 const LOOKS_OF_A_GATE: u32 = 20_000_000;
 
-/// The root as a piece.
-pub(crate) fn root_piece(alloc: Global) -> Piece
-    ensures { result ≡ record { space = 0; dir = [] } }
-{
-    Piece {
-        space: 0,
-        dir: Path::root(alloc),
-    }
-}
-
 // How often each of these pieces was asked for. As a gate it lets all pass.
 #[derive(Drop)]
 struct Asked<'a, R: Wait> {
@@ -243,7 +233,7 @@ fn run_told(alloc: Global, fault: RunFault) -> Result<String, Fail> {
 #[test]
 fn faults_of_a_run_have_their_texts(rt: HostRuntime) -> Result<(), Fail> {
     let alloc = rt.alloc();
-    let missing = BoardFault::Missing(root_piece(alloc));
+    let missing = BoardFault::Missing(Piece::root(alloc, 0));
     same(
         "memory",
         run_told(alloc, RunFault::Memory)?.as_str(),
@@ -272,7 +262,7 @@ fn counted<R: Threads + Wait + Sync, G: Gate + Sync>(
 ) -> Result<String, Fail> {
     let stack = stack_of(alloc, layer)?;
     let work = ShowWork::new(&stack);
-    match run(rt, alloc, &work, root_piece(alloc), workers, gate) {
+    match run(rt, alloc, &work, Piece::root(alloc, 0), workers, gate) {
         Ok((parcels, count)) => count_told(alloc, parcels.len(), count),
         Err(fault) => Ok(format!(in alloc; "{fault:?}")?),
     }

@@ -3,7 +3,6 @@ ghost use Rattle.std.specs.Prelude.{IfOk};
 ghost use Rattle.ovl_board.specs.Balance.{AllLawful};
 ghost use Rattle.ovl_board.specs.Assembly.{bare};
 
-use crate::gates::root_piece;
 use crate::samples::{blobs_of, manifest_of, stack_of};
 use crate::tables::{parts_of, same};
 use ovl_board::{Core, CoreFault, Event, Parcel, Piece, assemble, kids_lawful, plain_walk};
@@ -16,7 +15,7 @@ use ovl_layer::Layer;
 use ovl_lookup::Stack;
 use ovl_manifest::write_layer;
 use ovl_merge::{MergeDone, MergeFault, MergeWork, finish_merge};
-use ovl_names::{Name, Path};
+use ovl_names::Name;
 use ovl_vacuum::{VacuumDone, VacuumWork, finish_vacuum};
 use std::alloc::{AllocError, Global};
 use std::test::Fail;
@@ -40,7 +39,7 @@ fn told<T: Drop>(alloc: Global, parcels: &[Parcel<Vec<(Name, T)>>]) -> Result<St
 // possible.
 fn shared(alloc: Global, stack: &Stack, steps: &[Event]) -> Result<String, Fail> {
     let work = ShowWork::new(stack);
-    let mut core = Core::start(alloc, &work, root_piece(alloc), 2)?;
+    let mut core = Core::start(alloc, &work, Piece::root(alloc, 0), 2)?;
     if core.step(alloc, Event::Pop(1)) != Err(CoreFault::NotPossible) {
         return Err(Fail::new("the second worker has nothing"));
     }
@@ -70,7 +69,7 @@ fn checked<T: Drop>(alloc: Global, parcels: Vec<Parcel<T>>) -> Result<Vec<Parcel
 // The pieces of parcels, and behind `=` those of the walk that is assembled from them.
 fn assembled<T: Drop>(alloc: Global, parcels: Vec<Parcel<Vec<(Name, T)>>>) -> Result<String, Fail> {
     let arrived = told(alloc, &parcels)?;
-    let walk = assemble(alloc, &root_piece(alloc), checked(alloc, parcels)?)?;
+    let walk = assemble(alloc, &Piece::root(alloc, 0), checked(alloc, parcels)?)?;
     let walk = told(alloc, &walk)?;
     Ok(format!(in alloc; "{arrived}= {walk}")?)
 }
@@ -101,7 +100,7 @@ fn two_workers_share_the_directories(rt: HostRuntime) -> Result<(), Fail> {
 fn one_worker_walks_the_merged_tree(rt: HostRuntime) -> Result<(), Fail> {
     let stack = stack_of(rt.alloc(), "dir /a, dir /b")?;
     let work = ShowWork::new(&stack);
-    let walk = plain_walk(rt.alloc(), &work, root_piece(rt.alloc()))?;
+    let walk = plain_walk(rt.alloc(), &work, Piece::root(rt.alloc(), 0))?;
     same(
         "one worker",
         told(rt.alloc(), &walk)?.as_str(),
@@ -146,12 +145,12 @@ fn idle_told(alloc: Global, parcels: &[Parcel<Vec<(Name, bool)>>]) -> Result<Str
 
 fn vacuum_walk(alloc: Global, stack: &Stack) -> Result<String, Fail> {
     let work = VacuumWork::new(stack);
-    idle_told(alloc, &plain_walk(alloc, &work, root_piece(alloc))?)
+    idle_told(alloc, &plain_walk(alloc, &work, Piece::root(alloc, 0))?)
 }
 
 fn vacuum_done(alloc: Global, stack: &Stack) -> Result<VacuumDone, Fail> {
     let work = VacuumWork::new(stack);
-    let parcels = plain_walk(alloc, &work, root_piece(alloc))?;
+    let parcels = plain_walk(alloc, &work, Piece::root(alloc, 0))?;
     Ok(finish_vacuum(alloc, &work, parcels)?)
 }
 
@@ -180,12 +179,12 @@ const FILLED: &str = "dir /p opaque=y, dir /p/q, file /p/q/k, whiteout /x";
 
 fn deref_walk(alloc: Global, stack: &Stack) -> Result<String, Fail> {
     let work = DerefWork::new(stack);
-    told(alloc, &plain_walk(alloc, &work, root_piece(alloc))?)
+    told(alloc, &plain_walk(alloc, &work, Piece::root(alloc, 0))?)
 }
 
 fn dereferenced(alloc: Global, stack: &Stack) -> Result<Layer, Fail> {
     let work = DerefWork::new(stack);
-    let parcels = plain_walk(alloc, &work, root_piece(alloc))?;
+    let parcels = plain_walk(alloc, &work, Piece::root(alloc, 0))?;
     Ok(finish_deref(alloc, &work, parcels)?)
 }
 
@@ -202,12 +201,12 @@ const FLATTENED: &str = "dir /p, dir /p/q, file /p/q/k";
 
 fn flatten_walk(alloc: Global, stack: &Stack) -> Result<String, Fail> {
     let work = FlattenWork::new(stack);
-    told(alloc, &plain_walk(alloc, &work, root_piece(alloc))?)
+    told(alloc, &plain_walk(alloc, &work, Piece::root(alloc, 0))?)
 }
 
 fn flattened(alloc: Global, stack: &Stack) -> Result<Layer, Fail> {
     let work = FlattenWork::new(stack);
-    let parcels = plain_walk(alloc, &work, root_piece(alloc))?;
+    let parcels = plain_walk(alloc, &work, Piece::root(alloc, 0))?;
     Ok(finish_flatten(alloc, &work, parcels)?)
 }
 
@@ -224,12 +223,12 @@ const PULLED: &str = "whiteout /a, dir /b redirect=/a | dir /a, file /a/k | dir 
 
 fn merge_walk(alloc: Global, stack: &Stack) -> Result<String, Fail> {
     let work = MergeWork::new(stack)?;
-    told(alloc, &plain_walk(alloc, &work, root_piece(alloc))?)
+    told(alloc, &plain_walk(alloc, &work, Piece::root(alloc, 0))?)
 }
 
 fn merged(alloc: Global, stack: &Stack) -> Result<MergeDone, Fail> {
     let work = MergeWork::new(stack)?;
-    let parcels = plain_walk(alloc, &work, root_piece(alloc))?;
+    let parcels = plain_walk(alloc, &work, Piece::root(alloc, 0))?;
     Ok(finish_merge(alloc, &work, parcels)?)
 }
 
@@ -258,7 +257,7 @@ fn a_layer_alone_is_not_merged(rt: HostRuntime) -> Result<(), Fail> {
 
 fn is_over_the_limits(alloc: Global, stack: &Stack) -> Result<bool, Fail> {
     let work = MergeWork::new(stack)?;
-    let parcels = plain_walk(alloc, &work, root_piece(alloc))?;
+    let parcels = plain_walk(alloc, &work, Piece::root(alloc, 0))?;
     Ok(finish_merge(alloc, &work, parcels).err() == Some(MergeFault::LimitOut))
 }
 
@@ -293,10 +292,7 @@ fn counts_of<T: Drop>(alloc: Global, parcels: &[Parcel<Vec<T>>]) -> Result<Strin
 // How many wrong blobs there are at each piece.
 fn blob_walk(alloc: Global, blobs: &[Blob]) -> Result<String, Fail> {
     let work = BlobWork::new(blobs);
-    let root = Piece {
-        space: BLOB_SPACE,
-        dir: Path::root(alloc),
-    };
+    let root = Piece::root(alloc, BLOB_SPACE);
     counts_of(alloc, &plain_walk(alloc, &work, root)?)
 }
 
@@ -305,10 +301,7 @@ fn wrong_names(alloc: Global, blobs: &[Blob]) -> Result<Vec<Digest>, Fail> {
         return Err(Fail::new("the names do not ascend"));
     }
     let work = BlobWork::new(blobs);
-    let root = Piece {
-        space: BLOB_SPACE,
-        dir: Path::root(alloc),
-    };
+    let root = Piece::root(alloc, BLOB_SPACE);
     let parcels = plain_walk(alloc, &work, root)?;
     Ok(finish_blobs(alloc, &work, parcels)?)
 }

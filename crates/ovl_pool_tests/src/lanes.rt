@@ -4,7 +4,6 @@ ghost use Rattle.ovl_lanes.specs.Seats.{IsNew};
 
 use ovl_board::Piece;
 use ovl_lanes::{LaneFault, Seat, close, lanes};
-use ovl_names::Path;
 use std::alloc::Global;
 use std::test::Fail;
 
@@ -35,13 +34,6 @@ fn there_are_1_to_64_lanes(rt: HostRuntime) -> Result<(), Fail> {
     Ok(())
 }
 
-fn piece_of(alloc: Global, space: u16) -> Piece {
-    Piece {
-        space,
-        dir: Path::root(alloc),
-    }
-}
-
 fn space_of(piece: Option<Piece>) -> Option<u16> {
     match piece {
         Some(piece) => Some(piece.space),
@@ -52,11 +44,11 @@ fn space_of(piece: Option<Piece>) -> Option<u16> {
 #[test]
 fn a_lane_gives_its_first_piece_to_a_pass_or_to_its_owner(rt: HostRuntime) -> Result<(), Fail> {
     let mut seat = seat(rt.alloc())?;
-    let first = seat.lane.push(piece_of(rt.alloc(), 2)).is_ok();
-    let second = seat.lane.push(piece_of(rt.alloc(), 1)).is_ok();
+    let first = seat.lane.push(Piece::root(rt.alloc(), 2)).is_ok();
+    let second = seat.lane.push(Piece::root(rt.alloc(), 1)).is_ok();
     let stolen = space_of(steal_once(&mut seat));
     let popped = space_of(seat.lane.pop());
-    let third = seat.lane.push(piece_of(rt.alloc(), 3)).is_ok();
+    let third = seat.lane.push(Piece::root(rt.alloc(), 3)).is_ok();
     let gathered = close(seat);
     assert!(rt; first && second && third);
     assert!(rt; (stolen, popped) == (Some(2), Some(1)));

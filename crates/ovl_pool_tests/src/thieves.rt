@@ -8,7 +8,6 @@ ghost use Rattle.ovl_lanes.specs.Seats.{IsNew};
 use crate::lanes::seat;
 use ovl_board::Piece;
 use ovl_lanes::{Gathered, Lane, Pass, Seat, Thief, close};
-use ovl_names::Path;
 use std::alloc::{AllocError, Global};
 use std::test::Fail;
 use std::thread::{Threads, join};
@@ -24,8 +23,7 @@ fn pushing(alloc: Global, mut lane: Lane) -> Result<Lane, AllocError>
         × ((account_of ended).joined ≡ (account_of lane).joined)) }
 {
     for space in 0..PIECES {
-        let dir = Path::root(alloc);
-        if lane.push(Piece { space, dir }).is_err() {
+        if lane.push(Piece::root(alloc, space)).is_err() {
             return Err(AllocError);
         }
     }

@@ -1,5 +1,5 @@
 //! Walks of a work, its machine of steps, lanes, and runs by several workers.
-ghost use Rattle.std.specs.Prelude.{◌≡◌, IfOk, []};
+ghost use Rattle.std.specs.Prelude.{IfOk};
 ghost use Rattle.ovl_board.specs.Balance.{AllLawful};
 ghost use Rattle.ovl_board.specs.Assembly.{bare};
 
@@ -26,16 +26,6 @@ const STEPS: [Event; 8] = [
     Event::Pop(1),
     Event::Work(1),
 ];
-
-/// The root as a piece of this space.
-pub(crate) fn root_of(alloc: Global, space: u16) -> Piece
-    ensures { result ≡ record { space = space; dir = [] } }
-{
-    Piece {
-        space,
-        dir: Path::root(alloc),
-    }
-}
 
 fn push_path(alloc: Global, paths: &mut Vec<Path>, text: &str) -> Result<(), AllocError> {
     match Path::parse(alloc, text) {
@@ -67,9 +57,9 @@ fn tree_of(alloc: Global, size: usize) -> Result<Tree, AllocError> {
 
 // Parcels that aren't sorted stay in their order.
 fn is_sorted(alloc: Global, work: &Tree) -> Result<bool, AllocError> {
-    let walk = plain_walk(alloc, work, root_of(alloc, 0))?;
-    let mut parcels = plain_walk(alloc, work, root_of(alloc, 0))?;
-    let mut same = plain_walk(alloc, work, root_of(alloc, 0))?;
+    let walk = plain_walk(alloc, work, Piece::root(alloc, 0))?;
+    let mut parcels = plain_walk(alloc, work, Piece::root(alloc, 0))?;
+    let mut same = plain_walk(alloc, work, Piece::root(alloc, 0))?;
     parcels.reverse();
     same.reverse();
     if sort_parcels(&mut parcels).is_err() {
@@ -96,10 +86,10 @@ fn checked(alloc: Global, parcels: Vec<Parcel<()>>) -> Result<Vec<Parcel<()>>, A
 }
 
 fn is_assembled(alloc: Global, work: &Tree) -> Result<bool, BoardFault> {
-    let walk = plain_walk(alloc, work, root_of(alloc, 0))?;
-    let mut parcels = plain_walk(alloc, work, root_of(alloc, 0))?;
+    let walk = plain_walk(alloc, work, Piece::root(alloc, 0))?;
+    let mut parcels = plain_walk(alloc, work, Piece::root(alloc, 0))?;
     parcels.reverse();
-    let assembled = assemble(alloc, &root_of(alloc, 0), checked(alloc, parcels)?)?;
+    let assembled = assemble(alloc, &Piece::root(alloc, 0), checked(alloc, parcels)?)?;
     Ok(assembled == walk)
 }
 
@@ -116,7 +106,7 @@ fn are_copied(alloc: Global, parcels: &[Parcel<()>]) -> Result<bool, AllocError>
 
 // A step that is refused changes nothing, so that it can be taken then.
 fn is_stepped(alloc: Global, work: &Tree) -> Result<bool, CoreFault> {
-    let mut core = Core::start(alloc, work, root_of(alloc, 0), 2)?;
+    let mut core = Core::start(alloc, work, Piece::root(alloc, 0), 2)?;
     for event in STEPS {
         again!(core.step(alloc, event), CoreFault::Memory)?;
     }
@@ -132,7 +122,7 @@ fn are_pushed(alloc: Global) -> Result<bool, LaneFault> {
         return Ok(false);
     };
     for space in 0..40 {
-        if let Err(back) = seat.lane.push(root_of(alloc, space)) {
+        if let Err(back) = seat.lane.push(Piece::root(alloc, space)) {
             if back.space != space || seat.lane.push(back).is_err() {
                 return Ok(false);
             }
@@ -179,8 +169,8 @@ fn is_run<R: Threads + Wait + Sync>(
     work: &Tree,
     workers: usize,
 ) -> Result<bool, RunFault> {
-    let (parcels, count) = run(rt, alloc, work, root_of(alloc, 0), workers, &OpenGate)?;
-    let walk = plain_walk(alloc, work, root_of(alloc, 0))?;
+    let (parcels, count) = run(rt, alloc, work, Piece::root(alloc, 0), workers, &OpenGate)?;
+    let walk = plain_walk(alloc, work, Piece::root(alloc, 0))?;
     Ok(
         parcels == walk
             && (count.known, count.delivered, count.taken, count.left) == (200, 200, 200, 0),

@@ -5,9 +5,8 @@ ghost use Rattle.ovl_check.specs.Checks.{check_seen};
 ghost use Rattle.ovl_check.specs.CheckViews.{check_view};
 ghost use Rattle.ovl_check.specs.Walks.{AreLayerWalks};
 
-use crate::board::root_of;
 use crate::samples::{MOVED, stack_of};
-use ovl_board::{Parcel, plain_walk};
+use ovl_board::{Parcel, Piece, plain_walk};
 use ovl_check::{
     BLOB_SPACE, Blob, BlobWork, CheckOut, CheckWork, blobs_in_order, finish_blobs, finish_check,
     stated_names,
@@ -30,7 +29,7 @@ fn walks_of<'a>(
 {
     let mut layers = Vec::new(alloc);
     for i in 0..count {
-        layers.push(plain_walk(alloc, work, root_of(alloc, i))?)?;
+        layers.push(plain_walk(alloc, work, Piece::root(alloc, i))?)?;
     }
     Ok(layers)
 }
@@ -53,7 +52,7 @@ fn are_digested(alloc: Global, blobs: &[Blob]) -> Result<bool, AllocError> {
         return Ok(false);
     }
     let work = BlobWork::new(blobs);
-    let parcels = plain_walk(alloc, &work, root_of(alloc, BLOB_SPACE))?;
+    let parcels = plain_walk(alloc, &work, Piece::root(alloc, BLOB_SPACE))?;
     let wrong = finish_blobs(alloc, &work, parcels)?;
     Ok(wrong.len() == blobs.len())
 }

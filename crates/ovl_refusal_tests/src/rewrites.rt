@@ -1,8 +1,7 @@
 //! The works of commands that make new layers, walked by one thread.
 
-use crate::board::root_of;
 use crate::samples::{MOVED, stack_of};
-use ovl_board::plain_walk;
+use ovl_board::{Piece, plain_walk};
 use ovl_deref::{DerefWork, finish_deref};
 use ovl_flatten::{FlattenWork, finish_flatten};
 use ovl_layer::Layer;
@@ -19,28 +18,28 @@ fn has_entries(alloc: Global, layer: &Layer, count: usize) -> Result<bool, Alloc
 
 fn is_vacuumed(alloc: Global, stack: &Stack) -> Result<bool, AllocError> {
     let work = VacuumWork::new(stack);
-    let parcels = plain_walk(alloc, &work, root_of(alloc, 0))?;
+    let parcels = plain_walk(alloc, &work, Piece::root(alloc, 0))?;
     let done = finish_vacuum(alloc, &work, parcels)?;
     Ok(done.removed.len() == 1 && has_entries(alloc, &done.layer, 5)?)
 }
 
 fn is_dereferenced(alloc: Global, stack: &Stack) -> Result<bool, RewriteFault> {
     let work = DerefWork::new(stack);
-    let parcels = plain_walk(alloc, &work, root_of(alloc, 0))?;
+    let parcels = plain_walk(alloc, &work, Piece::root(alloc, 0))?;
     let layer = finish_deref(alloc, &work, parcels)?;
     Ok(has_entries(alloc, &layer, 7)?)
 }
 
 fn is_merged(alloc: Global, stack: &Stack) -> Result<bool, MergeFault> {
     let work = MergeWork::new(stack)?;
-    let parcels = plain_walk(alloc, &work, root_of(alloc, 0))?;
+    let parcels = plain_walk(alloc, &work, Piece::root(alloc, 0))?;
     let done = finish_merge(alloc, &work, parcels)?;
     Ok(has_entries(alloc, &done.top, 1)? && has_entries(alloc, &done.lower, 6)?)
 }
 
 fn is_flattened(alloc: Global, stack: &Stack) -> Result<bool, RewriteFault> {
     let work = FlattenWork::new(stack);
-    let parcels = plain_walk(alloc, &work, root_of(alloc, 0))?;
+    let parcels = plain_walk(alloc, &work, Piece::root(alloc, 0))?;
     let layer = finish_flatten(alloc, &work, parcels)?;
     Ok(has_entries(alloc, &layer, 6)?)
 }

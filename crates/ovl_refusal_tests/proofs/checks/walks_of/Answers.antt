@@ -12,7 +12,7 @@ loop-i-preserved c =
     let work = check_view c.args.work.now in
     let parcels = c.in_ok-plain_walk.field-0 in
     let added = c.in_ok-push.ensures.items in
-    let plain = subst (λ (p : Piece). IsPlain (check_kids work) (check_out work) p (parcel_views check_seen parcels.items)) c.root_of.ensures c.in_ok-plain_walk.ensures in
+    let plain = subst (λ (p : Piece). IsPlain (check_kids work) (check_out work) p (parcel_views check_seen parcels.items)) c.root.ensures c.in_ok-plain_walk.ensures in
     record {
       count = ap length added ∙ (length-append c.loop-i.layers.items (parcels ∷ []) ∙ ap (λ (n : ℕ). n + 1) c.loop-i.invariant.count);
       walks = subst (λ ps. AreLayerWalks work 0 (map (λ p. parcel_views check_seen p.items) ps)) (sym added)
