@@ -6,9 +6,11 @@ ghost use Rattle.ovl_check.specs.CheckViews.{check_view};
 ghost use Rattle.ovl_check.specs.Walks.{AreLayerWalks};
 
 use crate::samples::stack_of;
+use crate::tables::same;
 use ovl_board::{Parcel, Piece, plain_walk};
-use ovl_check::{CheckOut, CheckWork, finish_check};
-use std::alloc::Global;
+use ovl_check::{CheckOut, CheckWork, Finding, finish_check};
+use ovl_lookup::Stack;
+use std::alloc::{AllocError, Global};
 use std::test::Fail;
 
 // The plain walks of the first `count` layers, each from its root.
@@ -29,24 +31,33 @@ fn walks_of<'a>(
     Ok(layers)
 }
 
-#[test]
-fn the_second_of_two_moves_from_one_place_is_a_double(rt: HostRuntime) -> Result<(), Fail> {
-    let alloc = rt.alloc();
-    let stack = stack_of(alloc, "dir /a redirect=/x, dir /b redirect=/x | dir /x")?;
-    if stack.layers() != 2 {
-        return Err(Fail::new("the stack has not two layers"));
-    }
-    let work = CheckWork::new(&stack, &[], &[]);
-    let layers = walks_of(alloc, &work, 2)?;
+fn told(alloc: Global, findings: &[Finding]) -> Result<String, AllocError> {
     let mut text = String::new(alloc);
-    for finding in &finish_check(alloc, &work, layers)? {
+    for finding in findings {
         let path = finding.path.shown(alloc)?;
         let line = format!(in alloc; "{:?} {} {path}; ", finding.code, finding.layer)?;
         text.push_str(line.as_str())?;
     }
-    assert_eq!(rt;
-        text.as_str(),
-        "RedirectOpen 0 /a; RedirectDouble 0 /b; RedirectOpen 0 /b; "
-    );
-    Ok(())
+    Ok(text)
+}
+
+// What is found in a stack of two layers.
+fn checked(alloc: Global, stack: &Stack) -> Result<String, Fail> {
+    if stack.layers() != 2 {
+        return Err(Fail::new("the stack has not two layers"));
+    }
+    let work = CheckWork::new(stack, &[], &[]);
+    let layers = walks_of(alloc, &work, 2)?;
+    Ok(told(alloc, &finish_check(alloc, &work, layers)?)?)
+}
+
+#[test]
+fn the_second_of_two_moves_from_one_place_is_a_double(rt: HostRuntime) -> Result<(), Fail> {
+    let row = "dir /a redirect=/x, dir /b redirect=/x | dir /x";
+    let stack = stack_of(rt.alloc(), row)?;
+    same(
+        row,
+        checked(rt.alloc(), &stack)?.as_str(),
+        "RedirectOpen 0 /a; RedirectDouble 0 /b; RedirectOpen 0 /b; ",
+    )
 }

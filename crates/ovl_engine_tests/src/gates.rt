@@ -1,9 +1,9 @@
 //! Gates that look how workers share the pieces of a work.
 ghost use Rattle.std.specs.Prelude.{◌≡◌, []};
 
-use crate::commands::{of_forty, text_of};
+use crate::commands::{forty_layer, of_forty, text_of};
 use crate::samples::{blobs_of, manifests_of, stack_of};
-use crate::tables::{parts_of, same};
+use crate::tables::{expect_so, parts_of, same};
 use ovl_board::{BoardFault, Piece};
 use ovl_engine::{Command, EngineFault, ShowWork, command};
 use ovl_names::Path;
@@ -52,6 +52,12 @@ impl<'a, R: Wait> Asked<'a, R> {
     fn was_met(&self, times: u64) -> bool {
         let asked = self.times.lock(self.rt);
         asked.iter().all(|(_, other)| *other >= times)
+    }
+
+    // Whether each of them was asked for once.
+    fn was_met_once(&self) -> bool {
+        let asked = self.times.lock(self.rt);
+        asked.iter().all(|(_, times)| *times == 1)
     }
 }
 
@@ -159,11 +165,21 @@ fn met<R: Threads + Wait + Sync>(
     fault_of(rt, alloc, command_of_word(word)?, stack, workers, &gate)
 }
 
+fn same_met<R: Threads + Wait + Sync>(
+    rt: &R,
+    alloc: Global,
+    row: &str,
+    workers: usize,
+    wanted: &str,
+) -> Result<(), Fail> {
+    same(row, met(rt, alloc, row, workers)?.as_str(), wanted)
+}
+
 #[test]
 fn two_workers_of_a_command_meet_and_one_is_refused(rt: HostRuntime) -> Result<(), Fail> {
     for row in SHARED.lines() {
-        same(row, met(&rt, rt.alloc(), row, 2)?.as_str(), "none")?;
-        same(row, met(&rt, rt.alloc(), row, 1)?.as_str(), "gate")?;
+        same_met(&rt, rt.alloc(), row, 2, "none")?;
+        same_met(&rt, rt.alloc(), row, 1, "gate")?;
     }
     Ok(())
 }
@@ -177,15 +193,15 @@ const CREWS: &str = "\
 -> 0 /a /b /c /d /e /f /g /h /i /j /k /l
 ";
 
+fn crew_met<R: Threads + Wait + Sync>(rt: &R, alloc: Global, row: &str) -> Result<(), Fail> {
+    let (workers, row) = row.split_once(' ').unwrap_or((row, ""));
+    same_met(rt, alloc, row, workers.parse()?, "none")
+}
+
 #[test]
 fn all_workers_of_a_command_meet(rt: HostRuntime) -> Result<(), Fail> {
     for row in CREWS.lines() {
-        let (workers, row) = row.split_once(' ').unwrap_or((row, ""));
-        same(
-            row,
-            met(&rt, rt.alloc(), row, workers.parse()?)?.as_str(),
-            "none",
-        )?;
+        crew_met(&rt, rt.alloc(), row)?;
     }
     Ok(())
 }
@@ -225,31 +241,20 @@ fn a_new_layer_is_made_by_asked_visits_once_the_check_has_found_no_fault(
     Ok(())
 }
 
-// What is told of a fault of a run.
-fn run_told(alloc: Global, fault: RunFault) -> Result<String, Fail> {
-    text_of(alloc, Some(EngineFault::from(fault)))
+// A failure where something else is told of a fault of a run.
+fn run_told(alloc: Global, fault: RunFault, wanted: &str) -> Result<(), Fail> {
+    let text = text_of(alloc, Some(EngineFault::from(fault)))?;
+    same("a fault of a run", text.as_str(), wanted)
 }
 
 #[test]
 fn faults_of_a_run_have_their_texts(rt: HostRuntime) -> Result<(), Fail> {
     let alloc = rt.alloc();
     let missing = BoardFault::Missing(Piece::root(alloc, 0));
-    same(
-        "memory",
-        run_told(alloc, RunFault::Memory)?.as_str(),
-        "out of memory",
-    )?;
-    same(
-        "board",
-        run_told(alloc, RunFault::Board(missing))?.as_str(),
-        "board",
-    )?;
+    run_told(alloc, RunFault::Board(missing), "board")?;
+    run_told(alloc, RunFault::Memory, "out of memory")?;
     let full = RunFault::Board(BoardFault::Memory);
-    same(
-        "memory of the board",
-        run_told(alloc, full)?.as_str(),
-        "out of memory",
-    )
+    run_told(alloc, full, "out of memory")
 }
 
 // How many parcels a run over the merged tree of a layer gives, with its numbers, or how it ends.
@@ -315,12 +320,21 @@ fn workers_meet_over_the_merged_tree(rt: HostRuntime) -> Result<(), Fail> {
     Ok(())
 }
 
+// A failure where a run through no gate is counted as something else.
+fn same_counted<R: Threads + Wait + Sync>(
+    rt: &R,
+    alloc: Global,
+    workers: usize,
+    wanted: &str,
+) -> Result<(), Fail> {
+    let found = counted(rt, alloc, "dir /a, dir /b", workers, &OpenGate)?;
+    same("an open gate", found.as_str(), wanted)
+}
+
 #[test]
 fn a_run_has_a_worker_at_least(rt: HostRuntime) -> Result<(), Fail> {
-    let alone = counted(&rt, rt.alloc(), "dir /a, dir /b", 1, &OpenGate)?;
-    same("one worker", alone.as_str(), "3: 3 3 3 0")?;
-    let none = counted(&rt, rt.alloc(), "dir /a, dir /b", 0, &OpenGate)?;
-    same("no worker", none.as_str(), "Workers")
+    same_counted(&rt, rt.alloc(), 1, "3: 3 3 3 0")?;
+    same_counted(&rt, rt.alloc(), 0, "Workers")
 }
 
 // The paths of forty directories and of the root, each asked for once where a run asks through this
@@ -332,11 +346,9 @@ fn forty_asked<R: Wait>(rt: &R, alloc: Global) -> Result<Asked<'_, R>, Fail> {
 
 #[test]
 fn each_directory_is_asked_for_once(rt: HostRuntime) -> Result<(), Fail> {
-    let layer = of_forty(rt.alloc(), ", dir DIR, file DIR/k")?;
-    let layer = format!(in rt.alloc(); "root{layer}")?;
+    let layer = forty_layer(rt.alloc())?;
     let gate = forty_asked(&rt, rt.alloc())?;
     let found = counted(&rt, rt.alloc(), layer.as_str(), 7, &gate)?;
     same("forty", found.as_str(), "41: 41 41 41 0")?;
-    assert!(rt; gate.times.lock(&rt).iter().all(|(_, times)| *times == 1));
-    Ok(())
+    expect_so(gate.was_met_once())
 }

@@ -6,6 +6,7 @@ use ovl_inode::{
     Attrs, Digest, Inode, Mark, Redirect, is_directory, is_whiteout, mark_of, read_redirect,
     visible,
 };
+use ovl_layer::Layer;
 use ovl_names::Path;
 use std::alloc::{AllocError, Global};
 use std::test::Fail;
@@ -113,13 +114,17 @@ fn copied_told(alloc: Global, entries: &str) -> Result<String, Fail> {
     Ok(format!(in alloc; "{} entries", entries.len())?)
 }
 
-// The inode of the entry at `/a`.
-fn inode_of(alloc: Global, entry: &str) -> Result<Inode, Fail> {
-    let layer = layer_of(alloc, entry)?;
-    match layer.at(&Path::parse(alloc, "/a")?) {
+fn inode_at(alloc: Global, layer: &Layer, path: &Path) -> Result<Inode, Fail> {
+    match layer.at(path) {
         Some(inode) => Ok(inode.copy(alloc)?),
         None => Err(Fail::new("no entry")),
     }
+}
+
+// The inode of the entry at `/a`.
+fn inode_of(alloc: Global, entry: &str) -> Result<Inode, Fail> {
+    let path = Path::parse(alloc, "/a")?;
+    inode_at(alloc, &layer_of(alloc, entry)?, &path)
 }
 
 fn shown_mode(alloc: Global, inode: &Inode) -> Result<String, AllocError> {

@@ -114,16 +114,38 @@ fn step_line(alloc: Global, step: &Step) -> Result<String, AllocError> {
     format!(in alloc; "{found} {next} {end}")
 }
 
-// The walk of a path in the topmost layer, by both calls that give it.
-fn walked(alloc: Global, stack: &Stack, path: &Path) -> Result<String, Fail>
+// The walk of a path in the topmost layer.
+fn own_walked(alloc: Global, stack: &Stack, path: &Path) -> Result<String, AllocError>
     requires { 0 < length (all_layers stack.now) }
 {
     let trail = Trail::of(alloc, &path.names())?;
-    let line = step_line(alloc, &stack.own_walk(alloc, 0, trail)?.copied(alloc)?)?;
-    if step_line(alloc, &walk(alloc, stack.any_sheet(0), path)?)? != line {
-        return Err(Fail::new("the walks differ"));
+    let step = stack.own_walk(alloc, 0, trail)?;
+    step_line(alloc, &step.copied(alloc)?)
+}
+
+// The same by the other call that gives it.
+fn sheet_walked(alloc: Global, stack: &Stack, path: &Path) -> Result<String, AllocError>
+    requires { 0 < length (all_layers stack.now) }
+{
+    step_line(alloc, &walk(alloc, stack.any_sheet(0), path)?)
+}
+
+// The same by both calls.
+fn walked(alloc: Global, stack: &Stack, path: &Path) -> Result<String, Fail>
+    requires { 0 < length (all_layers stack.now) }
+{
+    alike(
+        own_walked(alloc, stack, path)?,
+        sheet_walked(alloc, stack, path)?.as_str(),
+    )
+}
+
+// What a call tells, where another one tells the same.
+fn alike(told: String, other: &str) -> Result<String, Fail> {
+    if told.as_str() == other {
+        return Ok(told);
     }
-    Ok(line)
+    Err(Fail::new("the calls tell something else"))
 }
 
 // Names with commas between them.
@@ -143,39 +165,37 @@ fn push_word(text: &mut String, word: &str) -> Result<(), AllocError> {
     text.push_str(word)
 }
 
-// Adds a word behind a space.
-fn push_after(text: &mut String, word: &str) -> Result<(), AllocError> {
+// Adds what is shown under a name or a path.
+fn push_look(text: &mut String, name: &str, look: &Look) -> Result<(), AllocError> {
+    push_word(text, name)?;
     text.push_str(" ")?;
-    text.push_str(word)
+    text.push_str(word_of(look))
 }
 
 fn listed(alloc: Global, stack: &Stack) -> Result<String, AllocError> {
     let mut text = String::new(alloc);
     for (path, look) in &stack.list(alloc)? {
-        push_word(&mut text, path.shown(alloc)?.as_str())?;
-        push_after(&mut text, word_of(look))?;
+        push_look(&mut text, path.shown(alloc)?.as_str(), look)?;
     }
     Ok(text)
 }
 
-fn looks_in(alloc: Global, stack: &Stack, view: &DirView<'_>) -> Result<String, Fail>
+fn looks_in(alloc: Global, stack: &Stack, view: &DirView<'_>) -> Result<String, AllocError>
     requires { IsViewOver stack.now view.now }
 {
     let mut text = String::new(alloc);
     for (name, look) in &view.looks(alloc, stack)? {
-        push_word(&mut text, name.as_str())?;
-        push_after(&mut text, word_of(look))?;
+        push_look(&mut text, name.as_str(), look)?;
     }
     Ok(text)
 }
 
-fn names_in(alloc: Global, stack: &Stack, view: &DirView<'_>) -> Result<String, Fail>
+fn names_in(alloc: Global, stack: &Stack, view: &DirView<'_>) -> Result<String, AllocError>
     requires { IsViewOver stack.now view.now }
 {
     let mut text = String::new(alloc);
     for name in &view.names(alloc, stack)? {
-        push_word(&mut text, name.as_str())?;
-        push_after(&mut text, word_of(&view.look(alloc, stack, name)?))?;
+        push_look(&mut text, name.as_str(), &view.look(alloc, stack, name)?)?;
     }
     Ok(text)
 }
@@ -184,11 +204,10 @@ fn names_in(alloc: Global, stack: &Stack, view: &DirView<'_>) -> Result<String, 
 fn shown_in(alloc: Global, stack: &Stack, view: &DirView<'_>) -> Result<String, Fail>
     requires { IsViewOver stack.now view.now }
 {
-    let text = looks_in(alloc, stack, view)?;
-    if names_in(alloc, stack, view)? != text {
-        return Err(Fail::new("the calls tell something else"));
-    }
-    Ok(text)
+    alike(
+        looks_in(alloc, stack, view)?,
+        names_in(alloc, stack, view)?.as_str(),
+    )
 }
 
 fn none(alloc: Global) -> Result<String, Fail> {
@@ -255,6 +274,24 @@ fn looked(alloc: Global, stack: &Stack, from: usize, path: &Path) -> Result<Stri
     Ok(String::from_str(alloc, word_of(&look))?)
 }
 
+fn truth(alloc: Global, is: bool) -> Result<String, AllocError> {
+    String::from_str(alloc, if is { "true" } else { "false" })
+}
+
+// What comes of a call that tells names or entries.
+fn named_told(alloc: Global, stack: &Stack, call: &str, path: &Path) -> Result<String, AllocError>
+    requires { 1 < length (all_layers stack.now) }
+{
+    match call {
+        "list" => listed(alloc, stack),
+        "names" => joined(alloc, &stack.names(alloc, 0, path)?),
+        "own-names-1" => joined(alloc, &stack.own_names(alloc, 1, path)?),
+        "own" => truth(alloc, stack.own_at(0, path).is_some()),
+        "own-1" => truth(alloc, stack.own_at(1, path).is_some()),
+        _ => String::from_str(alloc, "no call has this word"),
+    }
+}
+
 // What comes of a call on a path.
 fn told(alloc: Global, stack: &Stack, call: &str, path: &Path) -> Result<String, Fail> {
     if stack.ordinary() < 2 || stack.layers() < 2 {
@@ -266,12 +303,7 @@ fn told(alloc: Global, stack: &Stack, call: &str, path: &Path) -> Result<String,
         "look" => looked(alloc, stack, 0, path),
         "look-1" => looked(alloc, stack, 1, path),
         "look-2" => looked(alloc, stack, 2, path),
-        "list" => Ok(listed(alloc, stack)?),
-        "names" => Ok(joined(alloc, &stack.names(alloc, 0, path)?)?),
-        "own-names-1" => Ok(joined(alloc, &stack.own_names(alloc, 1, path)?)?),
-        "own" => Ok(format!(in alloc; "{}", stack.own_at(0, path).is_some())?),
-        "own-1" => Ok(format!(in alloc; "{}", stack.own_at(1, path).is_some())?),
-        _ => Err(Fail::new("no call has this word")),
+        _ => Ok(named_told(alloc, stack, call, path)?),
     }
 }
 

@@ -1,68 +1,57 @@
 //! Layers and sheets of manifests, and manifests of layers.
 
 use crate::samples::{layer_of, manifest_of};
-use crate::tables::{parts_of, same};
-use ovl_layer::{LayerFault, Sheet, SheetRow, from_entries};
+use crate::tables::{expect_so, parts_of, same};
+use ovl_layer::{Layer, LayerFault, Sheet, SheetRow, from_entries};
 use ovl_manifest::{read_layer, read_sheet, write_layer};
-use ovl_names::Path;
+use ovl_names::{Name, Path};
 use std::alloc::{AllocError, Global};
 use std::test::Fail;
-
-// The smallest layer's manifest, and what it is in the version before.
-const SMALLEST: &str =
-    r#"{"entries":[{"gid":0,"kind":"dir","mode":493,"mtime":0,"mtime-nsec":0,"path":"/","uid":0,"xattrs":{}}],"overlay-layer":2}
-"#;
-
-const EARLIER: &str =
-    r#"{"entries":[{"gid":0,"kind":"dir","mode":493,"mtime":0,"path":"/","uid":0,"xattrs":{}}],"overlay-layer":1}"#;
-
-#[test]
-fn a_layer_of_the_earlier_version_is_written_in_the_later_one(rt: HostRuntime) -> Result<(), Fail> {
-    let layer = read_layer(rt.alloc(), EARLIER.as_bytes())?;
-    let written = String::from_utf8(write_layer(rt.alloc(), &layer)?)?;
-    same(EARLIER, written.as_str(), SMALLEST)
-}
-
-#[test]
-fn what_is_no_json_is_refused(rt: HostRuntime) -> Result<(), Fail> {
-    let cut = &EARLIER.as_bytes()[..100];
-    let layer = read_layer(rt.alloc(), cut).err();
-    let sheet = read_sheet(rt.alloc(), cut).err();
-    assert!(rt; layer == Some(LayerFault::NotJson) && sheet == layer);
-    Ok(())
-}
 
 #[test]
 fn entries_in_another_order_are_no_layer(rt: HostRuntime) -> Result<(), Fail> {
     let mut entries = layer_of(rt.alloc(), "dir /a, dir /b")?.entries(rt.alloc())?;
     entries.reverse();
     let fault = from_entries(rt.alloc(), entries).err();
-    assert!(rt; fault == Some(LayerFault::Root));
-    Ok(())
+    expect_so(fault == Some(LayerFault::Root))
 }
 
-// How many entries a layer has, which is written as it was read, and so is that of its entries.
+// A failure where a layer is written as another manifest.
+fn expect_written(alloc: Global, layer: &Layer, manifest: &[u8]) -> Result<(), Fail> {
+    expect_so(write_layer(alloc, layer)?.as_slice() == manifest)
+}
+
+// How many entries a layer has, whose manifest is also that of its entries.
+fn entries_told(alloc: Global, layer: &Layer, manifest: &[u8]) -> Result<String, Fail> {
+    let entries = layer.entries(alloc)?;
+    let told = format!(in alloc; "{} entries", entries.len())?;
+    expect_written(alloc, &from_entries(alloc, entries)?, manifest)?;
+    Ok(told)
+}
+
+// The same of a layer that is written as it was read.
 fn written_told(alloc: Global, entries: &str) -> Result<String, Fail> {
     let manifest = manifest_of(alloc, entries)?;
     let layer = read_layer(alloc, &manifest)?;
-    let pairs = layer.entries(alloc)?;
-    let count = pairs.len();
-    let same = from_entries(alloc, pairs)?;
-    if write_layer(alloc, &layer)? != manifest || write_layer(alloc, &same)? != manifest {
-        return Err(Fail::new("the manifest is another"));
+    expect_written(alloc, &layer, &manifest)?;
+    entries_told(alloc, &layer, &manifest)
+}
+
+// Names, each with `;` behind it.
+fn listed(alloc: Global, names: &[Name]) -> Result<String, AllocError> {
+    let mut text = String::new(alloc);
+    for name in names {
+        text.push_str(name.as_str())?;
+        text.push_str(";")?;
     }
-    Ok(format!(in alloc; "{count} entries")?)
+    Ok(text)
 }
 
 // The names in a directory, in order.
 fn children_told(alloc: Global, path: &str) -> Result<String, Fail> {
+    let path = Path::parse(alloc, path)?;
     let layer = layer_of(alloc, "dir /n opaque=y, dir /n/d redirect=/x, whiteout /x")?;
-    let mut listed = String::new(alloc);
-    for name in &layer.children(alloc, &Path::parse(alloc, path)?)? {
-        listed.push_str(name.as_str())?;
-        listed.push_str(";")?;
-    }
-    Ok(listed)
+    Ok(listed(alloc, &layer.children(alloc, &path)?)?)
 }
 
 // A sheet of five rows, from its manifest, and by way of a layer where that is asked for.
@@ -86,20 +75,27 @@ fn shown_row(alloc: Global, row: &SheetRow) -> Result<String, AllocError> {
     format!(in alloc; "{name} {} {}", row.parent, row.after)
 }
 
-fn row_told(alloc: Global, number: &str, by_layer: bool) -> Result<String, Fail> {
-    let sheet = sheet_of(alloc, by_layer)?;
+fn row_of(alloc: Global, sheet: &Sheet, number: &str) -> Result<String, AllocError> {
     match sheet.row(number.parse().unwrap_or(u32::MAX)) {
-        Some(row) => Ok(shown_row(alloc, row)?),
-        None => Ok(String::from_str(alloc, "none")?),
+        Some(row) => shown_row(alloc, row),
+        None => String::from_str(alloc, "none"),
+    }
+}
+
+fn row_told(alloc: Global, number: &str, by_layer: bool) -> Result<String, Fail> {
+    Ok(row_of(alloc, &sheet_of(alloc, by_layer)?, number)?)
+}
+
+fn mode_at(alloc: Global, sheet: &Sheet, path: &Path) -> Result<String, AllocError> {
+    match sheet.at(path) {
+        Some(inode) => format!(in alloc; "{}", inode.mode),
+        None => String::from_str(alloc, "none"),
     }
 }
 
 fn mode_told(alloc: Global, path: &str) -> Result<String, Fail> {
-    let sheet = sheet_of(alloc, true)?;
-    match sheet.at(&Path::parse(alloc, path)?) {
-        Some(inode) => Ok(format!(in alloc; "{}", inode.mode)?),
-        None => Ok(String::from_str(alloc, "none")?),
-    }
+    let path = Path::parse(alloc, path)?;
+    Ok(mode_at(alloc, &sheet_of(alloc, true)?, &path)?)
 }
 
 const ROWS: &str = "\

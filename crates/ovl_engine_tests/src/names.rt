@@ -123,11 +123,21 @@ fn told(alloc: Global, call: &str, text: &str) -> Result<String, Fail> {
     }
 }
 
+// A failure where something else was found than the text that is wanted of a row.
+fn same_repeated(alloc: Global, row: &str, found: &str, wanted: &str) -> Result<(), Fail> {
+    same(row, found, repeated(alloc, wanted)?.as_str())
+}
+
 fn row_told(alloc: Global, row: &str) -> Result<(), Fail> {
     let (words, wanted) = parts_of(row);
     let (call, text) = words.split_once(": ").unwrap_or((words, ""));
-    let found = told(alloc, call, repeated(alloc, text)?.as_str())?;
-    same(row, found.as_str(), repeated(alloc, wanted)?.as_str())
+    let text = repeated(alloc, text)?;
+    same_repeated(
+        alloc,
+        row,
+        told(alloc, call, text.as_str())?.as_str(),
+        wanted,
+    )
 }
 
 #[test]

@@ -146,17 +146,22 @@ pub(crate) fn stack_of(alloc: Global, stack: &str) -> Result<Stack, Fail> {
     Ok(Stack::with_data(alloc, layers, bottom)?)
 }
 
+fn push_blob(alloc: Global, blobs: &mut Vec<Blob>, word: &str) -> Result<(), AllocError> {
+    let (named, bytes) = word.split_once('=').unwrap_or((word, word));
+    let contents = [String::from_str(alloc, named)?.into_bytes()];
+    for mut blob in named_blobs(alloc, &contents)? {
+        blob.bytes = String::from_str(alloc, bytes)?.into_bytes();
+        blobs.push(blob)?;
+    }
+    Ok(())
+}
+
 /// A blob for each word, in this order: of the bytes of the word, or of those behind `=`, where it
 /// has the name of those before.
-pub(crate) fn blobs_of(alloc: Global, words: &str) -> Result<Vec<Blob>, Fail> {
+pub(crate) fn blobs_of(alloc: Global, words: &str) -> Result<Vec<Blob>, AllocError> {
     let mut blobs = Vec::new(alloc);
     for word in words.split_whitespace() {
-        let (named, bytes) = word.split_once('=').unwrap_or((word, word));
-        let contents = [String::from_str(alloc, named)?.into_bytes()];
-        for mut blob in named_blobs(alloc, &contents)? {
-            blob.bytes = String::from_str(alloc, bytes)?.into_bytes();
-            blobs.push(blob)?;
-        }
+        push_blob(alloc, &mut blobs, word)?;
     }
     Ok(blobs)
 }

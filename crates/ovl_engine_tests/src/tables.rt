@@ -16,6 +16,14 @@ pub(crate) fn same(row: &str, found: &str, wanted: &str) -> Result<(), Fail> {
     Err(Fail::new(format_args!("{row}: found {found:?}")))
 }
 
+/// A failure where this isn't so.
+pub(crate) fn expect_so(is: bool) -> Result<(), Fail> {
+    if is {
+        return Ok(());
+    }
+    Err(Fail::new("it isn't so"))
+}
+
 /// A text, or one so often as the number and `*` before it say.
 pub(crate) fn repeated(alloc: Global, text: &str) -> Result<String, AllocError> {
     match text.split_once('*') {
