@@ -2,7 +2,7 @@
 
 import sys
 from collections.abc import Callable, Iterator, Mapping
-from dataclasses import dataclass, field
+from dataclasses import dataclass, field, replace
 from enum import Enum, auto
 
 from . import rules
@@ -284,7 +284,7 @@ def _implied() -> Folder:
 def _shown_directory(entry: Entry) -> Entry:
     """A directory as lower layers show it: all but the overlay's marks."""
     attributes = {name: value for name, value in entry.attributes.items() if not name.startswith(OVERLAY)}
-    return Entry("", DIRECTORY, entry.mode, entry.uid, entry.gid, entry.mtime_ns, attributes or NO_ATTRIBUTES)
+    return replace(entry, path="", attributes=attributes or NO_ATTRIBUTES, link=0)
 
 
 def _with_path(entry: Entry, path: str) -> Iterator[Entry]:
