@@ -3,6 +3,7 @@ ghost use Rattle.std.specs.Prelude.{IfOk};
 ghost use Rattle.ovl_board.specs.Balance.{AllLawful};
 ghost use Rattle.ovl_board.specs.Assembly.{bare};
 
+use crate::samples::expect_so;
 use ovl_board::{
     BoardFault, Core, CoreFault, Event, Parcel, Piece, Tree, assemble, copies, kids_lawful,
     plain_walk, sort_parcels,
@@ -55,20 +56,27 @@ fn tree_of(alloc: Global, size: usize) -> Result<Tree, AllocError> {
     }
 }
 
-// Parcels that aren't sorted stay in their order.
-fn is_sorted(alloc: Global, work: &Tree) -> Result<bool, AllocError> {
-    let walk = plain_walk(alloc, work, Piece::root(alloc, 0))?;
+fn reversed(alloc: Global, work: &Tree) -> Result<Vec<Parcel<()>>, AllocError> {
     let mut parcels = plain_walk(alloc, work, Piece::root(alloc, 0))?;
-    let mut same = plain_walk(alloc, work, Piece::root(alloc, 0))?;
     parcels.reverse();
-    same.reverse();
-    if sort_parcels(&mut parcels).is_err() {
-        if parcels != same {
+    Ok(parcels)
+}
+
+// Parcels that aren't sorted stay in their order.
+fn are_sorted(parcels: &mut Vec<Parcel<()>>, before: &[Parcel<()>]) -> Result<bool, AllocError> {
+    if sort_parcels(parcels).is_err() {
+        if parcels.as_slice() != before {
             return Ok(false);
         }
-        sort_parcels(&mut parcels)?;
+        sort_parcels(parcels)?;
     }
-    Ok(parcels == walk)
+    Ok(true)
+}
+
+fn is_sorted(alloc: Global, work: &Tree) -> Result<bool, AllocError> {
+    let mut parcels = reversed(alloc, work)?;
+    let is = are_sorted(&mut parcels, &reversed(alloc, work)?)?;
+    Ok(is && plain_walk(alloc, work, Piece::root(alloc, 0))? == parcels)
 }
 
 // These parcels, each tested for lawful kids.
@@ -86,11 +94,9 @@ fn checked(alloc: Global, parcels: Vec<Parcel<()>>) -> Result<Vec<Parcel<()>>, A
 }
 
 fn is_assembled(alloc: Global, work: &Tree) -> Result<bool, BoardFault> {
-    let walk = plain_walk(alloc, work, Piece::root(alloc, 0))?;
-    let mut parcels = plain_walk(alloc, work, Piece::root(alloc, 0))?;
-    parcels.reverse();
-    let assembled = assemble(alloc, &Piece::root(alloc, 0), checked(alloc, parcels)?)?;
-    Ok(assembled == walk)
+    let parcels = checked(alloc, reversed(alloc, work)?)?;
+    let assembled = assemble(alloc, &Piece::root(alloc, 0), parcels)?;
+    Ok(plain_walk(alloc, work, Piece::root(alloc, 0))? == assembled)
 }
 
 fn are_copied(alloc: Global, parcels: &[Parcel<()>]) -> Result<bool, AllocError> {
@@ -139,28 +145,24 @@ fn are_pushed(alloc: Global) -> Result<bool, LaneFault> {
 #[test]
 fn parcels_are_sorted(rt: HostRuntime) -> Result<(), Fail> {
     let work = again!(tree_of(rt.alloc(), 30), AllocError)?;
-    assert!(rt; again!(is_sorted(rt.alloc(), &work), AllocError)?);
-    Ok(())
+    expect_so(again!(is_sorted(rt.alloc(), &work), AllocError)?)
 }
 
 #[test]
 fn parcels_are_assembled(rt: HostRuntime) -> Result<(), Fail> {
     let work = again!(tree_of(rt.alloc(), 30), AllocError)?;
-    assert!(rt; again!(is_assembled(rt.alloc(), &work), BoardFault::Memory)?);
-    Ok(())
+    expect_so(again!(is_assembled(rt.alloc(), &work), BoardFault::Memory)?)
 }
 
 #[test]
 fn a_core_is_stepped(rt: HostRuntime) -> Result<(), Fail> {
     let work = again!(tree_of(rt.alloc(), 3), AllocError)?;
-    assert!(rt; again!(is_stepped(rt.alloc(), &work), CoreFault::Memory)?);
-    Ok(())
+    expect_so(again!(is_stepped(rt.alloc(), &work), CoreFault::Memory)?)
 }
 
 #[test]
 fn pieces_are_pushed(rt: HostRuntime) -> Result<(), Fail> {
-    assert!(rt; again!(are_pushed(rt.alloc()), LaneFault::Memory)?);
-    Ok(())
+    expect_so(again!(are_pushed(rt.alloc()), LaneFault::Memory)?)
 }
 
 fn is_run<R: Threads + Wait + Sync>(
@@ -192,18 +194,15 @@ fn is_tree_run<R: Threads + Wait + Sync>(
 
 #[test]
 fn a_tree_is_run_by_one_worker(rt: HostRuntime) -> Result<(), Fail> {
-    assert!(rt; is_tree_run(&rt, rt.alloc(), 1)?);
-    Ok(())
+    expect_so(is_tree_run(&rt, rt.alloc(), 1)?)
 }
 
 #[test]
 fn a_tree_is_run_by_two_workers(rt: HostRuntime) -> Result<(), Fail> {
-    assert!(rt; is_tree_run(&rt, rt.alloc(), 2)?);
-    Ok(())
+    expect_so(is_tree_run(&rt, rt.alloc(), 2)?)
 }
 
 #[test]
 fn a_tree_is_run_by_seven_workers(rt: HostRuntime) -> Result<(), Fail> {
-    assert!(rt; is_tree_run(&rt, rt.alloc(), 7)?);
-    Ok(())
+    expect_so(is_tree_run(&rt, rt.alloc(), 7)?)
 }

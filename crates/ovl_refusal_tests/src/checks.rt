@@ -5,7 +5,7 @@ ghost use Rattle.ovl_check.specs.Checks.{check_seen};
 ghost use Rattle.ovl_check.specs.CheckViews.{check_view};
 ghost use Rattle.ovl_check.specs.Walks.{AreLayerWalks};
 
-use crate::samples::{MOVED, stack_of};
+use crate::samples::{expect_so, moved_stack};
 use ovl_board::{Parcel, Piece, plain_walk};
 use ovl_check::{
     BLOB_SPACE, Blob, BlobWork, CheckOut, CheckWork, blobs_in_order, finish_blobs, finish_check,
@@ -73,14 +73,12 @@ fn blobs_of(alloc: Global) -> Result<Vec<Blob>, AllocError> {
 
 #[test]
 fn a_stack_is_checked(rt: HostRuntime) -> Result<(), Fail> {
-    let stack = again!(stack_of(rt.alloc(), MOVED), AllocError)?;
-    assert!(rt; again!(is_checked(rt.alloc(), &stack), AllocError)?);
-    Ok(())
+    let stack = moved_stack(rt.alloc())?;
+    expect_so(again!(is_checked(rt.alloc(), &stack), AllocError)?)
 }
 
 #[test]
 fn blobs_are_digested(rt: HostRuntime) -> Result<(), Fail> {
     let blobs = again!(blobs_of(rt.alloc()), AllocError)?;
-    assert!(rt; again!(are_digested(rt.alloc(), &blobs), AllocError)?);
-    Ok(())
+    expect_so(again!(are_digested(rt.alloc(), &blobs), AllocError)?)
 }

@@ -1,10 +1,10 @@
 //! Commands by one worker and by two.
 
-use crate::samples::{MOVED, ONE, OPAQUE, OVER, ROOT, Sample, TWICE, WRONG};
+use crate::samples::{MOVED, ONE, OPAQUE, OVER, ROOT, Sample, TWICE, WRONG, expect_so};
 use ovl_check::{Blob, Content};
 use ovl_engine::{
-    Answer, Command, CommandFault, Contents, EngineFault, command, command_over, merge_down,
-    named_blobs, question_down,
+    Answer, Command, CommandFault, Contents, EngineFault, Question, command, command_over,
+    merge_down, named_blobs, question_down,
 };
 use ovl_inode::Digest;
 use ovl_pool::OpenGate;
@@ -37,6 +37,31 @@ impl Contents for Nothing {
     }
 }
 
+// What a command answers of manifests that it is lent.
+fn lent_answer<R: Threads + Wait + Sync>(
+    rt: &R,
+    alloc: Global,
+    what: Command,
+    workers: usize,
+) -> Result<Answer, EngineFault> {
+    let blobs = blobs_of(alloc, "a")?;
+    let own = manifests_of(alloc, MOVED)?;
+    let lent = own.as_slice();
+    command(rt, alloc, what, lent, 0, &blobs, workers, &OpenGate)
+}
+
+// What it answers of the same as its own.
+fn own_answer<R: Threads + Wait + Sync>(
+    rt: &R,
+    alloc: Global,
+    what: Command,
+    workers: usize,
+) -> Result<Answer, EngineFault> {
+    let blobs = blobs_of(alloc, "a")?;
+    let own = manifests_of(alloc, MOVED)?;
+    command(rt, alloc, what, own, 0, &blobs, workers, &OpenGate)
+}
+
 // Whether a command answers a report with this end, by each call that gives one.
 fn is_answered<R: Threads + Wait + Sync>(
     rt: &R,
@@ -45,20 +70,8 @@ fn is_answered<R: Threads + Wait + Sync>(
     workers: usize,
     end: &str,
 ) -> Result<bool, EngineFault> {
-    let blobs = named_blobs(alloc, &manifests_of(alloc, "a")?)?;
-    let manifests = manifests_of(alloc, MOVED)?;
-    let answer = command(
-        rt,
-        alloc,
-        what,
-        manifests.as_slice(),
-        0,
-        &blobs,
-        workers,
-        &OpenGate,
-    )?;
-    let same = command(rt, alloc, what, manifests, 0, &blobs, workers, &OpenGate)?;
-    Ok(answer == same && answer.report.ends_with(end.as_bytes()))
+    let answer = lent_answer(rt, alloc, what, workers)?;
+    Ok(ends_so(&answer.report, end) && own_answer(rt, alloc, what, workers)? == answer)
 }
 
 fn is_answered_over<R: Threads + Wait + Sync>(
@@ -73,13 +86,26 @@ fn is_answered_over<R: Threads + Wait + Sync>(
     Ok(answer.report.ends_with(end.as_bytes()))
 }
 
-fn does_answer<R: Threads + Wait + Sync>(
+// The end of each command's report.
+const ENDS: &str = "\
+show: entries 6
+fsck: faults 0 notes 0
+vacuum: removed 1 kept 5
+deref: entries 7
+merge: entries 6
+flatten: entries 6
+";
+
+fn is_line_answered<R: Threads + Wait + Sync>(
     rt: &R,
     alloc: Global,
-    what: Command,
+    line: &str,
     workers: usize,
-    end: &str,
 ) -> Result<bool, EngineFault> {
+    let (word, end) = line.split_once(": ").unwrap_or((line, ""));
+    let Some(what) = command_of_word(word) else {
+        return Ok(false);
+    };
     again!(
         is_answered(rt, alloc, what, workers, end),
         EngineFault::Memory
@@ -90,76 +116,88 @@ fn are_answered<R: Threads + Wait + Sync>(
     rt: &R,
     alloc: Global,
     workers: usize,
-) -> Result<bool, Fail> {
-    Ok(
-        does_answer(rt, alloc, Command::Show, workers, "\nentries 6\n")?
-            && does_answer(rt, alloc, Command::Fsck, workers, "faults 0 notes 0\n")?
-            && does_answer(rt, alloc, Command::Vacuum, workers, "\nremoved 1 kept 5\n")?
-            && does_answer(rt, alloc, Command::Deref, workers, "\nentries 7\n")?
-            && does_answer(rt, alloc, Command::Merge, workers, "\nentries 6\n")?
-            && does_answer(rt, alloc, Command::Flatten, workers, "\nentries 6\n")?,
-    )
+) -> Result<(), Fail> {
+    for line in ENDS.lines() {
+        expect_so(is_line_answered(rt, alloc, line, workers)?)?;
+    }
+    Ok(())
 }
 
 #[test]
 fn commands_are_answered_by_one_worker(rt: HostRuntime) -> Result<(), Fail> {
-    assert!(rt; are_answered(&rt, rt.alloc(), 1)?);
-    Ok(())
+    are_answered(&rt, rt.alloc(), 1)
 }
 
 #[test]
 fn commands_are_answered_by_two_workers(rt: HostRuntime) -> Result<(), Fail> {
-    assert!(rt; are_answered(&rt, rt.alloc(), 2)?);
-    Ok(())
+    are_answered(&rt, rt.alloc(), 2)
+}
+
+fn three_manifests(alloc: Global) -> Result<Vec<Vec<u8>>, AllocError> {
+    let mut three = manifests_of(alloc, ROOT)?;
+    three.append(&mut manifests_of(alloc, MOVED)?)?;
+    Ok(three)
+}
+
+fn merged<R: Threads + Wait + Sync>(rt: &R, alloc: Global) -> Result<Answer, EngineFault> {
+    let blobs = blobs_of(alloc, "a")?;
+    let manifests = three_manifests(alloc)?;
+    merge_down(rt, alloc, manifests, 0, &blobs, 1, 2, &OpenGate)
+}
+
+fn asked<R: Threads + Sync>(rt: &R, alloc: Global) -> Result<Question, EngineFault> {
+    let manifests = three_manifests(alloc)?;
+    question_down(rt, alloc, manifests, 0, 1, 2)
 }
 
 // Whether three layers are merged down to one, at once and as far as no contents are wanted.
 fn is_merged_down<R: Threads + Wait + Sync>(rt: &R, alloc: Global) -> Result<bool, EngineFault> {
-    let blobs = named_blobs(alloc, &manifests_of(alloc, "a")?)?;
-    let lines = format!(in alloc; "{ROOT}{MOVED}")?;
-    let manifests = manifests_of(alloc, lines.as_str())?;
-    let answer = merge_down(rt, alloc, manifests, 0, &blobs, 1, 2, &OpenGate)?;
-    let again = manifests_of(alloc, lines.as_str())?;
-    let question = question_down(rt, alloc, again, 0, 1, 2)?;
-    Ok(answer.report.ends_with(b"\nentries 6\n") && question.names.len() == 1)
+    let answer = merged(rt, alloc)?;
+    Ok(ends_so(&answer.report, "\nentries 6") && asked(rt, alloc)?.names.len() == 1)
 }
 
 #[test]
 fn three_layers_are_merged_down(rt: HostRuntime) -> Result<(), Fail> {
-    assert!(rt; again!(is_merged_down(&rt, rt.alloc()), EngineFault::Memory)?);
-    Ok(())
+    expect_so(again!(is_merged_down(&rt, rt.alloc()), EngineFault::Memory)?)
+}
+
+fn are_over_contents<R: Threads + Wait + Sync>(
+    rt: &R,
+    alloc: Global,
+    what: Command,
+    end: &str,
+) -> Result<(), Fail> {
+    let is = again!(
+        is_answered_over(rt, alloc, what, 2, end),
+        CommandFault::Engine(EngineFault::Memory)
+    );
+    expect_so(is == Ok(true))
 }
 
 #[test]
 fn a_show_over_contents_is_answered(rt: HostRuntime) -> Result<(), Fail> {
-    let (what, end) = (Command::Show, "\nentries 6\n");
-    let is = again!(
-        is_answered_over(&rt, rt.alloc(), what, 2, end),
-        CommandFault::Engine(EngineFault::Memory)
-    );
-    assert!(rt; is == Ok(true));
-    Ok(())
+    are_over_contents(&rt, rt.alloc(), Command::Show, "\nentries 6\n")
 }
 
 #[test]
 fn a_check_over_contents_is_answered(rt: HostRuntime) -> Result<(), Fail> {
-    let (what, end) = (Command::Fsck, "\nfaults 3 notes 0\n");
-    let is = again!(
-        is_answered_over(&rt, rt.alloc(), what, 2, end),
-        CommandFault::Engine(EngineFault::Memory)
-    );
-    assert!(rt; is == Ok(true));
+    are_over_contents(&rt, rt.alloc(), Command::Fsck, "\nfaults 3 notes 0\n")
+}
+
+// Adds the blob of a word.
+fn push_blob(alloc: Global, blobs: &mut Vec<Blob>, word: &str) -> Result<(), AllocError> {
+    let (named, bytes) = word.split_once('=').unwrap_or((word, word));
+    for mut blob in named_blobs(alloc, &manifests_of(alloc, named)?)? {
+        blob.bytes = String::from_str(alloc, bytes)?.into_bytes();
+        blobs.push(blob)?;
+    }
     Ok(())
 }
 
 fn blobs_of(alloc: Global, words: &str) -> Result<Vec<Blob>, AllocError> {
     let mut blobs = Vec::new(alloc);
     for word in words.split_whitespace() {
-        let (named, bytes) = word.split_once('=').unwrap_or((word, word));
-        for mut blob in named_blobs(alloc, &manifests_of(alloc, named)?)? {
-            blob.bytes = String::from_str(alloc, bytes)?.into_bytes();
-            blobs.push(blob)?;
-        }
+        push_blob(alloc, &mut blobs, word)?;
     }
     Ok(blobs)
 }
@@ -182,6 +220,19 @@ fn is_told(answered: &Result<Answer, EngineFault>, end: &str) -> bool {
     }
 }
 
+// What a command of a sample answers.
+fn answered<R: Threads + Wait + Sync>(
+    rt: &R,
+    alloc: Global,
+    what: Command,
+    sample: Sample,
+    workers: usize,
+) -> Result<Answer, EngineFault> {
+    let blobs = blobs_of(alloc, sample.blobs)?;
+    let manifests = manifests_of(alloc, sample.manifests)?;
+    command(rt, alloc, what, manifests, 0, &blobs, workers, &OpenGate)
+}
+
 // Whether a command of a sample ends so; out of memory is handed on.
 fn ends<R: Threads + Wait + Sync>(
     rt: &R,
@@ -191,13 +242,10 @@ fn ends<R: Threads + Wait + Sync>(
     workers: usize,
     end: &str,
 ) -> Result<bool, EngineFault> {
-    let blobs = blobs_of(alloc, sample.blobs)?;
-    let manifests = manifests_of(alloc, sample.manifests)?;
-    let answered = command(rt, alloc, what, manifests, 0, &blobs, workers, &OpenGate);
-    if answered == Err(EngineFault::Memory) {
-        return Err(EngineFault::Memory);
+    match answered(rt, alloc, what, sample, workers) {
+        Err(EngineFault::Memory) => Err(EngineFault::Memory),
+        answered => Ok(is_told(&answered, end)),
     }
-    Ok(is_told(&answered, end))
 }
 
 fn command_of_word(word: &str) -> Option<Command> {
@@ -212,84 +260,83 @@ fn command_of_word(word: &str) -> Option<Command> {
     }
 }
 
-// Whether each command of a sample ends as its line says, a second time where it was out of memory.
+// Whether a command of a sample ends as its line says, a second time where it was out of memory.
+fn line_ends<R: Threads + Wait + Sync>(
+    rt: &R,
+    alloc: Global,
+    sample: Sample,
+    workers: usize,
+    line: &str,
+) -> Result<bool, EngineFault> {
+    let (word, end) = line.split_once(": ").unwrap_or((line, ""));
+    let Some(what) = command_of_word(word) else {
+        return Ok(false);
+    };
+    again!(
+        ends(rt, alloc, what, sample, workers, end),
+        EngineFault::Memory
+    )
+}
+
+// A failure where a command of a sample doesn't end as its line says.
 fn all_end<R: Threads + Wait + Sync>(
     rt: &R,
     alloc: Global,
     sample: Sample,
     workers: usize,
-) -> Result<bool, EngineFault> {
+) -> Result<(), Fail> {
     for line in sample.ends.lines() {
-        let (word, end) = line.split_once(": ").unwrap_or((line, ""));
-        let Some(what) = command_of_word(word) else {
-            return Ok(false);
-        };
-        if !again!(
-            ends(rt, alloc, what, sample, workers, end),
-            EngineFault::Memory
-        )? {
-            return Ok(false);
-        }
+        expect_so(line_ends(rt, alloc, sample, workers, line)?)?;
     }
-    Ok(true)
+    Ok(())
 }
 
 #[test]
 fn a_root_alone_by_one_worker(rt: HostRuntime) -> Result<(), Fail> {
-    assert!(rt; all_end(&rt, rt.alloc(), ONE, 1)?);
-    Ok(())
+    all_end(&rt, rt.alloc(), ONE, 1)
 }
 
 #[test]
 fn a_root_alone_by_two_workers(rt: HostRuntime) -> Result<(), Fail> {
-    assert!(rt; all_end(&rt, rt.alloc(), ONE, 2)?);
-    Ok(())
+    all_end(&rt, rt.alloc(), ONE, 2)
 }
 
 #[test]
 fn a_directory_moved_under_an_opaque_one_by_one_worker(rt: HostRuntime) -> Result<(), Fail> {
-    assert!(rt; all_end(&rt, rt.alloc(), OPAQUE, 1)?);
-    Ok(())
+    all_end(&rt, rt.alloc(), OPAQUE, 1)
 }
 
 #[test]
 fn a_directory_moved_under_an_opaque_one_by_two_workers(rt: HostRuntime) -> Result<(), Fail> {
-    assert!(rt; all_end(&rt, rt.alloc(), OPAQUE, 2)?);
-    Ok(())
+    all_end(&rt, rt.alloc(), OPAQUE, 2)
 }
 
 #[test]
 fn the_same_layer_twice_by_one_worker(rt: HostRuntime) -> Result<(), Fail> {
-    assert!(rt; all_end(&rt, rt.alloc(), TWICE, 1)?);
-    Ok(())
+    all_end(&rt, rt.alloc(), TWICE, 1)
 }
 
 #[test]
 fn the_same_layer_twice_by_two_workers(rt: HostRuntime) -> Result<(), Fail> {
-    assert!(rt; all_end(&rt, rt.alloc(), TWICE, 2)?);
-    Ok(())
+    all_end(&rt, rt.alloc(), TWICE, 2)
 }
 
 #[test]
 fn a_directory_moved_over_another_by_one_worker(rt: HostRuntime) -> Result<(), Fail> {
-    assert!(rt; all_end(&rt, rt.alloc(), OVER, 1)?);
-    Ok(())
+    all_end(&rt, rt.alloc(), OVER, 1)
 }
 
 #[test]
 fn a_directory_moved_over_another_by_two_workers(rt: HostRuntime) -> Result<(), Fail> {
-    assert!(rt; all_end(&rt, rt.alloc(), OVER, 2)?);
-    Ok(())
+    all_end(&rt, rt.alloc(), OVER, 2)
 }
 
 #[test]
 fn wrong_contents_by_one_worker(rt: HostRuntime) -> Result<(), Fail> {
-    assert!(rt; all_end(&rt, rt.alloc(), WRONG, 1)?);
-    Ok(())
+    all_end(&rt, rt.alloc(), WRONG, 1)
 }
 
 #[test]
 fn wrong_contents_by_two_workers(rt: HostRuntime) -> Result<(), Fail> {
-    assert!(rt; all_end(&rt, rt.alloc(), WRONG, 2)?);
-    Ok(())
+    all_end(&rt, rt.alloc(), WRONG, 2)
 }

@@ -1,6 +1,7 @@
 //! Attributes, inodes, redirects and marks.
 
 use crate::names::LONG;
+use crate::samples::expect_so;
 use ovl_inode::{
     AttrFault, Attrs, Inode, Kind, Mark, Redirect, RedirectFault, Target, mark_of, overlay,
     read_redirect, visible,
@@ -19,28 +20,45 @@ fn is_put(alloc: Global, attrs: &mut Attrs, name: &str, value: &[u8]) -> Result<
     Ok(attrs.get(name) == Some(value))
 }
 
+fn is_copied(alloc: Global, inode: &Inode) -> Result<bool, AllocError> {
+    Ok(inode.copy(alloc)? == *inode)
+}
+
+fn are_attrs_copied(alloc: Global, attrs: &Attrs) -> Result<bool, AllocError> {
+    Ok(attrs.copy(alloc)? == *attrs)
+}
+
+fn is_visible(alloc: Global, inode: &Inode) -> Result<bool, AllocError> {
+    let shown = visible(alloc, inode)?;
+    Ok(shown.attrs.pairs().count() == 1 && shown.kind.copy(alloc)? == inode.kind)
+}
+
 // Of an inode with two attributes, one of them the overlay's.
 fn is_inode_told(alloc: Global, inode: &Inode) -> Result<bool, AllocError> {
-    let copy = inode.copy(alloc)?;
-    let kind = inode.kind.copy(alloc)?;
-    let attrs = inode.attrs.copy(alloc)?;
-    let shown = visible(alloc, inode)?;
     Ok(
-        copy == *inode
-            && inode.attrs == attrs
-            && shown.kind == kind
-            && shown.attrs.pairs().count() == 1,
+        is_copied(alloc, inode)?
+            && are_attrs_copied(alloc, &inode.attrs)?
+            && is_visible(alloc, inode)?,
     )
 }
 
-fn is_read(alloc: Global, moved: &Inode) -> Result<bool, RedirectFault> {
+fn is_path_read(alloc: Global) -> Result<bool, RedirectFault> {
     let to = read_redirect(alloc, b"/x/y")?;
+    Ok(matches!(&to, Redirect::To(path) if path.len() == 2))
+}
+
+fn is_name_read(alloc: Global) -> Result<bool, RedirectFault> {
     let beside = read_redirect(alloc, LONG.as_bytes())?;
+    Ok(matches!(&beside, Redirect::Beside(name) if name.as_str() == LONG))
+}
+
+fn is_mark_read(alloc: Global, moved: &Inode) -> Result<bool, AllocError> {
     let mark = mark_of(alloc, moved)?;
-    let is_mark = matches!(&mark, Mark::DirMoved(Redirect::To(path)) if path.len() == 2);
-    let is_to = matches!(&to, Redirect::To(path) if path.len() == 2);
-    let is_beside = matches!(&beside, Redirect::Beside(name) if name.as_str() == LONG);
-    Ok(is_mark && is_to && is_beside)
+    Ok(matches!(&mark, Mark::DirMoved(Redirect::To(path)) if path.len() == 2))
+}
+
+fn is_read(alloc: Global, moved: &Inode) -> Result<bool, RedirectFault> {
+    Ok(is_path_read(alloc)? && is_name_read(alloc)? && is_mark_read(alloc, moved)?)
 }
 
 // An inode with these attributes.
@@ -56,38 +74,30 @@ fn inode_of(kind: Kind, attrs: Attrs) -> Inode {
     }
 }
 
+fn put(alloc: Global, attrs: &mut Attrs, name: &str, value: &[u8]) -> Result<(), Fail> {
+    expect_so(again!(is_put(alloc, attrs, name, value), AttrFault::Memory)?)
+}
+
 // A redirect and another attribute, which is put twice.
-fn are_put(alloc: Global, attrs: &mut Attrs) -> Result<bool, AttrFault> {
-    for (name, value) in [
-        ("user.k", "v"),
-        (overlay::REDIRECT, "/x/y"),
-        ("user.k", "w"),
-    ] {
-        if !again!(
-            is_put(alloc, attrs, name, value.as_bytes()),
-            AttrFault::Memory
-        )? {
-            return Ok(false);
-        }
-    }
-    Ok(true)
+fn put_all(alloc: Global, attrs: &mut Attrs) -> Result<(), Fail> {
+    put(alloc, attrs, "user.k", b"v")?;
+    put(alloc, attrs, overlay::REDIRECT, b"/x/y")?;
+    put(alloc, attrs, "user.k", b"w")
 }
 
 #[test]
 fn an_inode_is_told(rt: HostRuntime) -> Result<(), Fail> {
     let mut attrs = Attrs::new(rt.alloc());
-    assert!(rt; are_put(rt.alloc(), &mut attrs)?);
+    put_all(rt.alloc(), &mut attrs)?;
     let target = Target::from(again!(String::from_str(rt.alloc(), LONG), AllocError)?);
     let inode = inode_of(Kind::Symlink { target }, attrs);
-    assert!(rt; again!(is_inode_told(rt.alloc(), &inode), AllocError)?);
-    Ok(())
+    expect_so(again!(is_inode_told(rt.alloc(), &inode), AllocError)?)
 }
 
 #[test]
 fn a_redirect_is_read(rt: HostRuntime) -> Result<(), Fail> {
     let mut attrs = Attrs::new(rt.alloc());
-    assert!(rt; are_put(rt.alloc(), &mut attrs)?);
+    put_all(rt.alloc(), &mut attrs)?;
     let inode = inode_of(Kind::Dir, attrs);
-    assert!(rt; again!(is_read(rt.alloc(), &inode), RedirectFault::Memory)?);
-    Ok(())
+    expect_so(again!(is_read(rt.alloc(), &inode), RedirectFault::Memory)?)
 }

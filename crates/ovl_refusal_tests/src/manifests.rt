@@ -1,6 +1,6 @@
 //! Layers and sheets of manifests, and manifests of layers.
 
-use crate::samples::MOVED;
+use crate::samples::{MOVED, expect_so};
 use ovl_json::is_json;
 use ovl_layer::{Layer, LayerFault, Sheet, from_entries};
 use ovl_manifest::{read_layer, read_sheet, write_layer};
@@ -13,25 +13,33 @@ fn is_written(alloc: Global, layer: &Layer, manifest: &str) -> Result<bool, Allo
     Ok(written.starts_with(manifest.as_bytes()))
 }
 
+fn has_names(alloc: Global, layer: &Layer) -> Result<bool, AllocError> {
+    Ok(layer.children(alloc, &Path::root(alloc))?.len() == 3)
+}
+
+fn are_entries_written(alloc: Global, layer: &Layer, manifest: &str) -> Result<bool, LayerFault> {
+    let same = from_entries(alloc, layer.entries(alloc)?)?;
+    Ok(is_written(alloc, &same, manifest)?)
+}
+
 fn is_layer_told(alloc: Global, manifest: &str) -> Result<bool, LayerFault> {
     let layer = read_layer(alloc, manifest.as_bytes())?;
-    let names = layer.children(alloc, &Path::root(alloc))?;
-    let entries = layer.entries(alloc)?;
-    let same = from_entries(alloc, entries)?;
     Ok(
-        names.len() == 3
+        has_names(alloc, &layer)?
             && is_written(alloc, &layer, manifest)?
-            && is_written(alloc, &same, manifest)?,
+            && are_entries_written(alloc, &layer, manifest)?,
     )
+}
+
+fn is_sheet(alloc: Global, manifest: &str) -> Result<bool, LayerFault> {
+    let sheet = read_sheet(alloc, manifest.as_bytes())?;
+    Ok(sheet.len() == 6 && sheet.children(alloc, &Path::root(alloc))?.len() == 3)
 }
 
 // A manifest as it is written is read at once, and one with a space before it item by item.
 fn is_sheet_told(alloc: Global, manifest: &str) -> Result<bool, LayerFault> {
     let spaced = format!(in alloc; " {manifest}")?;
-    let sheet = read_sheet(alloc, manifest.as_bytes())?;
-    let same = read_sheet(alloc, spaced.as_bytes())?;
-    let names = sheet.children(alloc, &Path::root(alloc))?;
-    Ok(sheet.len() == 6 && same.len() == 6 && names.len() == 3)
+    Ok(is_sheet(alloc, manifest)? && is_sheet(alloc, spaced.as_str())?)
 }
 
 // A layer that can't be made a sheet comes back as it was.
@@ -47,7 +55,7 @@ fn is_made(alloc: Global, manifest: &str) -> Result<bool, LayerFault> {
 fn layers_are_told(rt: HostRuntime) -> Result<(), Fail> {
     let alloc = rt.alloc();
     for manifest in MOVED.lines() {
-        assert!(rt; again!(is_layer_told(alloc, manifest), LayerFault::Memory)?);
+        expect_so(again!(is_layer_told(alloc, manifest), LayerFault::Memory)?)?;
     }
     Ok(())
 }
@@ -56,44 +64,28 @@ fn layers_are_told(rt: HostRuntime) -> Result<(), Fail> {
 fn sheets_are_told(rt: HostRuntime) -> Result<(), Fail> {
     let alloc = rt.alloc();
     for manifest in MOVED.lines() {
-        assert!(rt; again!(is_sheet_told(alloc, manifest), LayerFault::Memory)?);
-        assert!(rt; again!(is_made(alloc, manifest), LayerFault::Memory)?);
+        expect_so(again!(is_sheet_told(alloc, manifest), LayerFault::Memory)?)?;
+        expect_so(again!(is_made(alloc, manifest), LayerFault::Memory)?)?;
     }
     Ok(())
 }
 
-// Whether a text, which is JSON but for this fault, has this fault.
-fn is_refused(alloc: Global, text: &str, fault: LayerFault) -> Result<bool, AllocError> {
+// A failure where a text, which is JSON but for this fault, hasn't this fault.
+fn expect_fault(alloc: Global, text: &str, fault: LayerFault) -> Result<(), Fail> {
     let is = again!(is_json(alloc, text), AllocError)?;
     let refused = again!(read_layer(alloc, text.as_bytes()), LayerFault::Memory);
-    Ok(is == (fault != LayerFault::NotJson) && refused.err() == Some(fault))
+    expect_so(is == (fault != LayerFault::NotJson) && refused.err() == Some(fault))
 }
 
 #[test]
 fn what_is_no_manifest_is_refused(rt: HostRuntime) -> Result<(), Fail> {
     let alloc = rt.alloc();
-    assert!(rt; is_refused(alloc, "{\"entries\":[", LayerFault::NotJson)?);
-    assert!(rt; is_refused(alloc, "[{\"a\":[1,\"b\"]}]", LayerFault::Shape)?);
-    assert!(rt;
-        is_refused(
-            alloc,
-            "{\"entries\":[],\"overlay-layer\":3}",
-            LayerFault::Version
-        )?
-    );
-    assert!(rt;
-        is_refused(
-            alloc,
-            "{\"entries\":[],\"overlay-layer\":2}",
-            LayerFault::Count
-        )?
-    );
-    assert!(rt;
-        is_refused(
-            alloc,
-            "{\"entries\":[{}],\"overlay-layer\":2}",
-            LayerFault::Entry(0)
-        )?
-    );
-    Ok(())
+    expect_fault(alloc, r#"{"entries":["#, LayerFault::NotJson)?;
+    expect_fault(alloc, r#"[{"a":[1,"b"]}]"#, LayerFault::Shape)?;
+    let later = r#"{"entries":[],"overlay-layer":3}"#;
+    expect_fault(alloc, later, LayerFault::Version)?;
+    let empty = r#"{"entries":[],"overlay-layer":2}"#;
+    expect_fault(alloc, empty, LayerFault::Count)?;
+    let bare = r#"{"entries":[{}],"overlay-layer":2}"#;
+    expect_fault(alloc, bare, LayerFault::Entry(0))
 }

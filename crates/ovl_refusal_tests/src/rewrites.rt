@@ -1,12 +1,12 @@
 //! The works of commands that make new layers, walked by one thread.
 
-use crate::samples::{MOVED, stack_of};
+use crate::samples::{expect_so, moved_stack};
 use ovl_board::{Piece, plain_walk};
 use ovl_deref::{DerefWork, finish_deref};
 use ovl_flatten::{FlattenWork, finish_flatten};
 use ovl_layer::Layer;
 use ovl_lookup::Stack;
-use ovl_merge::{MergeFault, MergeWork, finish_merge};
+use ovl_merge::{MergeDone, MergeFault, MergeWork, finish_merge};
 use ovl_rewrite::RewriteFault;
 use ovl_vacuum::{VacuumWork, finish_vacuum};
 use std::alloc::{AllocError, Global};
@@ -30,10 +30,14 @@ fn is_dereferenced(alloc: Global, stack: &Stack) -> Result<bool, RewriteFault> {
     Ok(has_entries(alloc, &layer, 7)?)
 }
 
-fn is_merged(alloc: Global, stack: &Stack) -> Result<bool, MergeFault> {
+fn merged(alloc: Global, stack: &Stack) -> Result<MergeDone, MergeFault> {
     let work = MergeWork::new(stack)?;
     let parcels = plain_walk(alloc, &work, Piece::root(alloc, 0))?;
-    let done = finish_merge(alloc, &work, parcels)?;
+    finish_merge(alloc, &work, parcels)
+}
+
+fn is_merged(alloc: Global, stack: &Stack) -> Result<bool, MergeFault> {
+    let done = merged(alloc, stack)?;
     Ok(has_entries(alloc, &done.top, 1)? && has_entries(alloc, &done.lower, 6)?)
 }
 
@@ -46,28 +50,24 @@ fn is_flattened(alloc: Global, stack: &Stack) -> Result<bool, RewriteFault> {
 
 #[test]
 fn a_layer_is_vacuumed(rt: HostRuntime) -> Result<(), Fail> {
-    let stack = again!(stack_of(rt.alloc(), MOVED), AllocError)?;
-    assert!(rt; again!(is_vacuumed(rt.alloc(), &stack), AllocError)?);
-    Ok(())
+    let stack = moved_stack(rt.alloc())?;
+    expect_so(again!(is_vacuumed(rt.alloc(), &stack), AllocError)?)
 }
 
 #[test]
 fn a_layer_is_dereferenced(rt: HostRuntime) -> Result<(), Fail> {
-    let stack = again!(stack_of(rt.alloc(), MOVED), AllocError)?;
-    assert!(rt; again!(is_dereferenced(rt.alloc(), &stack), RewriteFault::Memory)?);
-    Ok(())
+    let stack = moved_stack(rt.alloc())?;
+    expect_so(again!(is_dereferenced(rt.alloc(), &stack), RewriteFault::Memory)?)
 }
 
 #[test]
 fn two_layers_are_merged(rt: HostRuntime) -> Result<(), Fail> {
-    let stack = again!(stack_of(rt.alloc(), MOVED), AllocError)?;
-    assert!(rt; again!(is_merged(rt.alloc(), &stack), MergeFault::Memory)?);
-    Ok(())
+    let stack = moved_stack(rt.alloc())?;
+    expect_so(again!(is_merged(rt.alloc(), &stack), MergeFault::Memory)?)
 }
 
 #[test]
 fn a_stack_is_flattened(rt: HostRuntime) -> Result<(), Fail> {
-    let stack = again!(stack_of(rt.alloc(), MOVED), AllocError)?;
-    assert!(rt; again!(is_flattened(rt.alloc(), &stack), RewriteFault::Memory)?);
-    Ok(())
+    let stack = moved_stack(rt.alloc())?;
+    expect_so(again!(is_flattened(rt.alloc(), &stack), RewriteFault::Memory)?)
 }

@@ -3,9 +3,10 @@
 use ovl_lookup::Stack;
 use ovl_manifest::read_layer;
 use std::alloc::{AllocError, Global};
+use std::test::Fail;
 
 /// The stack of these manifests; what refuses it but out of memory is told as that too.
-pub(crate) fn stack_of(alloc: Global, manifests: &str) -> Result<Stack, AllocError> {
+fn stack_of(alloc: Global, manifests: &str) -> Result<Stack, AllocError> {
     let mut layers = Vec::new(alloc);
     for manifest in manifests.lines() {
         let Ok(layer) = read_layer(alloc, manifest.as_bytes()) else {
@@ -17,6 +18,19 @@ pub(crate) fn stack_of(alloc: Global, manifests: &str) -> Result<Stack, AllocErr
         Ok(stack) => Ok(stack),
         Err(_) => Err(AllocError),
     }
+}
+
+/// The stack of [`MOVED`].
+pub(crate) fn moved_stack(alloc: Global) -> Result<Stack, AllocError> {
+    again!(stack_of(alloc, MOVED), AllocError)
+}
+
+/// A failure where this isn't so.
+pub(crate) fn expect_so(is: bool) -> Result<(), Fail> {
+    if is {
+        return Ok(());
+    }
+    Err(Fail::new("it isn't so"))
 }
 
 /// A root alone.
