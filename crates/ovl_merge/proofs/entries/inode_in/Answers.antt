@@ -18,12 +18,8 @@ entered m above own name hit inode new is first same told =
     ∙ ap (λ (n : PathName). merged_entry m (child_path above n)) same)
 
 pub merged_directory-requires-clause-first : goal.merged_directory-requires-clause-first
-merged_directory-requires-clause-first c = record {
-  above = c.requires.above;
-  passage = c.in_ok-passage.ensures.walks;
-  first = c.in-Some.ensures.first;
-  marked = c.in-Some.ensures.marked c.in_ok-passage.ensures.walks.marked c.in_ok-passage.ensures.walks.lower.marked;
-}
+merged_directory-requires-clause-first c =
+    record { above = c.requires.above; passage = c.in_ok-passage.ensures.walks; first = c.in-Some.ensures.first; marked = c.in-Some.ensures.marked c.in_ok-passage.ensures.walks.marked c.in_ok-passage.ensures.walks.lower.marked }
 
 pub returns-then-is_directory-clause-inode : goal.returns-then-is_directory-clause-inode
 returns-then-is_directory-clause-inode c =
@@ -35,12 +31,8 @@ returns-then-is_directory-clause-inode c =
     (c.in_ok-directory.ensures ∙ sym (merged-directory m path inode (sym c.if-is_directory.ensures)))
 
 pub merged_metacopy-requires-clause-first : goal.merged_metacopy-requires-clause-first
-merged_metacopy-requires-clause-first c = record {
-  above = c.requires.above;
-  passage = c.in_ok-passage.ensures.walks;
-  first = c.in-Some.ensures.first;
-  marked = c.in-Some.ensures.marked c.in_ok-passage.ensures.walks.marked c.in_ok-passage.ensures.walks.lower.marked;
-}
+merged_metacopy-requires-clause-first c =
+    record { above = c.requires.above; passage = c.in_ok-passage.ensures.walks; first = c.in-Some.ensures.first; marked = c.in-Some.ensures.marked c.in_ok-passage.ensures.walks.marked c.in_ok-passage.ensures.walks.lower.marked }
 
 pub returns-then-is_well_formed_metacopy-clause-inode : goal.returns-then-is_well_formed_metacopy-clause-inode
 returns-then-is_well_formed_metacopy-clause-inode c =
