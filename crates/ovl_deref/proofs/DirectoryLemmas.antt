@@ -17,7 +17,7 @@ use Rattle.ovl_lookup.specs.Words.{over, top_layer, lower_layers}
 use Rattle.ovl_lookup.proofs.LawsOfWalks.{entry-limited, names_below-has, directory_found}
 use Rattle.ovl_lookup.proofs.LawsOfKids.{kids-ascend, kids-same, kid-names-ascend}
 use Rattle.ovl_lookup.proofs.LawsOfLooks.{ShowsWithinDepth-holds, inode-shows, top-over, top-layer, lower-layers}
-use Rattle.ovl_rewrite.specs.NewLayers.{IsTold, TellsLayer}
+use Rattle.ovl_rewrite.specs.NewLayers.{AreNamesOf, TellsLayer}
 use Rattle.ovl_rewrite.proofs.DirectoryLemmas.{layer-told}
 use Rattle.ovl_deref.specs.Deref.{is_in_moved, dereferenced_inode}
 use Rattle.ovl_deref.specs.Directories.{is_at_moved, new_at, names_in, deref_kids, deref_out, deref_depth}
@@ -98,7 +98,7 @@ module _ (stack : StackView) (each : All IsLayer stack.layers) (some : 0 < lengt
       by (Some inode) e is = new-limited path inode e
 
   -- its names tell the new layer
-  pub told : IsTold (new_at stack) (names_in stack) (deref_depth stack)
+  pub told : AreNamesOf (new_at stack) (names_in stack) (deref_depth stack)
   told = record { in_order = names_in-ascend; named = new-named; closed = new-parent; shallow = directory-limited }
 
   -- visits tell it

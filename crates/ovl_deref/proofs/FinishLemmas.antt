@@ -16,7 +16,7 @@ use Rattle.ovl_lookup.proofs.LawsOfInodes.{metacopy-file}
 use Rattle.ovl_lookup.proofs.LawsOfPaths.{entries-unique}
 use Rattle.ovl_lookup.proofs.LawsOfLooks.{top-over, top-layer, lower-layers}
 use Rattle.ovl_lookup.proofs.LawsOfWalks.{directory_found}
-use Rattle.ovl_rewrite.specs.Passes.{View}
+use Rattle.ovl_rewrite.specs.Passes.{InodesParcel}
 use Rattle.ovl_rewrite.specs.NewLayers.{IsToldWithin}
 use Rattle.ovl_rewrite.specs.Limits.{keeps_limits}
 use Rattle.ovl_deref.specs.Deref.{filled, IsDereferenced}
@@ -46,7 +46,7 @@ module _ (stack : StackView) (each : All IsLayer stack.layers) (some : 0 < lengt
       by true e = let bad : false ≡ true = sym (metacopy-file inode e).0 ∙ directory in cc
 
   -- the plain walk tells the new layer
-  pub walk-tells : (root : Inode) (views : List View) → entry_at (top_layer stack) [] ≡ Some root → IsDerefWalk stack views → IsToldWithin (new_at stack) root views
+  pub walk-tells : (root : Inode) (views : List InodesParcel) → entry_at (top_layer stack) [] ≡ Some root → IsDerefWalk stack views → IsToldWithin (new_at stack) root views
   walk-tells root views here walk = record { names = names_in stack; deepest = deref_depth stack; told = told stack each some; rooted = root-stays root here; walk = walk }
 
   -- over a sound stack its entries are a layer, or pass a limit

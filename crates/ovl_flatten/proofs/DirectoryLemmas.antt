@@ -12,7 +12,7 @@ use Rattle.ovl_lookup.specs.Merged.{look}
 use Rattle.ovl_lookup.proofs.LawsOfWalks.{directory_found}
 use Rattle.ovl_lookup.proofs.LawsOfKids.{kids-ascend, kids-same}
 use Rattle.ovl_lookup.proofs.LawsOfLooks.{ShowsWithinDepth-holds, inode-shows}
-use Rattle.ovl_rewrite.specs.NewLayers.{IsTold, TellsLayer}
+use Rattle.ovl_rewrite.specs.NewLayers.{AreNamesOf, TellsLayer}
 use Rattle.ovl_rewrite.proofs.DirectoryLemmas.{layer-told}
 use Rattle.ovl_flatten.specs.Flatten.{flattened_at}
 use Rattle.ovl_flatten.specs.Directories.{flatten_kids, flatten_out, flatten_depth}
@@ -32,7 +32,7 @@ module _ (stack : StackView) (each : All IsLayer stack.layers) where
       by (Some inode) e is = ShowsWithinDepth-holds stack each path (inode-shows (look stack path) inode e)
 
   -- its names tell the flattened layer
-  pub told : IsTold (flattened_at stack) (kids_along stack) (flatten_depth stack)
+  pub told : AreNamesOf (flattened_at stack) (kids_along stack) (flatten_depth stack)
   told = record { in_order = kids-ascend stack; named = named; closed = parent-shown stack each; shallow = directory-limited }
 
   -- visits tell it

@@ -14,7 +14,7 @@ use Rattle.ovl_lookup.specs.Words.{top_layer}
 use Rattle.ovl_lookup.proofs.LawsOfPaths.{entries-unique}
 use Rattle.ovl_lookup.proofs.LawsOfLooks.{top-layer}
 use Rattle.ovl_lookup.proofs.LawsOfWalks.{directory-entry}
-use Rattle.ovl_rewrite.specs.Passes.{View}
+use Rattle.ovl_rewrite.specs.Passes.{InodesParcel}
 use Rattle.ovl_rewrite.specs.NewLayers.{IsToldWithin}
 use Rattle.ovl_rewrite.specs.Limits.{keeps_limits}
 use Rattle.ovl_lookup.specs.Passes.{kids_along}
@@ -32,7 +32,7 @@ module _ (stack : StackView) (each : All IsLayer stack.layers) (some : 0 < lengt
       root-shown stack each some own.0 own.1 ∙ (ap (option_map visible) (sym own.1) ∙ is)
 
   -- the plain walk tells the flattened layer
-  pub walk-tells : (root : Inode) (views : List View) → option_map visible (entry_at (top_layer stack) []) ≡ Some root → IsFlattenWalk stack views → IsToldWithin (flattened_at stack) root views
+  pub walk-tells : (root : Inode) (views : List InodesParcel) → option_map visible (entry_at (top_layer stack) []) ≡ Some root → IsFlattenWalk stack views → IsToldWithin (flattened_at stack) root views
   walk-tells root views here walk = record { names = kids_along stack; deepest = flatten_depth stack; told = told stack each; rooted = root-told root here; walk = walk }
 
   -- over a sound stack its entries are a layer, or pass a limit

@@ -12,7 +12,7 @@ use Rattle.ovl_lookup.specs.Passes.{own_names_along, put_names}
 use Rattle.ovl_lookup.proofs.LawsOfKids.{any-put, ascends-put, kids-same}
 use Rattle.ovl_lookup.proofs.LawsOfLooks.{ShowsWithinDepth-holds}
 use Rattle.ovl_lookup.proofs.LawsOfWalks.{directory_found}
-use Rattle.ovl_rewrite.specs.NewLayers.{IsTold, TellsLayer}
+use Rattle.ovl_rewrite.specs.NewLayers.{AreNamesOf, TellsLayer}
 use Rattle.ovl_merge.specs.Places.{Merge, whole, two_layers, base, child_of, shows_at, merge_of}
 use Rattle.ovl_rewrite.proofs.DirectoryLemmas.{layer-told}
 use Rattle.ovl_merge.specs.MergeDown.{merged_entry}
@@ -63,7 +63,7 @@ module _ (m : Merge) (each : All IsLayer (whole m).layers) where
       (own-shown m each path (sym (entry-directory m (upper m each) (lower m each) path) ∙ holds))
 
   -- its names tell the new lower layer
-  pub told : IsTold (merged_entry m) (candidate_names m) merge_depth
+  pub told : AreNamesOf (merged_entry m) (candidate_names m) merge_depth
   told = record { in_order = candidates-ascend; named = candidate; closed = new-parent; shallow = directory-limited }
 
 -- the visits of a stack's merge tell it

@@ -22,7 +22,7 @@ use Rattle.ovl_lookup.proofs.LawsOfInodes.{sound-visible, unescaped-filter}
 use Rattle.ovl_board.specs.declared.pieces.Piece.{Piece}
 use Rattle.ovl_board.specs.Parcels.{IsPlain}
 use Rattle.ovl_rewrite.specs.Directories.{NamedInode, directories_among, visited_kids}
-use Rattle.ovl_rewrite.specs.Passes.{View}
+use Rattle.ovl_rewrite.specs.Passes.{InodesParcel}
 use Rattle.ovl_rewrite.specs.NewLayers.{IsToldWithin}
 use Rattle.ovl_rewrite.specs.Limits.{keeps_limits}
 use Rattle.ovl_rewrite.specs.declared.faults.RewriteFault.{RewriteFault}
@@ -114,7 +114,7 @@ module _ (m : Merge) (each : All IsLayer (whole m).layers) where
   out piece = entries_in m piece.dir
 
   -- the plain walk tells the new lower layer
-  pub walk-tells : (root : Inode) (views : List View) → option_map visible (entry_at m.upper []) ≡ Some root → IsPlain (visited_kids kids) out merge_root views → IsToldWithin (merged_entry m) root views
+  pub walk-tells : (root : Inode) (views : List InodesParcel) → option_map visible (entry_at m.upper []) ≡ Some root → IsPlain (visited_kids kids) out merge_root views → IsToldWithin (merged_entry m) root views
   walk-tells root views is walk =
       let own = directory-entry m.upper [] (upper m each).rooted in
       record {

@@ -26,7 +26,7 @@ use Rattle.ovl_merge.specs.declared.passages.Place.{Place}
 use Rattle.ovl_merge.specs.Places.{Merge, merge_of, lower_path, rest_path, first_hit, is_open, is_nothing_or, is_shown_regular, shows_own_directory, shows_at, goes_on, goes_on_at, reach, reach_of, natural, base, child_of}
 use Rattle.ovl_merge.specs.MergeDown.{merged_entry, merged_entry_of, new_whiteout}
 use Rattle.ovl_merge.specs.Stands.{IsStand, IsRowAt, IsPassing, onward_on, onward_to, step_onward, name_on}
-use Rattle.ovl_merge.specs.Passages.{IsPassage, IsPassed, IsMarked, IsPlaced, first_in, told_in, rest_from}
+use Rattle.ovl_merge.specs.Passages.{IsPassage, IsPassed, IsFoundMarked, IsPlaced, first_in, told_in, rest_from}
 use Rattle.ovl_merge.specs.Reckoned.{IsBase, IsBelow, reach_from}
 use Rattle.ovl_merge.proofs.Firsts.{first_step, first_hit-steps}
 use Rattle.ovl_merge.proofs.Core.{base-reach}
@@ -132,7 +132,7 @@ placed-some (Some place) r some same none = let bad : Some place ≡ None = same
 pub passed-nothing : (layer : Entries) (above : Option PathNames) (passed : Passed) → passed.found ≡ None → passed.rest ≡ None → IsPassed layer None above passed
 passed-nothing layer above passed found rest = record {
   found = ap told_in found;
-  marked = subst IsMarked (sym found) tt;
+  marked = subst IsFoundMarked (sym found) tt;
   rest = ap (rest_from above) rest;
   placed = subst (IsPlaced above) (sym rest) refl;
 }

@@ -33,8 +33,8 @@ IsPlaced above place = is_some place ≡ is_some (rest_from above place)
 abbrev pub told_in : Option Found → Option Inode
 told_in found = option_map (λ found. found.inode.now) found
 
-abbrev pub IsMarked : Option Found → Type 0
-IsMarked found = IfSome found (λ found. found.mark.now ≡ mark_of found.inode.now)
+abbrev pub IsFoundMarked : Option Found → Type 0
+IsFoundMarked found = IfSome found (λ found. found.mark.now ≡ mark_of found.inode.now)
 
 -- what a layer finds at a path, if there is one, and where a walk goes on there
 abbrev pub found_by : Entries → Option PathNames → Option Inode
@@ -48,7 +48,7 @@ onward_by layer path = option_and_then (λ path. step_onward (walk layer path)) 
 pub record IsPassed (layer : Entries) (path above : Option PathNames)
     (passed : Passed) : Type 0 where
   pub found : told_in passed.found ≡ found_by layer path
-  pub marked : IsMarked passed.found
+  pub marked : IsFoundMarked passed.found
   pub rest : rest_from above passed.rest ≡ onward_by layer path
   pub placed : IsPlaced above passed.rest
 
@@ -56,7 +56,7 @@ pub record IsPassed (layer : Entries) (path above : Option PathNames)
 pub record IsPassage (m : Merge) (path : PathNames) (above : Option PathNames)
     (passage : Passage) : Type 0 where
   pub upper : told_in passage.upper ≡ (walk m.upper path).found
-  pub marked : IsMarked passage.upper
+  pub marked : IsFoundMarked passage.upper
   pub lower : IsPassed m.lower (step_onward (walk m.upper path)) above passage.lower
 
 -- the first thing that they find

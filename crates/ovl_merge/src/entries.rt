@@ -40,13 +40,19 @@ pub(crate) fn inode_in<'d>(
     ensures whole { IfSome whole.new (IsViewOf stack.now 0 above.now.path) }
 {
     let passage = Passage::of(alloc, stack, above, candidate)?;
-    match passage.first() {
-        Some(found) => {
-            let inode = merged_inode(alloc, stack, whole, above, &passage, found)?;
-            Ok(Some(inode))
-        }
-        None => Ok(unfound(alloc, stack, above, &passage)),
+    let Some(found) = passage.first() else {
+        return Ok(unfound(alloc, stack, above, &passage));
+    };
+    if is_directory(found.inode) {
+        let directory = merged_directory(alloc, stack, above, &passage, found)?;
+        return Ok(Some(directory));
     }
+    if is_well_formed_metacopy(found.mark) {
+        let metacopy = merged_metacopy(alloc, stack, whole, above, &passage, found)?;
+        return Ok(Some(metacopy));
+    }
+    let shown = shown_inode(alloc, found.inode)?;
+    Ok(Some(shown))
 }
 
 // The same where the two layers show nothing: a whiteout, if they hide what the rest shows there.
@@ -86,33 +92,6 @@ fn new_whiteout(alloc: Global) -> Inode
         nsec: 0,
         attrs: Attrs::new(alloc),
     }
-}
-
-// The new inode of what the two layers show first at a name in the directory.
-fn merged_inode<'d>(
-    alloc: Global,
-    stack: &'d Stack,
-    whole: &mut Option<DirView<'d>>,
-    above: &'d Directory<'_>,
-    passage: &Passage<'_>,
-    found: &Found<'_>,
-) -> Result<Inode, AllocError>
-    requires whole { IfSome whole.old (IsViewOf stack.now 0 above.now.path) }
-    requires several { 1 < length stack.now.layers }
-    requires first { IsFirstFound stack.now above.now passage.now found.now }
-    ensures inode { IfOk result
-        (λ new. new
-        ≡ merge_down.merged_inode (merge_of stack.now)
-        (child_path above.now.path passage.now.name.now) found.now.inode.now) }
-    ensures whole { IfSome whole.new (IsViewOf stack.now 0 above.now.path) }
-{
-    if is_directory(found.inode) {
-        return merged_directory(alloc, stack, above, passage, found);
-    }
-    if is_well_formed_metacopy(found.mark) {
-        return merged_metacopy(alloc, stack, whole, above, passage, found);
-    }
-    shown_inode(alloc, found.inode)
 }
 
 // The inode as the merged tree shows it: one without attributes as it is.

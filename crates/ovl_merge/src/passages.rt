@@ -10,7 +10,7 @@ ghost use Rattle.ovl_merge.specs.Places as places;
 ghost use Rattle.ovl_merge.specs.Reckoned.{IsVisited, onward_at, upper_onward};
 ghost use Rattle.ovl_merge.specs.Stands.{IsOver, IsStand, IsPassing, IsRowAt, name_on, onward_on, onward_to};
 ghost use Rattle.ovl_merge.specs.Candidates.{IsCandidate};
-ghost use Rattle.ovl_merge.specs.Passages.{IsFirstFound, IsPassage, IsPassed, IsMarked, IsPlaced, first_in, told_in, place_from, rest_from};
+ghost use Rattle.ovl_merge.specs.Passages.{IsFirstFound, IsPassage, IsPassed, IsFoundMarked, IsPlaced, first_in, told_in, place_from, rest_from};
 
 use crate::candidates::Candidate;
 use crate::directories::Directory;
@@ -77,7 +77,7 @@ impl<'a> Passage<'a> {
     /// The first thing that the two layers have there.
     pub(crate) fn first(&self) -> Option<&Found<'a>>
         ensures first { option_map (λ found. found.now.inode.now) result ≡ first_in self.now }
-        ensures marked { IsMarked self.now.upper → IsMarked self.now.lower.found
+        ensures marked { IsFoundMarked self.now.upper → IsFoundMarked self.now.lower.found
             → IfSome result (λ found. found.now.mark.now ≡ marks.mark_of found.now.inode.now) }
     {
         match &self.upper {

@@ -14,8 +14,8 @@ use Rattle.ovl_board.specs.Pieces.{piece_in, HasLawfulKids}
 use Rattle.ovl_board.proofs.LawsOfMembers.{In, Rises, All-Every, In-map-cases, In-filter-cases, Rises-filter}
 use Rattle.ovl_board.proofs.LawsOfPieces.{entries-lawful}
 use Rattle.ovl_rewrite.specs.Directories.{NamedInode}
-use Rattle.ovl_rewrite.specs.Passes.{Tree, tree_kids, tree_out}
-use Rattle.ovl_rewrite.specs.NewLayers.{NewLayer, is_directory_found, has_directory, named_entry, tree_by, IsTold, AreEntriesOf, TellsLayer}
+use Rattle.ovl_rewrite.specs.Passes.{TreeEntries, tree_kids, tree_out}
+use Rattle.ovl_rewrite.specs.NewLayers.{NewLayer, is_directory_found, has_directory, named_entry, tree_by, AreNamesOf, AreEntriesOf, TellsLayer}
 use Rattle.ovl_rewrite.proofs.Ascents.{NameBefore, rising-ascend, rising-names, any-In}
 
 abbrev pub EntryBefore : NamedInode → NamedInode → Type 0
@@ -86,8 +86,8 @@ module _ (new : NewLayer) where
       by None later = later
       by (Some inode) later = ((λ entry h. up.0 entry.0 (listed-cases directory names entry h).0), later)
 
-  module _ (names : PathNames → List PathName) (deepest : ℕ) (told : IsTold new names deepest) where
-    abbrev tree : Tree
+  module _ (names : PathNames → List PathName) (deepest : ℕ) (told : AreNamesOf new names deepest) where
+    abbrev tree : TreeEntries
     tree = tree_by new names
 
     -- ---- the entries of a directory: all that there is, in order

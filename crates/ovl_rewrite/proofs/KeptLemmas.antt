@@ -16,7 +16,7 @@ use Rattle.ovl_board.specs.Parcels.{ParcelView, IsPlain, own_view, pieces_of}
 use Rattle.ovl_board.proofs.LawsOfMembers.{In, In-map, In-map-cases, In-Contains, Contains-In, In-filter-cases, All-Every, Every-All, AllPairs-Rises, Rises-AllPairs, Rises-filter}
 use Rattle.ovl_board.proofs.LawsOfWalks.{reached_by}
 use Rattle.ovl_rewrite.specs.Directories.{NamedInode, directories_among, is_kept, visited_kids, is_past_limits}
-use Rattle.ovl_rewrite.specs.Passes.{Tree, View, tree_kids, tree_out, entries_under}
+use Rattle.ovl_rewrite.specs.Passes.{TreeEntries, InodesParcel, tree_kids, tree_out, entries_under}
 use Rattle.ovl_rewrite.specs.NewLayers.{NewLayer, IsOf, IsToldBy, IsToldWithin, tree_by, leaves_out}
 use Rattle.ovl_rewrite.proofs.DirectoryLemmas.{entry-new}
 use Rattle.ovl_rewrite.proofs.TreeLemmas.{found-In, told-ascend, told-of}
@@ -129,8 +129,8 @@ kept-all piece (entry ∷ entries) none = by (kept-all piece entries) (is_direct
 
 -- ---- what such a walk tells
 
-module _ (root : Inode) (views : List View) (new : NewLayer) (by : IsToldWithin new root views) where
-  abbrev tree : Tree
+module _ (root : Inode) (views : List InodesParcel) (new : NewLayer) (by : IsToldWithin new root views) where
+  abbrev tree : TreeEntries
   tree = tree_by new by.names
 
   abbrev pub kept_entries : Entries

@@ -16,7 +16,7 @@ use Rattle.ovl_layer.proofs.SiblingLemmas.{stand-layer}
 use Rattle.ovl_board.specs.Pieces.{space_root}
 use Rattle.ovl_board.specs.Parcels.{IsPlain}
 use Rattle.ovl_board.proofs.LawsOfWalks.{IsPlain-from_preorder, HasReachedPieces-holds}
-use Rattle.ovl_rewrite.specs.Passes.{Tree, IsTree, tree_kids, tree_out, entries_under, View, views_under, WalksUnder, StopsUnder}
+use Rattle.ovl_rewrite.specs.Passes.{TreeEntries, IsTree, tree_kids, tree_out, entries_under, InodesParcel, views_under, WalksUnder, StopsUnder}
 use Rattle.ovl_rewrite.specs.NewLayers.{NewLayer, IsOf, IsToldBy, tree_by}
 use Rattle.ovl_rewrite.proofs.TreeLemmas.{told-ascend, told-of, is-tree}
 
@@ -62,15 +62,15 @@ layer-refused entries fault is told = told-memory entries fault (subst (λ (r : 
 -- ---- the entries that the parcels tell
 
 -- the plain walk has the parcels under the root
-walk-under : (tree : Tree) (deepest : ℕ) → IsTree tree deepest → (views : List View) → IsPlain (tree_kids tree) (tree_out tree) (space_root 0) views → views ≡ views_under tree deepest (space_root 0)
+walk-under : (tree : TreeEntries) (deepest : ℕ) → IsTree tree deepest → (views : List InodesParcel) → IsPlain (tree_kids tree) (tree_out tree) (space_root 0) views → views ≡ views_under tree deepest (space_root 0)
 walk-under tree deepest is views plain =
-    let nodes : List View = views_under tree deepest (space_root 0) in
+    let nodes : List InodesParcel = views_under tree deepest (space_root 0) in
     let other = IsPlain-from_preorder (tree_kids tree) (tree_out tree) deepest is.lawful (space_root 0) nodes refl in
     sym ((HasReachedPieces-holds (tree_kids tree) (tree_out tree) (space_root 0) views plain).3 nodes other)
 
 -- those of its tree are in order, and have at each path what the new layer has
-module _ (root : Inode) (views : List View) (new : NewLayer) (by : IsToldBy new root views) where
-  abbrev tree : Tree
+module _ (root : Inode) (views : List InodesParcel) (new : NewLayer) (by : IsToldBy new root views) where
+  abbrev tree : TreeEntries
   tree = tree_by new by.names
 
   abbrev pub told_entries : Entries
@@ -82,7 +82,7 @@ module _ (root : Inode) (views : List View) (new : NewLayer) (by : IsToldBy new 
   is : IsTree tree (suc by.deepest)
   is = is-tree new by.names by.deepest by.told
 
-  abbrev whole : List View
+  abbrev whole : List InodesParcel
   whole = views_under tree (suc by.deepest) (space_root 0)
 
   all-views : views ≡ whole ++ []
@@ -91,7 +91,7 @@ module _ (root : Inode) (views : List View) (new : NewLayer) (by : IsToldBy new 
   at_root : suc by.deepest - length (space_root 0).dir ≡ suc by.deepest
   at_root = omega arith
 
-  pub told-whole : (after : List View) (below : Entries) → WalksUnder views after below → entries_from root below ≡ told_entries
+  pub told-whole : (after : List InodesParcel) (below : Entries) → WalksUnder views after below → entries_from root below ≡ told_entries
   told-whole after below walks =
       ap (λ (entries : Entries). ([], root) ∷ entries)
       (sym (placed-root below) ∙ ((walks tree (suc by.deepest) is (space_root 0) [] all-views).1 ∙ ap (λ n. entries_under tree n []) at_root))

@@ -17,10 +17,10 @@ too-deep directory name deep =
     ap (λ b. b && nat_le (length (path_text path)) text_limit) past ∙ sym none
 
 -- else what the directory's own bytes leave
-pub room-left : (bytes name limit : ℕ) → nat_le (bytes + name) limit ≡ nat_lt name (limit + 1 - bytes)
-room-left bytes name limit = by (nat_le (bytes + name) limit) refl (nat_lt name (limit + 1 - bytes)) refl
+pub room-left : (bytes name limit : ℕ) → nat_le (bytes + 1 + name) limit ≡ nat_lt name (limit - bytes)
+room-left bytes name limit = by (nat_le (bytes + 1 + name) limit) refl (nat_lt name (limit - bytes)) refl
   where
-    by : (b : Bool) → nat_le (bytes + name) limit ≡ b → (c : Bool) → nat_lt name (limit + 1 - bytes) ≡ c → b ≡ c
+    by : (b : Bool) → nat_le (bytes + 1 + name) limit ≡ b → (c : Bool) → nat_lt name (limit - bytes) ≡ c → b ≡ c
     by true e true f = refl
     by false e false f = refl
     by true e false f = absurd (grind (arith, nat_tests, e, f))

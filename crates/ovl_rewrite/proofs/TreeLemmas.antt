@@ -11,8 +11,8 @@ use Rattle.ovl_layer.proofs.LayerLemmas.{path_cmp-same}
 use Rattle.ovl_board.proofs.LawsOfMembers.{In, Rises, In-flat_map, In-flat_map-cases, Rises-flat_map, In-Contains}
 use Rattle.ovl_board.proofs.LawsOfPieces.{prefix_before, fork_before}
 use Rattle.ovl_rewrite.specs.Directories.{NamedInode}
-use Rattle.ovl_rewrite.specs.Passes.{Tree, IsTree, entries_under}
-use Rattle.ovl_rewrite.specs.NewLayers.{NewLayer, IsOf, is_directory_found, has_directory, tree_by, IsTold}
+use Rattle.ovl_rewrite.specs.Passes.{TreeEntries, IsTree, entries_under}
+use Rattle.ovl_rewrite.specs.NewLayers.{NewLayer, IsOf, is_directory_found, has_directory, tree_by, AreNamesOf}
 use Rattle.ovl_rewrite.proofs.Ascents.{rising-ascend}
 use Rattle.ovl_rewrite.proofs.DirectoryLemmas.{EntryBefore, entry-new, new-entry, entries-rise, kids-lawful}
 
@@ -44,8 +44,8 @@ In-found (entry ∷ entries) path inode up (inr h) = by (path_eq path entry.0) r
         let same : path ≡ entry.0 = (pointwise_decides bytes_decides path entry.0).0 e in
         let bad : Less ≡ Equal = sym (up.0 (path, inode) h) ∙ (ap (λ (p : PathNames). path_cmp p path) (sym same) ∙ path_cmp-same path) in cc
 
-module _ (new : NewLayer) (names : PathNames → List PathName) (deepest : ℕ) (told : IsTold new names deepest) where
-  abbrev tree : Tree
+module _ (new : NewLayer) (names : PathNames → List PathName) (deepest : ℕ) (told : AreNamesOf new names deepest) where
+  abbrev tree : TreeEntries
   tree = tree_by new names
 
   abbrev under : ℕ → PathNames → Entries

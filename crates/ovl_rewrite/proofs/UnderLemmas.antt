@@ -19,10 +19,10 @@ use Rattle.ovl_board.specs.Parcels.{own_view}
 use Rattle.ovl_board.proofs.LawsOfMembers.{get_or-In, Contains-In, In}
 use Rattle.ovl_board.proofs.LawsOfWalks.{preorder_step}
 use Rattle.ovl_rewrite.specs.Directories.{NamedInode, directories_among}
-use Rattle.ovl_rewrite.specs.Passes.{Tree, IsTree, tree_kids, tree_out, entries_under, View, views_under, WalksUnder, StopsUnder}
+use Rattle.ovl_rewrite.specs.Passes.{TreeEntries, IsTree, tree_kids, tree_out, entries_under, InodesParcel, views_under, WalksUnder, StopsUnder}
 
-module _ (tree : Tree) (deepest : ℕ) where
-  abbrev own : Piece → View
+module _ (tree : TreeEntries) (deepest : ℕ) where
+  abbrev own : Piece → InodesParcel
   own = own_view (tree_kids tree) (tree_out tree)
 
   -- as many names as a path may still have below a piece
@@ -30,7 +30,7 @@ module _ (tree : Tree) (deepest : ℕ) where
   room piece = deepest - length piece.dir
 
   -- the parcels, and the entries, at and under these entries of a directory
-  abbrev pub views_among : Piece → List NamedInode → List View
+  abbrev pub views_among : Piece → List NamedInode → List InodesParcel
   views_among piece entries = map own (flat_map (λ kid. preorder (tree_kids tree) (room piece - 1) kid) (directories_among piece entries))
 
   abbrev told : ℕ → PathNames → NamedInode → Entries
@@ -84,14 +84,14 @@ module _ (tree : Tree) (deepest : ℕ) where
             ap (λ m. flat_map (told m piece.dir) (tree piece.dir)) same
 
 -- the parcels after those of the first `i` entries of a directory, and the entries at and under these, counted from it
-abbrev pub WalksAmong : List View → List View → ℕ → Entries → Type 0
+abbrev pub WalksAmong : List InodesParcel → List InodesParcel → ℕ → Entries → Type 0
 WalksAmong before after i below =
-    (tree : Tree) (deepest : ℕ) → IsTree tree deepest → (piece : Piece) (rest : List View) → before ≡ views_under tree deepest piece ++ rest →
+    (tree : TreeEntries) (deepest : ℕ) → IsTree tree deepest → (piece : Piece) (rest : List InodesParcel) → before ≡ views_under tree deepest piece ++ rest →
     (after ≡ views_among tree deepest piece (drop i (tree piece.dir)) ++ rest)
     × (placed piece.dir below ≡ entries_among tree deepest piece (take i (tree piece.dir)))
 
 -- the entries under a directory are those of its first `i` entries and those of the others
-parted : (tree : Tree) (deepest : ℕ) (is : IsTree tree deepest) (piece : Piece) (i : ℕ)
+parted : (tree : TreeEntries) (deepest : ℕ) (is : IsTree tree deepest) (piece : Piece) (i : ℕ)
     → entries_under tree (deepest - length piece.dir) piece.dir ≡ entries_among tree deepest piece (take i (tree piece.dir)) ++ entries_among tree deepest piece (drop i (tree piece.dir))
 parted tree deepest is piece i =
     entries-first tree deepest is piece
@@ -99,43 +99,43 @@ parted tree deepest is piece i =
     ∙ flat_map-append (told tree deepest (room tree deepest piece - 1) piece.dir) (take i (tree piece.dir)) (drop i (tree piece.dir)))
 
 -- no layer has them where it can't have those of the first
-pub stops-among : (before after : List View) (i : ℕ) (below : Entries) → WalksAmong before after i below → (CanStand below → ⊥) → StopsUnder before
+pub stops-among : (before after : List InodesParcel) (i : ℕ) (below : Entries) → WalksAmong before after i below → (CanStand below → ⊥) → StopsUnder before
 stops-among before after i below walked none tree deepest is piece rest is_under can =
     let first : Entries = entries_among tree deepest piece (take i (tree piece.dir)) in
     let here : CanStand first = stand-front first (entries_among tree deepest piece (drop i (tree piece.dir))) (subst CanStand (parted tree deepest is piece i) can) in
     none (stand-placed piece.dir below (subst CanStand (sym (walked tree deepest is piece rest is_under).1) here))
 
-module _ (before : List View) (view : View) (later : List View) (first : before ≡ view ∷ later) where
-  head : (tree : Tree) (deepest : ℕ) (is : IsTree tree deepest) (piece : Piece) (rest : List View) → before ≡ views_under tree deepest piece ++ rest
+module _ (before : List InodesParcel) (view : InodesParcel) (later : List InodesParcel) (first : before ≡ view ∷ later) where
+  head : (tree : TreeEntries) (deepest : ℕ) (is : IsTree tree deepest) (piece : Piece) (rest : List InodesParcel) → before ≡ views_under tree deepest piece ++ rest
       → (view ≡ own tree deepest piece) × (later ≡ views_among tree deepest piece (tree piece.dir) ++ rest)
   head tree deepest is piece rest is_under =
-      let whole : view ∷ later ≡ own tree deepest piece ∷ (views_among tree deepest piece (tree piece.dir) ++ rest) = sym first ∙ (is_under ∙ ap (λ (views : List View). views ++ rest) (views-first tree deepest is piece)) in
-      (ap (λ (views : List View). elim views as (λ _. View) [ [] ↦ view | v ∷ vs ↦ v ]) whole, ap (drop 1) whole)
+      let whole : view ∷ later ≡ own tree deepest piece ∷ (views_among tree deepest piece (tree piece.dir) ++ rest) = sym first ∙ (is_under ∙ ap (λ (views : List InodesParcel). views ++ rest) (views-first tree deepest is piece)) in
+      (ap (λ (views : List InodesParcel). elim views as (λ _. InodesParcel) [ [] ↦ view | v ∷ vs ↦ v ]) whole, ap (drop 1) whole)
 
   pub walk-starts : WalksAmong before later 0 []
   walk-starts tree deepest is piece rest is_under = ((head tree deepest is piece rest is_under).1, refl)
 
-  pub walk-ends : (after : List View) (i : ℕ) (below : Entries) → length view.seen ≤ i → WalksAmong before after i below → WalksUnder before after below
+  pub walk-ends : (after : List InodesParcel) (i : ℕ) (below : Entries) → length view.seen ≤ i → WalksAmong before after i below → WalksUnder before after below
   walk-ends after i below end walked tree deepest is piece rest is_under =
       let known = walked tree deepest is piece rest is_under in
-      let count : length (tree piece.dir) ≤ i = omega (arith, end, ap (λ (v : View). length v.seen) (head tree deepest is piece rest is_under).0) in (
+      let count : length (tree piece.dir) ≤ i = omega (arith, end, ap (λ (v : InodesParcel). length v.seen) (head tree deepest is piece rest is_under).0) in (
         known.0 ∙ ap (λ (more : List NamedInode). views_among tree deepest piece more ++ rest) (drop_of_length-le (tree piece.dir) count),
         known.1 ∙ (ap (entries_among tree deepest piece) (take_all i (tree piece.dir) count) ∙ sym (entries-first tree deepest is piece)),
       )
 
-  module _ (after : List View) (i : ℕ) (entry : NamedInode) (inside : i < length view.seen) (is_entry : entry ≡ get_or view.seen i entry) (mid : Entries) (walked : WalksAmong before after i mid) where
+  module _ (after : List InodesParcel) (i : ℕ) (entry : NamedInode) (inside : i < length view.seen) (is_entry : entry ≡ get_or view.seen i entry) (mid : Entries) (walked : WalksAmong before after i mid) where
     -- the entry at the place, and those after it
-    record At (tree : Tree) (deepest : ℕ) (piece : Piece) (rest : List View) : Type 0 where
+    record At (tree : TreeEntries) (deepest : ℕ) (piece : Piece) (rest : List InodesParcel) : Type 0 where
       pub among : In entry (tree piece.dir)
       pub longer : take (i + 1) (tree piece.dir) ≡ take i (tree piece.dir) ++ entry ∷ []
       pub onward : drop i (tree piece.dir) ≡ entry ∷ drop (i + 1) (tree piece.dir)
       pub left : after ≡ views_among tree deepest piece (entry ∷ drop (i + 1) (tree piece.dir)) ++ rest
       pub done : placed piece.dir mid ≡ entries_among tree deepest piece (take i (tree piece.dir))
 
-    at : (tree : Tree) (deepest : ℕ) → IsTree tree deepest → (piece : Piece) (rest : List View) → before ≡ views_under tree deepest piece ++ rest → At tree deepest piece rest
+    at : (tree : TreeEntries) (deepest : ℕ) → IsTree tree deepest → (piece : Piece) (rest : List InodesParcel) → before ≡ views_under tree deepest piece ++ rest → At tree deepest piece rest
     at tree deepest is piece rest is_under =
         let top = head tree deepest is piece rest is_under in
-        let seen : view.seen ≡ tree piece.dir = ap (λ (v : View). v.seen) top.0 in
+        let seen : view.seen ≡ tree piece.dir = ap (λ (v : InodesParcel). v.seen) top.0 in
         let within : i < length (tree piece.dir) = omega (arith, inside, ap length seen) in
         let own_entry : entry ≡ get_or (tree piece.dir) i entry = is_entry ∙ ap (λ (entries : List NamedInode). get_or entries i entry) seen in
         let onward : drop i (tree piece.dir) ≡ entry ∷ drop (i + 1) (tree piece.dir) = drop_more (tree piece.dir) i entry within ∙ ap (λ (e : NamedInode). e ∷ drop (i + 1) (tree piece.dir)) (sym own_entry) in
@@ -149,7 +149,7 @@ module _ (before : List View) (view : View) (later : List View) (first : before 
         }
 
     -- the entries with one more and those below it
-    grown : (tree : Tree) (deepest : ℕ) (piece : Piece) (rest : List View) (a : At tree deepest piece rest) (kids : Entries)
+    grown : (tree : TreeEntries) (deepest : ℕ) (piece : Piece) (rest : List InodesParcel) (a : At tree deepest piece rest) (kids : Entries)
         → placed (child_path piece.dir entry.0) kids ≡ entries_under tree (deepest - length (child_path piece.dir entry.0)) (child_path piece.dir entry.0)
         → placed piece.dir (mid ++ under entry.0 (entries_from entry.1 kids)) ≡ entries_among tree deepest piece (take (i + 1) (tree piece.dir))
     grown tree deepest piece rest a kids are =
@@ -161,18 +161,18 @@ module _ (before : List View) (view : View) (later : List View) (first : before 
         ∙ (sym (more-entries tree deepest piece (take i (tree piece.dir)) entry) ∙ ap (entries_among tree deepest piece) (sym a.longer)))
 
     -- the parcels that are left, where the entry is a directory: those at and under it first
-    left-first : (tree : Tree) (deepest : ℕ) (piece : Piece) (rest : List View) → At tree deepest piece rest → is_directory entry.1 ≡ true
+    left-first : (tree : TreeEntries) (deepest : ℕ) (piece : Piece) (rest : List InodesParcel) → At tree deepest piece rest → is_directory entry.1 ≡ true
         → after ≡ views_under tree deepest (piece_in piece entry.0) ++ (views_among tree deepest piece (drop (i + 1) (tree piece.dir)) ++ rest)
     left-first tree deepest piece rest a directory =
         a.left
-        ∙ (ap (λ (views : List View). views ++ rest) (directory-views tree deepest piece entry (drop (i + 1) (tree piece.dir)) directory)
+        ∙ (ap (λ (views : List InodesParcel). views ++ rest) (directory-views tree deepest piece entry (drop (i + 1) (tree piece.dir)) directory)
         ∙ append_assoc (views_under tree deepest (piece_in piece entry.0)) (views_among tree deepest piece (drop (i + 1) (tree piece.dir))) rest)
 
-    pub walk-directory : is_directory entry.1 ≡ true → (further : List View) (kids : Entries)
+    pub walk-directory : is_directory entry.1 ≡ true → (further : List InodesParcel) (kids : Entries)
         → WalksUnder after further kids → WalksAmong before further (i + 1) (mid ++ under entry.0 (entries_from entry.1 kids))
     walk-directory directory further kids below tree deepest is piece rest is_under =
         let a = at tree deepest is piece rest is_under in
-        let more : List View = views_among tree deepest piece (drop (i + 1) (tree piece.dir)) in
+        let more : List InodesParcel = views_among tree deepest piece (drop (i + 1) (tree piece.dir)) in
         let done = below tree deepest is (piece_in piece entry.0) (more ++ rest) (left-first tree deepest piece rest a directory) in
         (done.0, grown tree deepest piece rest a kids done.1)
 
@@ -181,7 +181,7 @@ module _ (before : List View) (view : View) (later : List View) (first : before 
         let a = at tree deepest is piece rest is_under in
         let path : PathNames = child_path piece.dir entry.0 in
         let nothing = nothing-under tree deepest is (deepest - length path) path (is.files piece.dir entry (Contains-In entry (tree piece.dir) a.among) file) in (
-          a.left ∙ ap (λ (views : List View). views ++ rest) (file-views tree deepest piece entry (drop (i + 1) (tree piece.dir)) file),
+          a.left ∙ ap (λ (views : List InodesParcel). views ++ rest) (file-views tree deepest piece entry (drop (i + 1) (tree piece.dir)) file),
           grown tree deepest piece rest a kids (ap (placed path) none ∙ sym nothing),
         )
 

@@ -13,7 +13,7 @@ use Rattle.ovl_board.specs.declared.pieces.Piece.{Piece}
 use Rattle.ovl_board.specs.Pieces.{space_root}
 use Rattle.ovl_board.specs.Parcels.{IsPlain}
 use Rattle.ovl_rewrite.specs.Directories.{NamedInode, directories_among, visited_kids, is_past_limits}
-use Rattle.ovl_rewrite.specs.Passes.{Tree, View, tree_kids, tree_out}
+use Rattle.ovl_rewrite.specs.Passes.{TreeEntries, InodesParcel, tree_kids, tree_out}
 
 -- a new layer: what it has at each path
 abbrev pub NewLayer : Type 0
@@ -48,12 +48,13 @@ abbrev pub named_entry : NewLayer → PathNames → PathName → Option NamedIno
 named_entry new directory name =
     option_map (λ inode. (name, inode)) (new (child_path directory name))
 
-abbrev pub tree_by : NewLayer → (PathNames → List PathName) → Tree
+abbrev pub tree_by : NewLayer → (PathNames → List PathName) → TreeEntries
 tree_by new names directory = filter_map (named_entry new directory) (names directory)
 
 -- these names are in order, and each entry of a directory has one of them; what has an entry in it
 -- is a directory, and no directory has more than `deepest` names
-pub record IsTold (new : NewLayer) (names : PathNames → List PathName) (deepest : ℕ) : Type 0 where
+pub record AreNamesOf (new : NewLayer) (names : PathNames → List PathName)
+    (deepest : ℕ) : Type 0 where
   pub in_order : (directory : PathNames) → ascends name_cmp (names directory) ≡ true
   pub named : (directory : PathNames) (name : PathName) (inode : Inode)
       → new (child_path directory name) ≡ Some inode
@@ -64,22 +65,22 @@ pub record IsTold (new : NewLayer) (names : PathNames → List PathName) (deepes
       → length directory ≤ deepest
 
 -- parcels tell a new layer with this root: they are the plain walk over its directories
-pub record IsToldBy (new : NewLayer) (root : Inode) (views : List View) : Type 0 where
+pub record IsToldBy (new : NewLayer) (root : Inode) (views : List InodesParcel) : Type 0 where
   pub names : PathNames → List PathName
   pub deepest : ℕ
-  pub told : IsTold new names deepest
+  pub told : AreNamesOf new names deepest
   pub rooted : new [] ≡ Some root
   pub walk : IsPlain (tree_kids (tree_by new names)) (tree_out (tree_by new names)) (space_root 0) views
 
 -- the same where what no manifest can hold is left out of the walk
-pub record IsToldWithin (new : NewLayer) (root : Inode) (views : List View) : Type 0 where
+pub record IsToldWithin (new : NewLayer) (root : Inode) (views : List InodesParcel) : Type 0 where
   pub names : PathNames → List PathName
   pub deepest : ℕ
-  pub told : IsTold new names deepest
+  pub told : AreNamesOf new names deepest
   pub rooted : new [] ≡ Some root
   pub walk : IsPlain (visited_kids (tree_kids (tree_by new names))) (tree_out (tree_by new names))
       (space_root 0) views
 
 -- something was left out at a directory
-abbrev pub leaves_out : View → Bool
+abbrev pub leaves_out : InodesParcel → Bool
 leaves_out view = list_any (is_past_limits view.piece.dir) view.seen

@@ -18,51 +18,53 @@ use Rattle.ovl_rewrite.specs.declared.faults.RewriteFault.{RewriteFault}
 use Rattle.ovl_rewrite.specs.declared.faults.RewriteFault.TheVariants.{LimitOut, Memory}
 
 -- a tree by its directories: the entries in each
-abbrev pub Tree : Type 0
-Tree = PathNames → List NamedInode
+abbrev pub TreeEntries : Type 0
+TreeEntries = PathNames → List NamedInode
 
-abbrev pub tree_kids : Tree → Piece → List Piece
+abbrev pub tree_kids : TreeEntries → Piece → List Piece
 tree_kids tree piece = directories_among piece (tree piece.dir)
 
-abbrev pub tree_out : Tree → Piece → List NamedInode
+abbrev pub tree_out : TreeEntries → Piece → List NamedInode
 tree_out tree piece = tree piece.dir
 
 -- its directories are lawful pieces, it ends at a depth, and what is no directory has no entries
-pub record IsTree (tree : Tree) (deepest : ℕ) : Type 0 where
+pub record IsTree (tree : TreeEntries) (deepest : ℕ) : Type 0 where
   pub lawful : HasLawfulKids (tree_kids tree) deepest
   pub bounded : (directory : PathNames) → deepest ≤ length directory → tree directory ≡ []
   pub files : (directory : PathNames) (entry : NamedInode) → Contains (tree directory) entry
       → is_directory entry.1 ≡ false → tree (child_path directory entry.0) ≡ []
 
 -- the entries at most `depth` names below a directory, in path order
-abbrev pub entries_under : Tree → ℕ → PathNames → Entries
+abbrev pub entries_under : TreeEntries → ℕ → PathNames → Entries
 entries_under tree zero directory = []
 entries_under tree (suc depth) directory =
     flat_map (λ entry. (child_path directory entry.0, entry.1)
     ∷ entries_under tree depth (child_path directory entry.0)) (tree directory)
 
 -- what is seen of a directory's parcel, and the parcels of a directory and of what lies under it
-abbrev pub View : Type 0
-View = ParcelView (List NamedInode)
+abbrev pub InodesParcel : Type 0
+InodesParcel = ParcelView (List NamedInode)
 
-abbrev pub views_under : Tree → ℕ → Piece → List View
+abbrev pub views_under : TreeEntries → ℕ → Piece → List InodesParcel
 views_under tree deepest piece =
     map (own_view (tree_kids tree) (tree_out tree))
     (preorder (tree_kids tree) (deepest - length piece.dir) piece)
 
 -- where parcels begin with those of a directory of a tree, these are taken off, and the entries
 -- under it are these, with their paths counted from it
-abbrev pub WalksUnder : List View → List View → Entries → Type 0
+abbrev pub WalksUnder : List InodesParcel → List InodesParcel → Entries → Type 0
 WalksUnder before after below =
-    (tree : Tree) (deepest : ℕ) → IsTree tree deepest → (piece : Piece) (rest : List View)
+    (tree : TreeEntries) (deepest : ℕ) → IsTree tree deepest
+    → (piece : Piece) (rest : List InodesParcel)
     → before ≡ views_under tree deepest piece ++ rest →
     (after ≡ rest)
     × (placed piece.dir below ≡ entries_under tree (deepest - length piece.dir) piece.dir)
 
 -- where parcels begin with those of a directory of a tree, no layer has the entries under it
-abbrev pub StopsUnder : List View → Type 0
+abbrev pub StopsUnder : List InodesParcel → Type 0
 StopsUnder before =
-    (tree : Tree) (deepest : ℕ) → IsTree tree deepest → (piece : Piece) (rest : List View)
+    (tree : TreeEntries) (deepest : ℕ) → IsTree tree deepest
+    → (piece : Piece) (rest : List InodesParcel)
     → before ≡ views_under tree deepest piece ++ rest
     → CanStand (entries_under tree (deepest - length piece.dir) piece.dir) → ⊥
 

@@ -3,6 +3,7 @@ ghost use Rattle.ovl_names.specs.Paths.{PathNames, child_path};
 ghost use Rattle.ovl_layer.specs.Layers.{is_within_limits};
 ghost use Rattle.ovl_rewrite.specs.Directories.{IsNameRoom};
 
+use ovl_layer::slashed_len;
 use ovl_names::{DEPTH_LIMIT, Name, Path, TEXT_LIMIT};
 
 /// The room that a directory has for the names in it, if a manifest is to hold their paths.
@@ -17,16 +18,11 @@ impl NameRoom {
     pub(crate) fn under(directory: &Path) -> NameRoom
         ensures { IsNameRoom directory.now result }
     {
-        let names = directory.names();
-        if names.len() >= DEPTH_LIMIT {
+        if directory.len() >= DEPTH_LIMIT {
             return NameRoom { bytes: 0 };
         }
-        let mut bytes = 1;
-        for above in names {
-            bytes += 1 + above.len();
-        }
         NameRoom {
-            bytes: (TEXT_LIMIT + 1).saturating_sub(bytes),
+            bytes: TEXT_LIMIT.saturating_sub(slashed_len(directory)),
         }
     }
 

@@ -5,12 +5,13 @@ use Rattle.std.specs.List.{cons_option, list_all}
 use Rattle.std.specs.Ordering.{is_lt}
 use Rattle.std.specs.declared.cmp.Ordering.TheVariants.{Less}
 use Rattle.std.specs.Cmp.Lexicographic.{nat_list_cmp_total, pointwise_decides, bytes_decides}
-use Rattle.ovl_names.specs.Names.{PathName, name_eq, name_cmp}
+use Rattle.ovl_names.specs.Names.{PathName, name_cmp}
 use Rattle.ovl_names.specs.Order.{ascends}
 use Rattle.ovl_names.specs.Paths.{PathNames, child_path, path_eq, path_cmp, depth_limit}
 use Rattle.ovl_names.proofs.Ascending.{both, is_lt-Less}
 use Rattle.ovl_inode.specs.declared.inodes.Inode.{Inode}
 use Rattle.ovl_layer.specs.Layers.{Entries, Entry, entry_at, entry_cmp, name_below, names_below, IsLayer}
+use Rattle.ovl_lookup.proofs.LawsOfKids.{below-path}
 use Rattle.ovl_lookup.proofs.LawsOfWalks.{entry-limited, name_below-child}
 use Rattle.ovl_board.specs.declared.pieces.Piece.{Piece}
 use Rattle.ovl_board.specs.Pieces.{piece_in, HasLawfulKids}
@@ -61,17 +62,6 @@ paths-rise (entry ∷ layer) up =
 
 -- ---- the names in a directory
 
-pub name-path : (directory path : PathNames) (name : PathName) → name_below directory path ≡ Some name → path ≡ child_path directory name
-name-path [] [] name is = let bad : None ≡ Some name = is in cc
-name-path [] (own ∷ []) name is = ap (λ (o : Option PathName). elim o as (λ _. PathNames) [ Some n ↦ n ∷ [] | None ↦ [] ]) is
-name-path [] (own ∷ other ∷ names) name is = let bad : None ≡ Some name = is in cc
-name-path (first ∷ directory) [] name is = let bad : None ≡ Some name = is in cc
-name-path (first ∷ directory) (own ∷ names) name is = by (name-path directory names name) (name_eq first own) refl is
-  where
-    by : (name_below directory names ≡ Some name → names ≡ child_path directory name) → (b : Bool) → name_eq first own ≡ b → cond b (name_below directory names) None ≡ Some name → own ∷ names ≡ child_path (first ∷ directory) name
-    by later true e is = (λ j. sym ((bytes_decides first own).0 e) j ∷ later is j)
-    by later false e is = let bad : None ≡ Some name = is in cc
-
 -- a name is one of them exactly where its path is one of the layer's
 pub name-In : (layer : Entries) (directory : PathNames) (name : PathName) → In name (names_below layer directory) → In (child_path directory name) (paths_of layer)
 name-In [] directory name h = absurd h
@@ -79,7 +69,7 @@ name-In (entry ∷ layer) directory name h = by (name-In layer directory name) (
   where
     by : (In name (names_below layer directory) → In (child_path directory name) (paths_of layer)) → (own : Option PathName) → name_below directory entry.0 ≡ own → In name (cons_option own (names_below layer directory)) → In (child_path directory name) (paths_of (entry ∷ layer))
     by later None e h = inr (later h)
-    by later (Some own) e (inl same) = inl (ap (child_path directory) same ∙ sym (name-path directory entry.0 own e))
+    by later (Some own) e (inl same) = inl (ap (child_path directory) same ∙ sym (below-path directory entry.0 own e))
     by later (Some own) e (inr h) = inr (later h)
 
 pub In-name : (layer : Entries) (directory : PathNames) (name : PathName) → In (child_path directory name) (paths_of layer) → In name (names_below layer directory)
@@ -103,7 +93,7 @@ names-rise (entry ∷ layer) directory up = by (names-rise layer directory up.1)
     by rest None e = rest
     by rest (Some name) e = (
       (λ later h. siblings name_cmp nat_list_cmp_total directory name later
-          (ap (λ (p : PathNames). path_cmp p (child_path directory later)) (sym (name-path directory entry.0 name e)) ∙ up.0 (child_path directory later) (name-In layer directory later h))),
+          (ap (λ (p : PathNames). path_cmp p (child_path directory later)) (sym (below-path directory entry.0 name e)) ∙ up.0 (child_path directory later) (name-In layer directory later h))),
       rest,
     )
 

@@ -26,6 +26,7 @@ use Rattle.ovl_layer.proofs.BackLemmas.{pair-next}
 use Rattle.ovl_layer.proofs.SheetLemmas.{none-past, number-one, last_name-child, entry_at-number}
 use Rattle.ovl_lookup.specs.Stacks.{StackView}
 use Rattle.ovl_lookup.specs.Words.{top_layer, lower_layers, is_at_or_under}
+use Rattle.ovl_lookup.proofs.LawsOfKids.{below-path}
 use Rattle.ovl_lookup.proofs.LawsOfPaths.{last-name, parent_path-child, under-append, under-parts, all-entries, lookup-all}
 use Rattle.ovl_lookup.proofs.LawsOfWalks.{entry-of_row, entry-parent, entry-above, directory-above, directory-entry, name_below-child}
 use Rattle.ovl_board.specs.declared.pieces.Piece.{Piece}
@@ -37,10 +38,10 @@ use Rattle.ovl_board.proofs.LawsOfMembers.{In, Rises, AllPairs-Rises, Rises-AllP
 use Rattle.ovl_board.proofs.LawsOfPieces.{before_trans, less_differs, piece_eq}
 use Rattle.ovl_vacuum.specs.Vacuum.{is_idle, is_idle_throughout, vacuumed_layer, removed_paths}
 use Rattle.ovl_vacuum.specs.Directories.{IdleName, idle_name, names_seen, is_idle_at, vacuum_kids, vacuum_out, vacuum_root, IsVacuumWalk}
-use Rattle.ovl_vacuum.specs.Passes.{idle_flags, gone_flags, names_told, IsTold, TellsBelow}
+use Rattle.ovl_vacuum.specs.Passes.{idle_flags, gone_flags, names_told, IsIdleTold, TellsBelow}
 use Rattle.ovl_vacuum.proofs.VacuumLemmas.{idle-at}
 use Rattle.ovl_vacuum.proofs.KeptLemmas.{root-stays, throughout-child, IsLayer-vacuumed}
-use Rattle.ovl_vacuum.proofs.DirectoryLemmas.{paths_of, PathBefore, paths-rise, entry-path, name-path, In-name, kid-path}
+use Rattle.ovl_vacuum.proofs.DirectoryLemmas.{paths_of, PathBefore, paths-rise, entry-path, In-name, kid-path}
 
 -- ---- the rows of a layer by their numbers
 
@@ -306,21 +307,21 @@ module _ (stack : StackView) where
       by (Some inode) = refl
 
   -- a flag that is set as it should be is told, and so are those that were
-  told-set : (flags : List Bool) (kid : ℕ) (flag : Bool) → kid < length flags → flag ≡ is_idle_at stack (path_at (top_layer stack) kid) → IsTold stack (set flags kid flag) kid
+  told-set : (flags : List Bool) (kid : ℕ) (flag : Bool) → kid < length flags → flag ≡ is_idle_at stack (path_at (top_layer stack) kid) → IsIdleTold stack (set flags kid flag) kid
   told-set flags kid flag inside is_flag = get_or-set_same flags kid flag false inside ∙ is_flag
 
-  told-kept : (flags : List Bool) (kid : ℕ) (flag : Bool) → kid < length flags → flag ≡ is_idle_at stack (path_at (top_layer stack) kid) → (number : ℕ) → IsTold stack flags number → IsTold stack (set flags kid flag) number
+  told-kept : (flags : List Bool) (kid : ℕ) (flag : Bool) → kid < length flags → flag ≡ is_idle_at stack (path_at (top_layer stack) kid) → (number : ℕ) → IsIdleTold stack flags number → IsIdleTold stack (set flags kid flag) number
   told-kept flags kid flag inside is_flag number told = by (cases_eq number kid)
     where
-      by : (number ≡ kid) ⊎ (number ≡ kid → ⊥) → IsTold stack (set flags kid flag) number
-      by (inl same) = subst (IsTold stack (set flags kid flag)) (sym same) (told-set flags kid flag inside is_flag)
+      by : (number ≡ kid) ⊎ (number ≡ kid → ⊥) → IsIdleTold stack (set flags kid flag) number
+      by (inl same) = subst (IsIdleTold stack (set flags kid flag)) (sym same) (told-set flags kid flag inside is_flag)
       by (inr differ) = get_or-set_other flags kid number flag false differ ∙ told
 
 -- those of the first rows directly below a directory's are told
 pub record ToldAmong (stack : StackView) (kids : List ℕ) (i : ℕ) (old new : List Bool) : Type 0 where
   pub count : length new ≡ length old
-  pub kept : (number : ℕ) → IsTold stack old number → IsTold stack new number
-  pub told : (j : ℕ) → j < i → IsTold stack new (get_or kids j 0)
+  pub kept : (number : ℕ) → IsIdleTold stack old number → IsIdleTold stack new number
+  pub told : (j : ℕ) → j < i → IsIdleTold stack new (get_or kids j 0)
 
 module _ (stack : StackView) (directory : ℕ) (kids : List ℕ) (old : List Bool) (whole : length old ≡ length (top_layer stack))
     (within : All (λ kid. kid < length (top_layer stack)) kids)
@@ -360,8 +361,8 @@ module _ (stack : StackView) (directory : ℕ) (kids : List ℕ) (old : List Boo
         told = λ j before. by j (cases_eq j i) before fits flag;
       }
     where
-      by : (j : ℕ) → (j ≡ i) ⊎ (j ≡ i → ⊥) → j < i + 1 → get_or kids i 0 < length flags → entry.1 ≡ is_idle_at stack (path_at (top_layer stack) (get_or kids i 0)) → IsTold stack (set flags (get_or kids i 0) entry.1) (get_or kids j 0)
-      by j (inl same) before fits flag = subst (λ k. IsTold stack (set flags (get_or kids i 0) entry.1) (get_or kids k 0)) (sym same) (told-set stack flags (get_or kids i 0) entry.1 fits flag)
+      by : (j : ℕ) → (j ≡ i) ⊎ (j ≡ i → ⊥) → j < i + 1 → get_or kids i 0 < length flags → entry.1 ≡ is_idle_at stack (path_at (top_layer stack) (get_or kids i 0)) → IsIdleTold stack (set flags (get_or kids i 0) entry.1) (get_or kids j 0)
+      by j (inl same) before fits flag = subst (λ k. IsIdleTold stack (set flags (get_or kids i 0) entry.1) (get_or kids k 0)) (sym same) (told-set stack flags (get_or kids i 0) entry.1 fits flag)
       by j (inr differ) before fits flag = told-kept stack flags (get_or kids i 0) entry.1 fits flag (get_or kids j 0) (among.told j (omega (arith, before, differ)))
 
   pub among-all : IsLayer (top_layer stack) → directory < length (top_layer stack) → (i : ℕ) (flags : List Bool) → length kids ≤ i → ToldAmong stack kids i old flags → TellsBelow stack directory old flags
@@ -376,15 +377,15 @@ module _ (stack : StackView) (directory : ℕ) (kids : List ℕ) (old : List Boo
         let stands : path_at (top_layer stack) (get_or kids spot.0 0) ≡ path_at (top_layer stack) number =
         kid-stands spot.0 among_kids ∙ (ap (child_path (path_at (top_layer stack) directory)) (spot.2 []) ∙ sym path) in
         let same : get_or kids spot.0 0 ≡ number = one-number (top_layer stack) is.in_order (get_or kids spot.0 0) number (within spot.0 0 among_kids) inside stands in
-        subst (IsTold stack flags) same (among.told spot.0 (omega (arith, among_kids, end)));
+        subst (IsIdleTold stack flags) same (among.told spot.0 (omega (arith, among_kids, end)));
   }
 
 -- of the rows in the directories among the first ones, and of the root, the flags are told
 pub record ToldTo (stack : StackView) (number : ℕ) (flags : List Bool) : Type 0 where
   pub count : length flags ≡ length (top_layer stack)
-  pub root : IsTold stack flags 0
+  pub root : IsIdleTold stack flags 0
   pub told : (row directory : ℕ) (name : PathName) → row < length (top_layer stack) → directory < number
-      → path_at (top_layer stack) row ≡ child_path (path_at (top_layer stack) directory) name → IsTold stack flags row
+      → path_at (top_layer stack) row ≡ child_path (path_at (top_layer stack) directory) name → IsIdleTold stack flags row
 
 module _ (stack : StackView) (is : IsLayer (top_layer stack)) where
   pub told-start : (flags : List Bool) → flags ≡ replicate (length (top_layer stack)) false → ToldTo stack 0 flags
@@ -404,7 +405,7 @@ module _ (stack : StackView) (is : IsLayer (top_layer stack)) where
   }
     where
       by : (row directory : ℕ) (name : PathName) → row < length (top_layer stack) → directory < number + 1 → path_at (top_layer stack) row ≡ child_path (path_at (top_layer stack) directory) name
-          → (directory ≡ number) ⊎ (directory ≡ number → ⊥) → IsTold stack new row
+          → (directory ≡ number) ⊎ (directory ≡ number → ⊥) → IsIdleTold stack new row
       by row directory name inside before path (inl same) = below.told row name inside (path ∙ ap (λ n. child_path (path_at (top_layer stack) n) name) same)
       by row directory name inside before path (inr differ) = below.kept row (to.told row directory name inside (omega (arith, before, differ)) path)
 
@@ -416,7 +417,7 @@ module _ (stack : StackView) (is : IsLayer (top_layer stack)) where
   }
     where
       by : (row directory : ℕ) (name : PathName) → row < length (top_layer stack) → directory < number + 1 → path_at (top_layer stack) row ≡ child_path (path_at (top_layer stack) directory) name
-          → (directory ≡ number) ⊎ (directory ≡ number → ⊥) → IsTold stack flags row
+          → (directory ≡ number) ⊎ (directory ≡ number → ⊥) → IsIdleTold stack flags row
       by row directory name inside before path (inl same) =
           let found = entry-of_row (top_layer stack) row is inside in
           let holds = entry-parent (top_layer stack) (path_at (top_layer stack) directory) name found.0 is (ap (entry_at (top_layer stack)) (sym path) ∙ found.1) in
@@ -426,10 +427,10 @@ module _ (stack : StackView) (is : IsLayer (top_layer stack)) where
   pub told-all : (number : ℕ) (flags : List Bool) → length (top_layer stack) ≤ number → ToldTo stack number flags → flags ≡ idle_flags stack
   told-all number flags end to = flags-same (is_idle_at stack) (top_layer stack) flags to.count (λ row inside. by row inside (last-name (path_at (top_layer stack) row)))
     where
-      by : (row : ℕ) → row < length (top_layer stack) → (path_at (top_layer stack) row ≡ []) ⊎ ((directory : PathNames) × (name : PathName) × (path_at (top_layer stack) row ≡ child_path directory name)) → IsTold stack flags row
+      by : (row : ℕ) → row < length (top_layer stack) → (path_at (top_layer stack) row ≡ []) ⊎ ((directory : PathNames) × (name : PathName) × (path_at (top_layer stack) row ≡ child_path directory name)) → IsIdleTold stack flags row
       by row inside (inl root) =
           let same : 0 ≡ row = one-number (top_layer stack) is.in_order 0 row (some-rows (top_layer stack) is) inside (root-first (top_layer stack) is ∙ sym root) in
-          subst (IsTold stack flags) same to.root
+          subst (IsIdleTold stack flags) same to.root
       by row inside (inr (directory, name, path)) =
           let found = entry-of_row (top_layer stack) row is inside in
           let holds = entry-parent (top_layer stack) directory name found.0 is (ap (entry_at (top_layer stack)) (sym path) ∙ found.1) in
@@ -471,7 +472,7 @@ module _ (stack : StackView) (is : IsLayer (top_layer stack)) (number : ℕ) (in
     where
       by : (entry : Entry) (found : Option PathName) → name_below (path_at (top_layer stack) number) entry.0 ≡ found → (is_none found || is_idle_throughout (top_layer stack) (lower_layers stack) entry.0) ≡ true
       by entry None e = refl
-      by entry (Some name) e = ap (is_idle_throughout top below) (name-path own entry.0 name e) ∙ throughout-child top below is own name goes
+      by entry (Some name) e = ap (is_idle_throughout top below) (below-path own entry.0 name e) ∙ throughout-child top below is own name goes
 
       kids : kids_go (top_layer stack) (lower_layers stack) (path_at (top_layer stack) number) (drop (number + 1) (top_layer stack)) ≡ true
       kids = list_all-from_each (λ entry. is_none (name_below own entry.0) || is_idle_throughout top below entry.0) later (λ i d within. by (get_or later i d) (name_below own (get_or later i d).0) refl)
@@ -627,7 +628,7 @@ module _ (stack : StackView) (is : IsLayer (top_layer stack)) where
           by : (found : Option PathName) → name_below (path_at (top_layer stack) row) (path_at (top_layer stack) (number - 1)) ≡ found → found ≡ None
           by None e = refl
           by (Some name) e =
-              let other : path_at (top_layer stack) last ≡ child_path (path_at (top_layer stack) row) name = name-path (path_at (top_layer stack) row) (path_at (top_layer stack) last) name e in
+              let other : path_at (top_layer stack) last ≡ child_path (path_at (top_layer stack) row) name = below-path (path_at (top_layer stack) row) (path_at (top_layer stack) last) name e in
               let same : path_at (top_layer stack) row ≡ path_at (top_layer stack) directory =
               sym (parent_path-child (path_at (top_layer stack) row) name) ∙ (ap parent_path (sym other ∙ named.1) ∙ parent_path-child (path_at (top_layer stack) directory) named.0) in
               absurd (differ (one-number (top_layer stack) is.in_order row directory within inside same))

@@ -42,8 +42,8 @@ use Rattle.ovl_board.specs.Pieces.{piece_in}
 use Rattle.ovl_board.proofs.LawsOfMembers.{In}
 use Rattle.ovl_vacuum.specs.Vacuum.{may_be_idle, is_idle}
 use Rattle.ovl_vacuum.specs.Directories.{is_idle_at, IdleName, idle_name, TellsIdle}
-use Rattle.ovl_vacuum.specs.declared.directories.Directory.{Directory}
-use Rattle.ovl_vacuum.specs.Visits.{IsVisited, is_metacopy}
+use Rattle.ovl_vacuum.specs.declared.directories.TopDirectory.{TopDirectory}
+use Rattle.ovl_vacuum.specs.Visits.{IsTopDirectory, is_metacopy}
 use Rattle.ovl_vacuum.proofs.DirectoryLemmas.{name-In, path-entry}
 
 -- ---- the topmost layer, and what lies below it at a path
@@ -69,9 +69,9 @@ own-found layer is path None file = file-names layer is path file
 own-found layer is path (Some own) stands = stands
 
 -- a directory is visited as what it is
-pub visited-own : (stack : StackView) (piece : Piece) (directory : Directory) → IsVisited stack piece directory → IsVisited directory.stack.now directory.piece.now directory
+pub visited-own : (stack : StackView) (piece : Piece) (directory : TopDirectory) → IsTopDirectory stack piece directory → IsTopDirectory directory.stack.now directory.piece.now directory
 visited-own stack piece directory is =
-    subst (λ (p : Piece). IsVisited directory.stack.now p directory) (sym is.stands) (subst (λ (s : StackView). IsVisited s piece directory) (sym is.over) is)
+    subst (λ (p : Piece). IsTopDirectory directory.stack.now p directory) (sym is.stands) (subst (λ (s : StackView). IsTopDirectory s piece directory) (sym is.over) is)
 
 -- ---- the rows in a directory, and their names
 
@@ -94,7 +94,7 @@ pub record IsNextRow (layer : Entries) (directory : PathNames) (row i : ℕ) (na
   pub more : take (i + 1) (names_below layer directory) ≡ take i (names_below layer directory) ++ name ∷ []
 
 -- the rows of a directory that is visited, as its sheet has them
-module _ (directory : Directory) (is : IsVisited directory.stack.now directory.piece.now directory)
+module _ (directory : TopDirectory) (is : IsTopDirectory directory.stack.now directory.piece.now directory)
     (sheet : Entries) (same : sheet ≡ top_layer directory.stack.now) (rows : List ℕ)
     (are : map (path_at sheet) rows ≡ map (child_path (path_at sheet directory.row)) (names_below sheet (path_at sheet directory.row))) where
   abbrev top : Entries

@@ -12,23 +12,23 @@ use Rattle.ovl_lookup.specs.Merged.{shows_directory}
 use Rattle.ovl_lookup.specs.DirViews.{IsViewOf}
 use Rattle.ovl_lookup.specs.Words.{top_layer, lower_layers}
 use Rattle.ovl_board.specs.declared.pieces.Piece.{Piece}
-use Rattle.ovl_vacuum.specs.declared.directories.Directory.{Directory}
+use Rattle.ovl_vacuum.specs.declared.directories.TopDirectory.{TopDirectory}
 
 -- the view of the layers below the topmost one at a path; none where they are hidden or show no
 -- directory there
-abbrev pub IsBelow : StackView → PathNames → Bool → Option DirView → Type 0
-IsBelow stack next closed found =
+abbrev pub IsBelowTop : StackView → PathNames → Bool → Option DirView → Type 0
+IsBelowTop stack next closed found =
     MatchOption found ((closed || not (shows_directory (lower_layers stack) next)) ≡ true)
     (λ view. (closed ≡ false) × IsViewOf stack 1 next view)
 
 -- a piece's directory in the topmost layer: its row, and what lies below where its walk goes on
-pub record IsVisited (stack : StackView) (piece : Piece) (directory : Directory) : Type 0 where
+pub record IsTopDirectory (stack : StackView) (piece : Piece) (directory : TopDirectory) : Type 0 where
   pub over : directory.stack.now ≡ stack
   pub stands : directory.piece.now ≡ piece
   pub inside : directory.row < length (top_layer stack)
   pub here : path_at (top_layer stack) directory.row ≡ piece.dir
   pub holds : is_directory_at (top_layer stack) piece.dir ≡ true
-  pub below : IsBelow stack (walk (top_layer stack) piece.dir).next
+  pub below : IsBelowTop stack (walk (top_layer stack) piece.dir).next
       (walk (top_layer stack) piece.dir).closed directory.below
 
 -- a metacopy file's, whatever its redirect says

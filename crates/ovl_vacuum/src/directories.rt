@@ -10,7 +10,7 @@ ghost use Rattle.ovl_lookup.specs.Passes.{IsOwnDirectory};
 ghost use Rattle.ovl_lookup.specs.Words.{top_layer};
 ghost use Rattle.ovl_vacuum.specs.Vacuum.{may_be_idle as idle_mark};
 ghost use Rattle.ovl_vacuum.specs.Directories.{is_idle_at, vacuum_kids, vacuum_out};
-ghost use Rattle.ovl_vacuum.specs.Visits.{IsVisited, IsBelow, is_metacopy as metacopy_mark};
+ghost use Rattle.ovl_vacuum.specs.Visits.{IsTopDirectory, IsBelowTop, is_metacopy as metacopy_mark};
 
 use ovl_board::Piece;
 use ovl_inode::{Inode, Mark, is_directory, visible};
@@ -20,7 +20,7 @@ use std::alloc::{AllocError, Global};
 
 /// A piece's directory in the topmost layer, sought once for all that is in it.
 #[derive(Drop)]
-pub(crate) struct Directory<'a> {
+pub(crate) struct TopDirectory<'a> {
     stack: &'a Stack,
     piece: &'a Piece,
     // The number of its row.
@@ -30,16 +30,16 @@ pub(crate) struct Directory<'a> {
     below: Option<DirView<'a>>,
 }
 
-impl<'a> Directory<'a> {
+impl<'a> TopDirectory<'a> {
     /// The directory that the topmost layer has at a piece's path, and `None` where it has none.
     pub(crate) fn of(
         alloc: Global,
         stack: &'a Stack,
         piece: &'a Piece,
-    ) -> Result<Option<Directory<'a>>, AllocError>
+    ) -> Result<Option<TopDirectory<'a>>, AllocError>
         ensures { IfOk result (λ found. MatchOption found
             (names_below (top_layer stack.now) piece.now.dir ≡ [])
-            (IsVisited stack.now piece.now)) }
+            (IsTopDirectory stack.now piece.now)) }
     {
         let Some(own) = own_directory(alloc, stack, &piece.dir)? else {
             return Ok(None);
@@ -50,7 +50,7 @@ impl<'a> Directory<'a> {
             closed,
         } = own;
         let below = view_below(alloc, stack, &piece.dir, turned, closed)?;
-        Ok(Some(Directory {
+        Ok(Some(TopDirectory {
             stack,
             piece,
             row,
@@ -61,7 +61,7 @@ impl<'a> Directory<'a> {
     /// The pieces of the directories in it, and the names in it, each with whether its entry is
     /// idle.
     pub(crate) fn told(&self, alloc: Global) -> Result<(Vec<Piece>, Vec<(Name, bool)>), AllocError>
-        requires { IsVisited self.now.stack.now self.now.piece.now self.now }
+        requires { IsTopDirectory self.now.stack.now self.now.piece.now self.now }
         ensures kids { IfOk result
             (λ told. told.0.items ≡ vacuum_kids self.now.stack.now self.now.piece.now) }
         ensures names { IfOk result
@@ -74,7 +74,7 @@ impl<'a> Directory<'a> {
 
     // The pieces of the directories in it.
     fn kids(&self, alloc: Global) -> Result<Vec<Piece>, AllocError>
-        requires { IsVisited self.now.stack.now self.now.piece.now self.now }
+        requires { IsTopDirectory self.now.stack.now self.now.piece.now self.now }
         ensures { IfOk result
             (λ kids. kids.items ≡ vacuum_kids self.now.stack.now self.now.piece.now) }
     {
@@ -93,7 +93,7 @@ impl<'a> Directory<'a> {
 
     // The names in it, each with whether its entry is idle.
     fn idle_names(&self, alloc: Global) -> Result<Vec<(Name, bool)>, AllocError>
-        requires { IsVisited self.now.stack.now self.now.piece.now self.now }
+        requires { IsTopDirectory self.now.stack.now self.now.piece.now self.now }
         ensures { IfOk result
             (λ names. names.items ≡ vacuum_out self.now.stack.now self.now.piece.now) }
     {
@@ -119,7 +119,7 @@ impl<'a> Directory<'a> {
         row: u32,
         name: &Name,
     ) -> Result<bool, AllocError>
-        requires visited { IsVisited self.now.stack.now self.now.piece.now self.now }
+        requires visited { IsTopDirectory self.now.stack.now self.now.piece.now self.now }
         requires whole { IfSome whole.old (IsViewOf self.now.stack.now 0 self.now.piece.now.dir) }
         requires inside { row < length (top_layer self.now.stack.now) }
         requires stands { path_at (top_layer self.now.stack.now) row
@@ -171,7 +171,7 @@ fn view_below<'a>(
     turned: Option<Trail<'a>>,
     closed: bool,
 ) -> Result<Option<DirView<'a>>, AllocError>
-    ensures { IfOk result (IsBelow stack.now (unwrap_or turned.entry path.now) closed) }
+    ensures { IfOk result (IsBelowTop stack.now (unwrap_or turned.entry path.now) closed) }
 {
     // A stack has a topmost layer.
     let _top = stack.top();

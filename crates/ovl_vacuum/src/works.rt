@@ -1,7 +1,7 @@
 ghost use Rattle.std.specs.Prelude.{◌≡◌};
 ghost use Rattle.ovl_vacuum.specs.Directories.{TellsIdle};
 
-use crate::directories::Directory;
+use crate::directories::TopDirectory;
 use ovl_board::{Piece, Work};
 use ovl_lookup::Stack;
 use ovl_names::{DEPTH_LIMIT, Name};
@@ -61,7 +61,7 @@ impl<'a> Work for VacuumWork<'a> {
         alloc: Global,
         piece: &Piece,
     ) -> Result<(Vec<Piece>, Vec<(Name, bool)>), AllocError> {
-        let Some(directory) = Directory::of(alloc, self.stack, piece)? else {
+        let Some(directory) = TopDirectory::of(alloc, self.stack, piece)? else {
             return Ok((Vec::new(alloc), Vec::new(alloc)));
         };
         directory.told(alloc)

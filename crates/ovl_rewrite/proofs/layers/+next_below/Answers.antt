@@ -8,14 +8,14 @@ use Rattle.ovl_layer.specs.LayerTrees.{under, entries_from}
 use Rattle.ovl_board.specs.declared.works.Parcel.{Parcel}
 use Rattle.ovl_board.specs.Parcels.{parcel_view, parcel_views}
 use Rattle.ovl_rewrite.specs.Directories.{NamedInode, inodes_seen}
-use Rattle.ovl_rewrite.specs.Passes.{View}
+use Rattle.ovl_rewrite.specs.Passes.{InodesParcel}
 use Rattle.ovl_rewrite.proofs.UnderLemmas.{WalksAmong, walk-ends, stops-among}
 use Rattle.ovl_rewrite.proofs.NextLemmas.{next-walked, next-stops, walks-on, no-layer}
 use Rattle.ovl_rewrite.proofs.layers.+next_below.Goals as goal
 use Rattle.ovl_rewrite.proofs.layers.+next_below.Goals.{then-is_directory+in_ok-below, else-is_directory}
 
 -- what is seen of the parcels that are left
-abbrev views : IntoIter (Parcel (Vec NamedInode Global)) Global → List View
+abbrev views : IntoIter (Parcel (Vec NamedInode Global)) Global → List InodesParcel
 views rest = parcel_views inodes_seen (into_iter_items rest)
 
 pub loop-name-preserved : goal.loop-name-preserved
@@ -62,10 +62,10 @@ returns-in_err-below-clause-limit t c is =
 
 pub returns-clause-entries : goal.returns-clause-entries
 returns-clause-entries t c =
-    let before : List View = parcel_views inodes_seen (into_iter_items c.args.rest.now) in
-    let view : View = parcel_view inodes_seen c.in-Some.field-0 in
-    let later : List View = parcel_views inodes_seen (into_iter_items c.next.new.self) in
-    let after : List View = parcel_views inodes_seen (into_iter_items c.loop-name.rest) in
+    let before : List InodesParcel = parcel_views inodes_seen (into_iter_items c.args.rest.now) in
+    let view : InodesParcel = parcel_view inodes_seen c.in-Some.field-0 in
+    let later : List InodesParcel = parcel_views inodes_seen (into_iter_items c.next.new.self) in
+    let after : List InodesParcel = parcel_views inodes_seen (into_iter_items c.loop-name.rest) in
     let done : List NamedInode = c.loop-name.yielded in
     let left : List NamedInode = into_iter_items c.loop-name.name-iterator in
     let parts : view.seen ≡ done ++ left = sym c.into_iter-name-iterator.ensures.into_iter_gives.0 ∙ c.loop-name.invariant.2 in

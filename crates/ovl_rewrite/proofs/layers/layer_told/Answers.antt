@@ -5,14 +5,14 @@ use Rattle.ovl_layer.specs.Layers.{IsLayer}
 use Rattle.ovl_board.specs.Parcels.{parcel_views}
 use Rattle.ovl_rewrite.specs.declared.faults.RewriteFault.TheVariants.{LimitOut}
 use Rattle.ovl_rewrite.specs.Directories.{inodes_seen}
-use Rattle.ovl_rewrite.specs.Passes.{View, WalksUnder, StopsUnder}
+use Rattle.ovl_rewrite.specs.Passes.{InodesParcel, WalksUnder, StopsUnder}
 use Rattle.ovl_rewrite.specs.NewLayers.{IsOf}
 use Rattle.ovl_rewrite.proofs.LayerLemmas.{told_entries, told-entries, told-whole, told-stops}
 use Rattle.ovl_rewrite.proofs.layers.layer_told.Goals as goal
 
 pub returns-in_err-below-clause-limit : goal.returns-in_err-below-clause-limit
 returns-in_err-below-clause-limit c is new by =
-    let views : List View = parcel_views inodes_seen c.args.parcels.items in
+    let views : List InodesParcel = parcel_views inodes_seen c.args.parcels.items in
     let out = err_from_is_err_and c.from_residual.result c.from_residual.ensures.1 in
     let whole = sym (out.1 ∙ ap Err out.2) ∙ is in
     let told : c.in_err-below.field-0.0 ≡ LimitOut = cc in
@@ -22,8 +22,8 @@ returns-in_err-below-clause-limit c is new by =
 
 pub returns-in_default-clause-limit : goal.returns-in_default-clause-limit
 returns-in_default-clause-limit c is new by =
-    let views : List View = parcel_views inodes_seen c.args.parcels.items in
-    let after : List View = parcel_views inodes_seen (into_iter_items c.next_below.new.rest) in
+    let views : List InodesParcel = parcel_views inodes_seen c.args.parcels.items in
+    let after : List InodesParcel = parcel_views inodes_seen (into_iter_items c.next_below.new.rest) in
     let walks : WalksUnder views after c.in_ok-below.below =
     subst (λ parcels. WalksUnder (parcel_views inodes_seen parcels) after c.in_ok-below.below) c.into_iter-rest.ensures.rest c.in_ok-below.ensures.entries in
     let parts = told-entries c.args.root views new by in
@@ -31,8 +31,8 @@ returns-in_default-clause-limit c is new by =
 
 pub returns-clause-layer : goal.returns-clause-layer
 returns-clause-layer c new by =
-    let views : List View = parcel_views inodes_seen c.args.parcels.items in
-    let after : List View = parcel_views inodes_seen (into_iter_items c.next_below.new.rest) in
+    let views : List InodesParcel = parcel_views inodes_seen c.args.parcels.items in
+    let after : List InodesParcel = parcel_views inodes_seen (into_iter_items c.next_below.new.rest) in
     let walks : WalksUnder views after c.in_ok-below.below =
     subst (λ parcels. WalksUnder (parcel_views inodes_seen parcels) after c.in_ok-below.below) c.into_iter-rest.ensures.rest c.in_ok-below.ensures.entries in
     subst (IsOf new) (sym (c.in-Some.ensures ∙ told-whole c.args.root views new by after c.in_ok-below.below walks)) (told-entries c.args.root views new by).1

@@ -3,16 +3,16 @@ use Rattle.std.specs.Prelude.{MatchOption}
 use Rattle.std.proofs.lemmas.Result.{IfOk-weaker}
 use Rattle.ovl_layer.specs.Layers.{names_below}
 use Rattle.ovl_lookup.specs.Words.{top_layer}
-use Rattle.ovl_vacuum.specs.declared.directories.Directory.{Directory}
+use Rattle.ovl_vacuum.specs.declared.directories.TopDirectory.{TopDirectory}
 use Rattle.ovl_vacuum.specs.Directories.{vacuum_kids, vacuum_out}
-use Rattle.ovl_vacuum.specs.Visits.{IsVisited}
+use Rattle.ovl_vacuum.specs.Visits.{IsTopDirectory}
 use Rattle.ovl_vacuum.proofs.VisitLemmas.{visited-own}
 use Rattle.ovl_vacuum.proofs.works.VacuumWorkWork.visit.Goals as goal
 use Rattle.ovl_vacuum.proofs.works.VacuumWorkWork.visit.Goals.{In-Some}
 
-visited : (c : In-Some) → IsVisited c.self.inside.stack.now c.args.piece.now c.in-Some.directory
+visited : (c : In-Some) → IsTopDirectory c.self.inside.stack.now c.args.piece.now c.in-Some.directory
 visited c =
-    subst (λ (found : Option Directory). MatchOption found (names_below (top_layer c.self.inside.stack.now) c.args.piece.now.dir ≡ []) (IsVisited c.self.inside.stack.now c.args.piece.now))
+    subst (λ (found : Option TopDirectory). MatchOption found (names_below (top_layer c.self.inside.stack.now) c.args.piece.now.dir ≡ []) (IsTopDirectory c.self.inside.stack.now c.args.piece.now))
     c.in-Some.is c.in_ok-directory.ensures
 
 pub told-requires : goal.told-requires

@@ -4,7 +4,7 @@ use Rattle.ovl_names.specs.Paths.{child_path}
 use Rattle.ovl_layer.specs.Layers.{is_directory_at, names_below}
 use Rattle.ovl_lookup.specs.Words.{top_layer}
 use Rattle.ovl_board.specs.Pieces.{piece_in}
-use Rattle.ovl_vacuum.proofs.directories.Directory.kids.Given as goal
+use Rattle.ovl_vacuum.proofs.directories.TopDirectory.kids.Given as goal
 
 -- those of the rows so far
 abbrev pub invariant-loop-row : goal.invariant-loop-row

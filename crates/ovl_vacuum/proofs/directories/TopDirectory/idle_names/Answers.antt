@@ -9,8 +9,8 @@ use Rattle.ovl_lookup.specs.DirViews.{IsViewOf}
 use Rattle.ovl_lookup.specs.Words.{top_layer}
 use Rattle.ovl_vacuum.specs.Directories.{IdleName, idle_name}
 use Rattle.ovl_vacuum.proofs.VisitLemmas.{next-row, never-unnamed}
-use Rattle.ovl_vacuum.proofs.directories.Directory.idle_names.Goals as goal
-use Rattle.ovl_vacuum.proofs.directories.Directory.idle_names.Goals.{in-Some+in_ok-idle+in_ok-copy+in_ok-push, in_default}
+use Rattle.ovl_vacuum.proofs.directories.TopDirectory.idle_names.Goals as goal
+use Rattle.ovl_vacuum.proofs.directories.TopDirectory.idle_names.Goals.{in-Some+in_ok-idle+in_ok-copy+in_ok-push, in_default}
 
 pub is_idle-requires-clause-stands : goal.is_idle-requires-clause-stands
 is_idle-requires-clause-stands c =

@@ -4,7 +4,7 @@ use Rattle.ovl_layer.specs.Layers.{names_below}
 use Rattle.ovl_lookup.specs.DirViews.{IsViewOf}
 use Rattle.ovl_lookup.specs.Words.{top_layer}
 use Rattle.ovl_vacuum.specs.Directories.{idle_name}
-use Rattle.ovl_vacuum.proofs.directories.Directory.idle_names.Given as goal
+use Rattle.ovl_vacuum.proofs.directories.TopDirectory.idle_names.Given as goal
 
 -- those of the rows so far
 abbrev pub invariant-loop-row : goal.invariant-loop-row

@@ -15,9 +15,9 @@ use Rattle.ovl_lookup.specs.Words.{top_layer, lower_layers}
 use Rattle.ovl_lookup.proofs.LawsOfLooks.{top-layer}
 use Rattle.ovl_lookup.proofs.LawsOfWalks.{entry-of_row}
 use Rattle.ovl_vacuum.specs.Vacuum.{may_be_idle}
-use Rattle.ovl_vacuum.specs.Visits.{IsBelow, is_metacopy}
+use Rattle.ovl_vacuum.specs.Visits.{IsBelowTop, is_metacopy}
 use Rattle.ovl_vacuum.proofs.VisitLemmas.{row-inode, row-mark, hidden-busy, compared, shown-plain}
-use Rattle.ovl_vacuum.proofs.directories.Directory.is_idle.Goals as goal
+use Rattle.ovl_vacuum.proofs.directories.TopDirectory.is_idle.Goals as goal
 
 pub returns-in_default-clause-idle : goal.returns-in_default-clause-idle
 returns-in_default-clause-idle c =
@@ -28,7 +28,7 @@ returns-in_default-clause-idle c =
     let each = c.top-sheet.ensures.each in
     let some = c.top-sheet.ensures.some in
     let found = entry-of_row top c.args.row (top-layer stack some each) c.requires.inside in
-    let hidden = subst (IsBelow stack (walk top path).next (walk top path).closed) c.in_default.is c.requires.visited.below in
+    let hidden = subst (IsBelowTop stack (walk top path).next (walk top path).closed) c.in_default.is c.requires.visited.below in
     sym (hidden-busy stack each some path name found.0 (row-inode top (top-layer stack some each) c.args.row c.requires.inside (child_path path name) c.requires.stands top refl found.0 found.1) hidden)
 
 pub returns-then-not-is_metacopy-clause-idle : goal.returns-then-not-is_metacopy-clause-idle
@@ -47,7 +47,7 @@ returns-then-not-is_metacopy-clause-idle c =
     let row = row-mark top is c.args.row c.requires.inside (child_path path name) c.requires.stands sheet same c.mark-mark.result.now c.mark-mark.ensures in
     let plain : may_be_idle (mark_of row.0) ≡ true = ap may_be_idle (sym row.2) ∙ (sym c.may_be_idle.ensures ∙ c.if-not-may_be_idle.false) in
     let full : is_metacopy (mark_of row.0) ≡ false = ap is_metacopy (sym row.2) ∙ (sym c.is_metacopy.ensures ∙ c.if-not-is_metacopy.true) in
-    let below = subst (IsBelow stack (walk top path).next (walk top path).closed) c.in-Some.is c.requires.visited.below in
+    let below = subst (IsBelowTop stack (walk top path).next (walk top path).closed) c.in-Some.is c.requires.visited.below in
     let one : Some inode ≡ Some row.0 = sym here ∙ row.1 in
     let looked : c.in_ok-look.look ≡ look (lower_layers stack) (child_path (walk top path).next name) =
     c.in_ok-look.ensures ∙ (λ j. look (from_layer (below.1.starts j) stack) (child_path (below.1.stands j) name)) in
@@ -68,7 +68,7 @@ returns-clause-idle c =
     let same = c.top-sheet.ensures.value in
     let row = row-mark top (top-layer stack some each) c.args.row c.requires.inside (child_path path name) c.requires.stands sheet same c.mark-mark.result.now c.mark-mark.ensures in
     let plain : may_be_idle (mark_of row.0) ≡ true = ap may_be_idle (sym row.2) ∙ (sym c.may_be_idle.ensures ∙ c.if-not-may_be_idle.false) in
-    let below = subst (IsBelow stack (walk top path).next (walk top path).closed) c.in-Some.is c.requires.visited.below in
+    let below = subst (IsBelowTop stack (walk top path).next (walk top path).closed) c.in-Some.is c.requires.visited.below in
     let looked : c.in_ok-lower.lower ≡ look (lower_layers stack) (child_path (walk top path).next name) =
     c.in_ok-lower.ensures ∙ (λ j. look (from_layer (below.1.starts j) stack) (child_path (below.1.stands j) name)) in
     c.eq.ensures ∙ compared stack each some path name row.0 row.1 c.in_ok-lower.lower c.in_ok-shown.shown looked c.in_ok-shown.ensures.look below.0 plain

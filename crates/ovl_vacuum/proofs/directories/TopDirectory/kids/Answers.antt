@@ -9,8 +9,8 @@ use Rattle.ovl_lookup.proofs.LawsOfLooks.{top-layer}
 use Rattle.ovl_board.specs.declared.pieces.Piece.{Piece}
 use Rattle.ovl_board.specs.Pieces.{piece_in}
 use Rattle.ovl_vacuum.proofs.VisitLemmas.{next-row, never-unnamed, names-all, row-directory, kids-more, kids-same}
-use Rattle.ovl_vacuum.proofs.directories.Directory.kids.Goals as goal
-use Rattle.ovl_vacuum.proofs.directories.Directory.kids.Goals.{in-Some+then-is_directory+in_ok-child+in_ok-push, in-Some+else-is_directory, in_default}
+use Rattle.ovl_vacuum.proofs.directories.TopDirectory.kids.Goals as goal
+use Rattle.ovl_vacuum.proofs.directories.TopDirectory.kids.Goals.{in-Some+then-is_directory+in_ok-child+in_ok-push, in-Some+else-is_directory, in_default}
 
 pub loop-row-preserved : goal.loop-row-preserved
 loop-row-preserved c =
