@@ -25,7 +25,7 @@ from telling import as_time, fail, say, so_far
 _ROOT = Path(__file__).resolve().parents[1]
 _BUILT = _ROOT / "crates" / PROGRAM / "out" / PROGRAM
 _SMALLEST = _ROOT / "examples" / "root.json"
-_MEMORY = 2_000_000_000  # bytes that a proof takes, or a job of one, some
+_MEMORY = 3_000_000_000  # bytes that a proof takes, or a job of one, some
 _JOBS = 4  # of which a proof gains
 _BESIDE = 10  # how much nicer a proof is that isn't of the longest chain
 _LOOK = 0.1  # seconds

@@ -194,7 +194,7 @@ class Build(Making):
 
     def test_little_memory(self) -> None:
         file = Path(self.path("launch", "prove.py"))
-        file.write_text(file.read_text(encoding="utf-8").replace("2_000_000_000", str(1 << 60)), encoding="utf-8")
+        file.write_text(file.read_text(encoding="utf-8").replace("3_000_000_000", str(1 << 60)), encoding="utf-8")
         self.put("hold-left")
         launcher = self.start("show")
         self.wait_for("left")
