@@ -3,9 +3,10 @@ use Rattle.std.specs.Prelude.{◌≡◌, ℕ, List, [], ◌∷◌, codes, Some, 
 use Rattle.ovl_inode.specs.declared.inodes.Inode.{Inode}
 use Rattle.ovl_inode.specs.declared.inodes.Kind.TheVariants.{Dir, File}
 use Rattle.ovl_inode.specs.Attributes.{Attributes, opaque_name, redirect_name, metacopy_name, impure_name, origin_name}
+use Rattle.ovl_inode.specs.Inodes.{plain_inode}
 use Rattle.ovl_inode.proofs.OnLiterals.{inode_on_literals}
 use Rattle.ovl_lookup.specs.Stacks.{StackView}
-use Rattle.ovl_lookup.proofs.Notation.{plain_inode, directory, marked_x, opaque, moved, digest_a, file_a, metacopy, metacopy_moved, whiteout, empty_whiteout, full_whiteout, path, layer_of}
+use Rattle.ovl_lookup.proofs.Notation.{directory, marked_x, opaque, moved, digest_a, file_a, metacopy, metacopy_moved, whiteout, empty_whiteout, full_whiteout, path, layer_of}
 use Rattle.ovl_lookup.proofs.RowStacks.{stack_of, root_alone, covered, one_over, moved_twice, moved_twice_shown, opaque_with_redirect, metacopies_over}
 use Rattle.ovl_check.specs.declared.findings.Code.{Code}
 use Rattle.ovl_check.specs.declared.findings.Finding.{Finding}

@@ -3,11 +3,12 @@ use Rattle.std.specs.Prelude.{◌≡◌, [], ◌∷◌, codes, Some, refl}
 use Rattle.std.specs.Option.{option_map}
 use Rattle.std.specs.List.{cons_option}
 use Rattle.ovl_inode.specs.declared.inodes.Kind.TheVariants.{Symlink, Char}
+use Rattle.ovl_inode.specs.Inodes.{plain_inode}
 use Rattle.ovl_inode.proofs.OnLiterals.{inode_on_literals}
 use Rattle.ovl_layer.specs.Layers.{Entries}
 use Rattle.ovl_lookup.specs.Stacks.{StackView}
 use Rattle.ovl_lookup.specs.ShownInodes.{shown_inodes}
-use Rattle.ovl_lookup.proofs.Notation.{plain_inode, directory, opaque, file_a, path, layer_of}
+use Rattle.ovl_lookup.proofs.Notation.{directory, opaque, file_a, path, layer_of}
 use Rattle.ovl_lookup.proofs.RowStacks.{stack_of, root_alone, covered, moved_twice, moved_in_opaque, metacopies_over, told_below}
 use Rattle.ovl_rewrite.specs.Passes.{entries_under}
 use Rattle.ovl_flatten.specs.Flatten.{flattened_at}

@@ -14,19 +14,16 @@ use Rattle.ovl_inode.specs.declared.marks.Redirect.TheVariants.{To, Beside}
 use Rattle.ovl_inode.specs.declared.marks.RedirectFault.TheVariants.{Empty, Text, Slash, Part}
 use Rattle.ovl_inode.specs.Attributes.{Attributes, attribute, with_attribute, attribute_fault, attribute_refusal, has_escaped_name, overlay_prefix, escape_prefix, opaque_name, redirect_name, metacopy_name, whiteout_name}
 use Rattle.ovl_inode.specs.Hexadecimal.{digest_of_text, digest_fault, bytes_of_digits}
-use Rattle.ovl_inode.specs.Inodes.{visible}
+use Rattle.ovl_inode.specs.Inodes.{plain_inode, visible}
 use Rattle.ovl_inode.specs.Marks.{mark_of, is_whiteout, is_metacopy}
 use Rattle.ovl_inode.specs.Redirects.{redirect_fault, read_redirect}
 use Rattle.ovl_inode.specs.Sound.{is_sound_inode}
 use Rattle.ovl_inode.proofs.OnLiterals.{inode_on_literals}
 
--- ---- inodes of owner 0 and time 0
-
-abbrev node : Kind → ℕ → Attributes → Inode
-node kind mode attrs = record { kind = kind; mode = mode; uid = 0; gid = 0; mtime = pos 0; nsec = 0; attrs = attrs }
+-- ---- plain inodes
 
 abbrev directory : Attributes → Inode
-directory attrs = node Dir 0o755 attrs
+directory attrs = plain_inode Dir 0o755 attrs
 
 abbrev opaque : Inode
 opaque = directory ((opaque_name, codes "y") ∷ [])
@@ -35,13 +32,13 @@ abbrev moved : List ℕ → Inode
 moved value = directory ((redirect_name, value) ∷ [])
 
 abbrev file : ℕ → Option Digest → Attributes → Inode
-file size blob attrs = node (File size blob) 0o644 attrs
+file size blob attrs = plain_inode (File size blob) 0o644 attrs
 
 abbrev metacopy : ℕ → Inode
 metacopy size = file size None ((metacopy_name, []) ∷ [])
 
 abbrev whiteout : Inode
-whiteout = node (Char 0 0) 0 []
+whiteout = plain_inode (Char 0 0) 0 []
 
 -- the SHA-256 digest of the one byte `a`, in digits and in bytes
 abbrev digits_a : List ℕ
@@ -56,15 +53,15 @@ char_0_0 : mark_of whiteout ≡ Whiteout
 unfolding inode_on_literals
 char_0_0 = refl
 
-char_0_1 : mark_of (node (Char 0 1) 0o600 []) ≡ Leaf
+char_0_1 : mark_of (plain_inode (Char 0 1) 0o600 []) ≡ Leaf
 unfolding inode_on_literals
 char_0_1 = refl
 
-char_1_0 : mark_of (node (Char 1 0) 0o600 []) ≡ Leaf
+char_1_0 : mark_of (plain_inode (Char 1 0) 0o600 []) ≡ Leaf
 unfolding inode_on_literals
 char_1_0 = refl
 
-block_0_0 : mark_of (node (Block 0 0) 0 []) ≡ Leaf
+block_0_0 : mark_of (plain_inode (Block 0 0) 0 []) ≡ Leaf
 unfolding inode_on_literals
 block_0_0 = refl
 
@@ -92,7 +89,7 @@ directory_with_whiteout : mark_of (directory ((whiteout_name, codes "y") ∷ [])
 unfolding inode_on_literals
 directory_with_whiteout = refl
 
-symlink_with_whiteout : mark_of (node (Symlink (codes "a")) 0o777 ((whiteout_name, codes "y") ∷ [])) ≡ Leaf
+symlink_with_whiteout : mark_of (plain_inode (Symlink (codes "a")) 0o777 ((whiteout_name, codes "y") ∷ [])) ≡ Leaf
 unfolding inode_on_literals
 symlink_with_whiteout = refl
 
@@ -220,15 +217,15 @@ contents_with_opaque : mark_of (file 1 (Some digest_a) ((opaque_name, codes "y")
 unfolding inode_on_literals
 contents_with_opaque = refl
 
-symlink : mark_of (node (Symlink (codes "a b")) 0o777 ((codes "user.k", 1 ∷ []) ∷ [])) ≡ Leaf
+symlink : mark_of (plain_inode (Symlink (codes "a b")) 0o777 ((codes "user.k", 1 ∷ []) ∷ [])) ≡ Leaf
 unfolding inode_on_literals
 symlink = refl
 
-symlink_with_metacopy : mark_of (node (Symlink (codes "a")) 0o777 ((metacopy_name, []) ∷ [])) ≡ Leaf
+symlink_with_metacopy : mark_of (plain_inode (Symlink (codes "a")) 0o777 ((metacopy_name, []) ∷ [])) ≡ Leaf
 unfolding inode_on_literals
 symlink_with_metacopy = refl
 
-fifo_and_socket : (mark_of (node Fifo 0o644 []) ≡ Leaf) × (mark_of (node Socket 0o644 []) ≡ Leaf)
+fifo_and_socket : (mark_of (plain_inode Fifo 0o644 []) ≡ Leaf) × (mark_of (plain_inode Socket 0o644 []) ≡ Leaf)
 unfolding inode_on_literals
 fifo_and_socket = (refl, refl)
 
@@ -394,23 +391,23 @@ sound_file : is_sound_inode (file 1 (Some digest_a) []) ≡ true
 unfolding inode_on_literals
 sound_file = refl
 
-sound_symlink : is_sound_inode (node (Symlink (codes "a b")) 0o777 ((codes "user.k", 1 ∷ []) ∷ [])) ≡ true
+sound_symlink : is_sound_inode (plain_inode (Symlink (codes "a b")) 0o777 ((codes "user.k", 1 ∷ []) ∷ [])) ≡ true
 unfolding inode_on_literals
 sound_symlink = refl
 
-sound_char : is_sound_inode (node (Char (2 ^ 32 - 1) (2 ^ 32 - 1)) 0o600 []) ≡ true
+sound_char : is_sound_inode (plain_inode (Char (2 ^ 32 - 1) (2 ^ 32 - 1)) 0o600 []) ≡ true
 unfolding inode_on_literals
 sound_char = refl
 
-sound_block : is_sound_inode (node (Block (2 ^ 32 - 1) (2 ^ 32 - 1)) 0o600 []) ≡ true
+sound_block : is_sound_inode (plain_inode (Block (2 ^ 32 - 1) (2 ^ 32 - 1)) 0o600 []) ≡ true
 unfolding inode_on_literals
 sound_block = refl
 
-sound_fifo : is_sound_inode (node Fifo 0o644 []) ≡ true
+sound_fifo : is_sound_inode (plain_inode Fifo 0o644 []) ≡ true
 unfolding inode_on_literals
 sound_fifo = refl
 
-sound_socket : is_sound_inode (node Socket 0o644 []) ≡ true
+sound_socket : is_sound_inode (plain_inode Socket 0o644 []) ≡ true
 unfolding inode_on_literals
 sound_socket = refl
 
@@ -426,7 +423,7 @@ largest_file : is_sound_inode (file (2 ^ 63 - 1) (Some digest_a) []) ≡ true
 unfolding inode_on_literals
 largest_file = refl
 
-longest_target : is_sound_inode (node (Symlink (replicate 4095 97)) 0o777 []) ≡ true
+longest_target : is_sound_inode (plain_inode (Symlink (replicate 4095 97)) 0o777 []) ≡ true
 unfolding inode_on_literals
 longest_target = refl
 
@@ -480,27 +477,27 @@ digest_of_numbers_past_a_byte : is_sound_inode (file 1 (Some (replicate 32 256))
 unfolding inode_on_literals
 digest_of_numbers_past_a_byte = refl
 
-target_of_no_bytes : is_sound_inode (node (Symlink []) 0o777 []) ≡ false
+target_of_no_bytes : is_sound_inode (plain_inode (Symlink []) 0o777 []) ≡ false
 unfolding inode_on_literals
 target_of_no_bytes = refl
 
-target_with_NUL : is_sound_inode (node (Symlink (97 ∷ 0 ∷ [])) 0o777 []) ≡ false
+target_with_NUL : is_sound_inode (plain_inode (Symlink (97 ∷ 0 ∷ [])) 0o777 []) ≡ false
 unfolding inode_on_literals
 target_with_NUL = refl
 
-target_of_4096_bytes : is_sound_inode (node (Symlink (replicate 4096 97)) 0o777 []) ≡ false
+target_of_4096_bytes : is_sound_inode (plain_inode (Symlink (replicate 4096 97)) 0o777 []) ≡ false
 unfolding inode_on_literals
 target_of_4096_bytes = refl
 
-target_of_no_text : is_sound_inode (node (Symlink (0xff ∷ [])) 0o777 []) ≡ false
+target_of_no_text : is_sound_inode (plain_inode (Symlink (0xff ∷ [])) 0o777 []) ≡ false
 unfolding inode_on_literals
 target_of_no_text = refl
 
-major_past_32_bits : is_sound_inode (node (Char (2 ^ 32) 0) 0o600 []) ≡ false
+major_past_32_bits : is_sound_inode (plain_inode (Char (2 ^ 32) 0) 0o600 []) ≡ false
 unfolding inode_on_literals
 major_past_32_bits = refl
 
-minor_past_32_bits : is_sound_inode (node (Block 0 (2 ^ 32)) 0o600 []) ≡ false
+minor_past_32_bits : is_sound_inode (plain_inode (Block 0 (2 ^ 32)) 0o600 []) ≡ false
 unfolding inode_on_literals
 minor_past_32_bits = refl
 

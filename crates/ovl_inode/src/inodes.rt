@@ -5,7 +5,7 @@ ghost use Rattle.std.specs.Str.{bytes_eq};
 ghost use Rattle.ovl_inode.specs.Sound.{is_sound_inode, is_sound_kind, has_sound_blob, is_target};
 ghost use Rattle.ovl_inode.specs.Kinds.{kind_word, size_of};
 ghost use Rattle.ovl_inode.specs.Kinds as kinds;
-ghost use Rattle.ovl_inode.specs.Inodes.{inode_with};
+ghost use Rattle.ovl_inode.specs.Inodes.{plain_inode, inode_with};
 ghost use Rattle.ovl_inode.specs.Inodes as inodes;
 ghost use Rattle.ovl_inode.specs.Equal.{kind_eq, inode_eq};
 ghost use Rattle.ovl_inode.specs.EqualLaws.{kind_eq_equiv, inode_eq_equiv};
@@ -206,6 +206,21 @@ pub struct Inode {
 }
 
 impl Inode {
+    /// The inode of this kind, mode and attributes; its owner, its group and its time are 0.
+    pub fn plain(kind: Kind, mode: u16, attrs: Attrs) -> Inode
+        ensures { result ≡ plain_inode kind mode attrs }
+    {
+        Inode {
+            kind,
+            mode,
+            uid: 0,
+            gid: 0,
+            mtime: 0,
+            nsec: 0,
+            attrs,
+        }
+    }
+
     /// An inode equal to this one; fails only when out of memory.
     pub fn copy(&self, alloc: Global) -> Result<Inode, AllocError>
         ensures { IfOk result (λ inode. inode ≡ self.now) }

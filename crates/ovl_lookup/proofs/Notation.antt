@@ -1,15 +1,11 @@
 -- A short notation for the layers of worked examples: each with a root of mode 0755 without attributes.
-use Rattle.std.specs.Prelude.{ℕ, pos, List, [], ◌∷◌, Some, None, codes}
+use Rattle.std.specs.Prelude.{ℕ, List, [], ◌∷◌, Some, None, codes}
 use Rattle.ovl_inode.specs.declared.inodes.Inode.{Inode}
-use Rattle.ovl_inode.specs.declared.inodes.Kind.{Kind}
 use Rattle.ovl_inode.specs.declared.inodes.Kind.TheVariants.{Dir, File, Char}
-use Rattle.ovl_inode.specs.Attributes.{Attributes, opaque_name, redirect_name, metacopy_name, whiteout_name}
+use Rattle.ovl_inode.specs.Attributes.{opaque_name, redirect_name, metacopy_name, whiteout_name}
+use Rattle.ovl_inode.specs.Inodes.{plain_inode}
 use Rattle.ovl_names.specs.Paths.{PathNames, text_parts}
 use Rattle.ovl_layer.specs.Layers.{Entries}
-
--- an inode of this kind, mode and attributes; the rest is 0
-abbrev pub plain_inode : Kind → ℕ → Attributes → Inode
-plain_inode kind mode attrs = record { kind = kind; mode = mode; uid = 0; gid = 0; mtime = pos 0; nsec = 0; attrs = attrs }
 
 -- the SHA-256 digest of the text `a`
 abbrev pub digest_a : List ℕ

@@ -2,9 +2,10 @@
 use Rattle.std.specs.Prelude.{ℕ, List, [], ◌∷◌, codes}
 use Rattle.ovl_inode.specs.declared.inodes.Inode.{Inode}
 use Rattle.ovl_inode.specs.declared.inodes.Kind.TheVariants.{Symlink, Char}
+use Rattle.ovl_inode.specs.Inodes.{plain_inode}
 use Rattle.ovl_layer.specs.Layers.{Entries}
 use Rattle.ovl_lookup.specs.Stacks.{StackView}
-use Rattle.ovl_lookup.proofs.Notation.{plain_inode, directory, opaque, moved, opaque_moved, file_a, metacopy, metacopy_moved, whiteout, path, layer_of}
+use Rattle.ovl_lookup.proofs.Notation.{directory, opaque, moved, opaque_moved, file_a, metacopy, metacopy_moved, whiteout, path, layer_of}
 
 abbrev pub stack_of : List Entries → StackView
 stack_of layers = record { layers = layers; data_only = [] }

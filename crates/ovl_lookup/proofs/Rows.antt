@@ -2,13 +2,14 @@
 use Rattle.std.specs.Prelude.{◌≡◌, ℕ, true, false, List, [], ◌∷◌, codes, None, refl, map}
 use Rattle.ovl_names.specs.Paths.{PathNames}
 use Rattle.ovl_inode.specs.declared.inodes.Kind.TheVariants.{File, Symlink, Char}
+use Rattle.ovl_inode.specs.Inodes.{plain_inode}
 use Rattle.ovl_inode.proofs.OnLiterals.{inode_on_literals}
 use Rattle.ovl_lookup.specs.declared.looks.Look.TheVariants.{Nothing, Shown, Broken}
 use Rattle.ovl_lookup.specs.Walk.{walk, nothing_found, found_at_end, natural_path}
 use Rattle.ovl_lookup.specs.Stacks.{StackView, from_layer}
 use Rattle.ovl_lookup.specs.Merged.{look}
 use Rattle.ovl_lookup.specs.Passes.{kids_along, looks_from}
-use Rattle.ovl_lookup.proofs.Notation.{plain_inode, directory, marked_x, opaque, moved, file_a, metacopy, metacopy_moved, layer_of, whiteout, empty_whiteout, full_whiteout, path}
+use Rattle.ovl_lookup.proofs.Notation.{directory, marked_x, opaque, moved, file_a, metacopy, metacopy_moved, layer_of, whiteout, empty_whiteout, full_whiteout, path}
 use Rattle.ovl_lookup.proofs.RowStacks.{root_alone, covered, one_over, directory_over, moved_twice, moved_twice_shown, top_of_moved_in_opaque, moved_in_opaque, opaque_with_redirect, metacopies_over, redirects, told_below, told_past_whiteout, told_over}
 
 -- the paths at which the stack shows something, at most so deep

@@ -1,10 +1,11 @@
 -- Worked examples of manifests, by computation.
-use Rattle.std.specs.Prelude.{◌≡◌, ℕ, pos, Bool, true, false, Some, None, Result, Ok, Err, List, [], ◌∷◌, ◌++◌, codes, replicate, take, length, refl}
+use Rattle.std.specs.Prelude.{◌≡◌, ℕ, Bool, true, false, Some, None, Result, Ok, Err, List, [], ◌∷◌, ◌++◌, codes, replicate, take, length, refl}
 use Rattle.std.specs.List.{list_all, range_with_len}
 use Rattle.serde_json.proofs.OnLiterals.{serde_json_on_literals}
 use Rattle.ovl_inode.proofs.OnLiterals.{inode_on_literals}
 use Rattle.ovl_inode.specs.declared.inodes.Inode.{Inode}
 use Rattle.ovl_inode.specs.declared.inodes.Kind.TheVariants.{Dir}
+use Rattle.ovl_inode.specs.Inodes.{plain_inode}
 use Rattle.ovl_layer.specs.Layers.{Entries}
 use Rattle.ovl_layer.specs.declared.faults.LayerFault.{LayerFault}
 use Rattle.ovl_layer.specs.declared.faults.LayerFault.TheVariants.{NotJson, Shape, Version, Count, Entry, Order, NoParent, Root, Escaped}
@@ -14,7 +15,7 @@ use Rattle.ovl_manifest.specs.Manifest.{read_layer}
 use Rattle.ovl_manifest.specs.declared.versions.Version.TheVariants.{One, Two}
 
 abbrev dir : Inode
-dir = record { kind = Dir; mode = 493; uid = 0; gid = 0; mtime = pos 0; nsec = 0; attrs = [] }
+dir = plain_inode Dir 493 []
 
 one : read_layer (codes "{\"entries\":[{\"gid\":0,\"kind\":\"dir\",\"mode\":493,\"mtime\":0,\"path\":\"/\",\"uid\":0,\"xattrs\":{}}],\"overlay-layer\":1}") ≡ Ok (([], dir) ∷ [])
 unfolding serde_json_on_literals inode_on_literals

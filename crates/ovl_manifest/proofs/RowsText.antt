@@ -1,5 +1,5 @@
 -- Worked examples of what is written, by computation.
-use Rattle.std.specs.Prelude.{◌≡◌, pos, negsuc, [], ◌∷◌, codes, Ok, refl, length}
+use Rattle.std.specs.Prelude.{◌≡◌, negsuc, [], ◌∷◌, codes, Ok, refl, length}
 use Rattle.std.specs.Fmt.{digits}
 use Rattle.hex.specs.Hex.{encode_with}
 use Rattle.serde_json.specs.Written.{compact_text}
@@ -7,13 +7,14 @@ use Rattle.serde_json.proofs.OnLiterals.{serde_json_on_literals}
 use Rattle.ovl_inode.proofs.OnLiterals.{inode_on_literals}
 use Rattle.ovl_inode.specs.declared.inodes.Inode.{Inode}
 use Rattle.ovl_inode.specs.declared.inodes.Kind.TheVariants.{Dir, Symlink, Char}
+use Rattle.ovl_inode.specs.Inodes.{plain_inode}
 use Rattle.ovl_layer.specs.Layers.{Entries}
 use Rattle.ovl_manifest.specs.Manifest.{read_layer}
 use Rattle.ovl_manifest.specs.Text.{layer_value, manifest_text}
 use Rattle.ovl_manifest.specs.declared.versions.Version.TheVariants.{One}
 
 abbrev dir : Inode
-dir = record { kind = Dir; mode = 493; uid = 0; gid = 0; mtime = pos 0; nsec = 0; attrs = [] }
+dir = plain_inode Dir 493 []
 
 -- a root alone: a line of 122 bytes
 alone : manifest_text (([], dir) ∷ []) ≡ codes "{\"entries\":[{\"gid\":0,\"kind\":\"dir\",\"mode\":493,\"mtime\":0,\"mtime-nsec\":0,\"path\":\"/\",\"uid\":0,\"xattrs\":{}}],\"overlay-layer\":2}\n"
@@ -37,9 +38,9 @@ alone-first-length = refl
 abbrev small : Entries
 small =
     ([], dir)
-    ∷ (codes "d" ∷ [], record { kind = Dir; mode = 493; uid = 7; gid = 0; mtime = negsuc 4; nsec = 999999999; attrs = (codes "trusted.overlay.opaque", codes "y") ∷ (codes "user.k", 1 ∷ []) ∷ [] })
-    ∷ (codes "d" ∷ codes "s" ∷ [], record { kind = Symlink (codes "a b"); mode = 511; uid = 0; gid = 0; mtime = pos 0; nsec = 7; attrs = [] })
-    ∷ (codes "d" ∷ codes "t" ∷ [], record { kind = Char 1 3; mode = 438; uid = 0; gid = 0; mtime = pos 0; nsec = 0; attrs = [] })
+    ∷ (codes "d" ∷ [], record (plain_inode Dir 493 ((codes "trusted.overlay.opaque", codes "y") ∷ (codes "user.k", 1 ∷ []) ∷ [])) { uid = 7; mtime = negsuc 4; nsec = 999999999 })
+    ∷ (codes "d" ∷ codes "s" ∷ [], record (plain_inode (Symlink (codes "a b")) 511 []) { nsec = 7 })
+    ∷ (codes "d" ∷ codes "t" ∷ [], plain_inode (Char 1 3) 438 [])
     ∷ []
 
 back : read_layer (manifest_text small) ≡ Ok small

@@ -1,5 +1,5 @@
 -- The layers that a merge makes: what they have at each path.
-use Rattle.std.specs.Prelude.{◌≡◌, ℕ, pos, Bool, ◌&&◌, not, Option, Some, None, List, [], if◌then◌else◌, codes, is_some}
+use Rattle.std.specs.Prelude.{◌≡◌, ℕ, Bool, ◌&&◌, not, Option, Some, None, List, [], if◌then◌else◌, codes, is_some}
 use Rattle.std.specs.Option.{option_map}
 use Rattle.std.specs.List.{cons_option}
 use Rattle.ovl_names.specs.Names.{PathName}
@@ -8,7 +8,7 @@ use Rattle.ovl_inode.specs.declared.inodes.Inode.{Inode}
 use Rattle.ovl_inode.specs.declared.inodes.Kind.TheVariants.{Char}
 use Rattle.ovl_inode.specs.Attributes.{with_attribute, opaque_name, redirect_name, metacopy_name}
 use Rattle.ovl_inode.specs.Marks.{is_directory, is_metacopy}
-use Rattle.ovl_inode.specs.Inodes.{visible}
+use Rattle.ovl_inode.specs.Inodes.{plain_inode, visible}
 use Rattle.ovl_layer.specs.Layers.{Entries, entry_at}
 use Rattle.ovl_lookup.specs.declared.looks.Look.{Look}
 use Rattle.ovl_lookup.specs.declared.looks.Look.TheVariants.{Nothing, Shown, Broken}
@@ -82,15 +82,7 @@ merged_inode m path inode =
 
 -- a whiteout as a merge writes it; overlayfs.rst, "whiteouts and opaque directories"
 abbrev pub new_whiteout : Inode
-new_whiteout = record {
-  kind = Char 0 0;
-  mode = 0;
-  uid = 0;
-  gid = 0;
-  mtime = pos 0;
-  nsec = 0;
-  attrs = [];
-}
+new_whiteout = plain_inode (Char 0 0) 0 []
 
 -- a hidden path in a shown directory, at whose natural place the rest shows something
 abbrev pub needs_whiteout : Merge → PathNames → Bool

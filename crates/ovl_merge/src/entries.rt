@@ -83,15 +83,7 @@ fn unfound(
 fn new_whiteout(alloc: Global) -> Inode
     ensures { result ≡ merge_down.new_whiteout }
 {
-    Inode {
-        kind: Kind::Char { major: 0, minor: 0 },
-        mode: 0,
-        uid: 0,
-        gid: 0,
-        mtime: 0,
-        nsec: 0,
-        attrs: Attrs::new(alloc),
-    }
+    Inode::plain(Kind::Char { major: 0, minor: 0 }, 0, Attrs::new(alloc))
 }
 
 // The inode as the merged tree shows it: one without attributes as it is.

@@ -61,19 +61,6 @@ fn is_read(alloc: Global, moved: &Inode) -> Result<bool, RedirectFault> {
     Ok(is_path_read(alloc)? && is_name_read(alloc)? && is_mark_read(alloc, moved)?)
 }
 
-// An inode with these attributes.
-fn inode_of(kind: Kind, attrs: Attrs) -> Inode {
-    Inode {
-        kind,
-        mode: 0o755,
-        uid: 1,
-        gid: 2,
-        mtime: 3,
-        nsec: 4,
-        attrs,
-    }
-}
-
 fn put(alloc: Global, attrs: &mut Attrs, name: &str, value: &[u8]) -> Result<(), Fail> {
     expect_so(again!(is_put(alloc, attrs, name, value), AttrFault::Memory)?)
 }
@@ -90,7 +77,7 @@ fn an_inode_is_told(rt: HostRuntime) -> Result<(), Fail> {
     let mut attrs = Attrs::new(rt.alloc());
     put_all(rt.alloc(), &mut attrs)?;
     let target = Target::from(again!(String::from_str(rt.alloc(), LONG), AllocError)?);
-    let inode = inode_of(Kind::Symlink { target }, attrs);
+    let inode = Inode::plain(Kind::Symlink { target }, 0o755, attrs);
     expect_so(again!(is_inode_told(rt.alloc(), &inode), AllocError)?)
 }
 
@@ -98,6 +85,6 @@ fn an_inode_is_told(rt: HostRuntime) -> Result<(), Fail> {
 fn a_redirect_is_read(rt: HostRuntime) -> Result<(), Fail> {
     let mut attrs = Attrs::new(rt.alloc());
     put_all(rt.alloc(), &mut attrs)?;
-    let inode = inode_of(Kind::Dir, attrs);
+    let inode = Inode::plain(Kind::Dir, 0o755, attrs);
     expect_so(again!(is_read(rt.alloc(), &inode), RedirectFault::Memory)?)
 }

@@ -8,7 +8,7 @@ use Rattle.ovl_inode.specs.declared.inodes.Kind.{Kind}
 use Rattle.ovl_inode.specs.declared.inodes.Kind.TheVariants.{Dir, File, Char}
 use Rattle.ovl_inode.proofs.OnLiterals.{inode_on_literals}
 use Rattle.ovl_layer.specs.Layers.{Entry}
-use Rattle.ovl_lookup.proofs.Notation.{plain_inode}
+use Rattle.ovl_inode.specs.Inodes.{plain_inode}
 use Rattle.ovl_reports.specs.LayerReports.{layer_report}
 
 -- an entry of user, group and time 0

@@ -3,20 +3,15 @@ use Rattle.std.specs.Prelude.{◌≡◌, ℕ, ℤ, pos, negsuc, true, false, Som
 use Rattle.std.specs.Fmt.{digits}
 use Rattle.hex.specs.Hex.{encode_with}
 use Rattle.ovl_names.specs.Paths.{PathNames}
-use Rattle.ovl_inode.specs.Attributes.{Attributes}
 use Rattle.ovl_inode.specs.declared.inodes.Inode.{Inode}
-use Rattle.ovl_inode.specs.declared.inodes.Kind.{Kind}
 use Rattle.ovl_inode.specs.declared.inodes.Kind.TheVariants.{Dir, File, Symlink, Char, Block}
+use Rattle.ovl_inode.specs.Inodes.{plain_inode}
 use Rattle.ovl_lookup.specs.declared.looks.Look.{Look}
 use Rattle.ovl_lookup.specs.declared.looks.Look.TheVariants.{Shown}
 use Rattle.ovl_reports.specs.Reports.{octal, inode_line, show_report}
 
--- an inode of user, group and time 0
-abbrev inode : Kind → ℕ → Attributes → Inode
-inode kind mode attrs = record { kind = kind; mode = mode; uid = 0; gid = 0; mtime = pos 0; nsec = 0; attrs = attrs }
-
 abbrev directory : Inode
-directory = inode Dir 0o755 []
+directory = plain_inode Dir 0o755 []
 
 abbrev entry : PathNames → Inode → PathNames × Look
 entry path inode = (path, Shown inode)
@@ -33,8 +28,8 @@ root_alone = refl
 
 device_and_link : show_report (
     entry [] directory
-    ∷ entry (codes "g" ∷ []) (inode (Char 0 1) 0o600 [])
-    ∷ entry (codes "l" ∷ []) (inode (Symlink (codes "a b")) 0o777 ((codes "user.k", 1 ∷ []) ∷ []))
+    ∷ entry (codes "g" ∷ []) (plain_inode (Char 0 1) 0o600 [])
+    ∷ entry (codes "l" ∷ []) (plain_inode (Symlink (codes "a b")) 0o777 ((codes "user.k", 1 ∷ []) ∷ []))
     ∷ [])
     ≡ codes "dir 0755 0 0 0 - - /\nchar 0600 0 0 0 - 0:1 /g\nsymlink 0777 0 0 0 - a\\x20b /l user.k=01\nentries 3\n"
 unfolding digits encode_with
@@ -43,7 +38,7 @@ device_and_link = refl
 directory_over_directory : show_report (
     entry [] directory
     ∷ entry (codes "d" ∷ []) directory
-    ∷ entry (codes "d" ∷ codes "k" ∷ []) (inode (File 1 (Some digest_of_a)) 0o644 [])
+    ∷ entry (codes "d" ∷ codes "k" ∷ []) (plain_inode (File 1 (Some digest_of_a)) 0o644 [])
     ∷ [])
     ≡ codes "dir 0755 0 0 0 - - /\ndir 0755 0 0 0 - - /d\nfile 0644 0 0 0 1 ca978112ca1bbdcafac231b39a23dc4da786eff8147c4e72b9807785afee48bb /d/k\nentries 3\n"
 unfolding digits encode_with
@@ -54,24 +49,24 @@ opaque_directory : show_report (entry [] directory ∷ entry (codes "d" ∷ []) 
 unfolding digits encode_with
 opaque_directory = refl
 
-metacopy_without_data : inode_line true (codes "f" ∷ []) (inode (File 1 None) 0o644 []) ≡ codes "file 0644 0 0 0 1 missing /f\n"
+metacopy_without_data : inode_line true (codes "f" ∷ []) (plain_inode (File 1 None) 0o644 []) ≡ codes "file 0644 0 0 0 1 missing /f\n"
 unfolding digits encode_with
 metacopy_without_data = refl
 
-empty_file : inode_line false (codes "e" ∷ []) (inode (File 0 None) 0o644 []) ≡ codes "file 0644 0 0 0 0 - /e\n"
+empty_file : inode_line false (codes "e" ∷ []) (plain_inode (File 0 None) 0o644 []) ≡ codes "file 0644 0 0 0 0 - /e\n"
 unfolding digits encode_with
 empty_file = refl
 
 all_the_mode_bits : octal 0o7654 ≡ codes "7654"
 all_the_mode_bits = refl
 
-before_the_epoch : inode_line false (codes "b" ∷ []) (record { kind = Block 8 17; mode = 0o60; uid = 1000; gid = 6; mtime = negsuc 4; nsec = 0; attrs = (codes "user.a", []) ∷ (codes "user.b c", 0 ∷ 255 ∷ []) ∷ [] })
+before_the_epoch : inode_line false (codes "b" ∷ []) (record (plain_inode (Block 8 17) 0o60 ((codes "user.a", []) ∷ (codes "user.b c", 0 ∷ 255 ∷ []) ∷ [])) { uid = 1000; gid = 6; mtime = negsuc 4 })
     ≡ codes "block 0060 1000 6 -5 - 8:17 /b user.a= user.b\\x20c=00ff\n"
 unfolding digits encode_with
 before_the_epoch = refl
 
 abbrev timed : ℤ → ℕ → List ℕ
-timed seconds nsec = inode_line false (codes "k" ∷ []) (record (inode (File 0 None) 0o644 []) { mtime = seconds; nsec = nsec })
+timed seconds nsec = inode_line false (codes "k" ∷ []) (record (plain_inode (File 0 None) 0o644 []) { mtime = seconds; nsec = nsec })
 
 a_nanosecond_past_a_second : timed (pos 7) 1 ≡ codes "file 0644 0 0 7+000000001 0 - /k\n"
 unfolding digits encode_with
