@@ -10,7 +10,7 @@ from . import rules, times
 from .attributes import Unstated, marks_to_user, write_attributes
 from .blobs import blob_path, opened_blob
 from .contents import PIECE, Copier, digest_and_size, may_clone, read_small, write_all
-from .entries import BLOCK, CHAR, DIRECTORY, FIFO, FILE, LINK_MODE, SYMLINK, Entry
+from .entries import BLOCK, CHAR, DIRECTORY, FIFO, FILE, SYMLINK, Entry, only_in_manifests
 from .faults import cannot_read, cannot_write, reason_of, writing
 from .links import FirstNames, take_links
 from .manifests import read_manifest
@@ -71,8 +71,9 @@ def build(options: BuildOptions) -> None:
 
 def entry_problem(entry: Entry, userxattr: bool) -> str | None:
     """Why Linux can't have this entry."""
-    if entry.kind == SYMLINK and entry.mode != LINK_MODE:
-        return f"a symlink of mode {entry.mode:04o}: Linux has them of mode 0777 alone"
+    problem = only_in_manifests(entry)
+    if problem:
+        return problem
     if rules.MAX_NUMBER in (entry.uid, entry.gid):
         return f"an owner or group {rules.MAX_NUMBER}: Linux has none of this number"
     if entry.kind in (CHAR, BLOCK) and (entry.major > _MAX_MAJOR or entry.minor > _MAX_MINOR):

@@ -76,6 +76,13 @@ def needs_lower_layers(entry: Entry) -> str | None:
     return None
 
 
+def only_in_manifests(entry: Entry) -> str | None:
+    """What of this entry a manifest alone can have, and no folder, squashfs or archive of a layer."""
+    if entry.kind == SYMLINK and entry.mode != LINK_MODE:
+        return f"a symlink of mode {entry.mode:04o}: Linux has them of mode 0777 alone"
+    return None
+
+
 def drop_host_marks(entry: Entry) -> int:
     """Leaves out what means something on the host alone that the layer comes from; tells how many marks."""
     found = [name for name in entry.attributes if name in HOST_MARKS]

@@ -17,8 +17,8 @@ from .configuration import (
 )
 from .contents import PIECE, PRIVATE_MODE, DigestedBeside, Write, digest_and_size
 from .entries import (
-    DIRECTORY, IS_OPAQUE, LINK_MODE, OPAQUE, SOCKET, SYMLINK, Entry, drop_host_marks, is_opaque, is_whiteout,
-    needs_lower_layers,
+    DIRECTORY, IS_OPAQUE, OPAQUE, SOCKET, Entry, drop_host_marks, is_opaque, is_whiteout, needs_lower_layers,
+    only_in_manifests,
 )
 from .faults import UsageFault, cannot_read, reading, writing
 from .image_files import BLOBS, ArchiveFiles, FolderFiles, ImageFiles
@@ -135,11 +135,10 @@ def _problem(entry: Entry) -> str | None:
         return "archives have no sockets"
     if entry.path.rpartition("/")[2].startswith(WHITEOUT_PREFIX):
         return f"a name that begins with {WHITEOUT_PREFIX} is a whiteout in an image"
-    if entry.kind == SYMLINK and entry.mode != LINK_MODE:
-        return f"a symlink of mode {entry.mode:04o}: Linux has them of mode 0777 alone"
-    if any("=" in name for name in entry.attributes):
+    problem = only_in_manifests(entry)
+    if problem is None and any("=" in name for name in entry.attributes):
         return "the name of an attribute holds ="
-    return None
+    return problem
 
 
 def _write_image(
