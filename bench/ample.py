@@ -323,8 +323,8 @@ def large() -> Iterator[tuple[str, Sources, list[bytes], tuple[str, ...]]]:
     yield "360 names of 12,000 bytes", beyond_the_limits(), [], few
     one = json.dumps(manifest_of([], [entry("/"), entry("/d%06d")]), separators=(",", ":"), sort_keys=True)
     first, _, rest = one.rpartition(',{"gid"')
-    piece = ',{"gid"' + rest.removesuffix('],"overlay-layer":2}')
-    many = first + "".join(piece % n for n in range(600_000)) + '],"overlay-layer":2}\n'
+    own, bracket, tail = rest.rpartition("]")
+    many = first + "".join(',{"gid"' + own % n for n in range(600_000)) + bracket + tail + "\n"
     yield "1,200,000 directories", [many, many.replace('"/d', '"/e')], [], few
 
 

@@ -25,7 +25,7 @@ from dataclasses import dataclass
 
 import instructions
 import run
-from entries import METACOPY, NSEC, OPAQUE, REDIRECT, Entry, entry
+from entries import METACOPY, OPAQUE, REDIRECT, Entry, entry, stated
 from generate import LAST
 
 CONTENTS = b"x"
@@ -71,7 +71,7 @@ def manifest_of(layer: Source, entries: Layer) -> dict[str, object]:
     """The value of a layer's manifest with these entries."""
     if not isinstance(layer, First):
         return {"overlay-layer": LAST, "entries": entries}
-    return {"overlay-layer": 1, "entries": [{name: value for name, value in it.items() if name != NSEC} for it in entries]}
+    return {"overlay-layer": 1, "entries": [stated(it, 1) for it in entries]}
 
 
 def write(folder: str, layers: Sources, unsorted: bool = False) -> list[str]:
