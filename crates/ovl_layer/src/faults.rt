@@ -15,7 +15,7 @@ pub enum LayerFault {
     /// The value is no object of a whole number `overlay-layer` and a list `entries`.
     #[error("wrong shape")]
     Shape,
-    /// `overlay-layer` is neither 1 nor 2.
+    /// `overlay-layer` is the number of no version that is read.
     #[error("unknown version")]
     Version,
     /// There is no entry, or there are more than [`ENTRY_LIMIT`](crate::ENTRY_LIMIT).

@@ -4,12 +4,15 @@ use Rattle.std.specs.Prelude.{◌&&◌, is_some}
 use Rattle.std.specs.List.{list_all}
 use Rattle.std.proofs.lemmas.List.{length-map}
 use Rattle.std.proofs.lemmas.List.Folds.{list_all-append, list_all-map}
-use Rattle.serde_json.specs.Data.{Data, object, Members, member}
+use Rattle.serde_json.specs.Data.{Data, object, Members, no_members, member}
 use Rattle.serde_json.specs.Events.{members_len}
 use Rattle.serde_json.specs.Find.{get}
 use Rattle.ovl_inode.specs.Attributes.{Attributes}
-use Rattle.ovl_manifest.specs.Fields.{has_count, has_exactly, attribute_after, attributes_after}
-use Rattle.ovl_manifest.proofs.KeptLemmas.{member_count-len}
+use Rattle.ovl_manifest.specs.Fields.{member_count, has_count, has_exactly, attribute_after, attributes_after}
+
+pub member_count-len : (members : Members) → member_count members ≡ members_len members
+member_count-len no_members = refl
+member_count-len (member name value more) = omega (arith, member_count-len more)
 
 -- an object has exactly these members and those where it has as many, and all of them
 module _ (own common : List (Bor (List ℕ))) (members : Members) where

@@ -13,21 +13,18 @@ use Rattle.serde_json.specs.Find.{get, get_member, as_number, as_u64, as_i64, as
 use Rattle.ovl_json.specs.Kept.{member_limit, text_kept, texts_kept, kept, members_kept, object_kept}
 use Rattle.ovl_names.specs.Paths.{PathNames}
 use Rattle.ovl_inode.specs.Attributes.{Attributes}
-use Rattle.ovl_inode.specs.Sound.{is_sound_inode, mode_limit, nsec_limit, size_limit}
+use Rattle.ovl_inode.specs.Sound.{is_sound_inode, size_limit}
 use Rattle.ovl_inode.specs.declared.inodes.Inode.{Inode}
 use Rattle.ovl_inode.specs.declared.inodes.Kind.{Kind}
 use Rattle.ovl_inode.specs.declared.inodes.Kind.TheVariants.{Dir, File, Symlink, Char, Block, Fifo, Socket}
-use Rattle.ovl_manifest.specs.Fields.{member_count, has_exactly, up_to, text_field, natural_field, seconds_field, nsec_field, path_of_text, path_field, attribute_after, attributes_after, attributes_of, attributes_field, blob_of, blob_field, file_kind, numbers_kind, kind_named, kind_field, kind_members, inode_with, inode_field, entry_with, entry_of}
+use Rattle.ovl_manifest.specs.Fields.{member_count, has_exactly, up_to, text_field, natural_field, seconds_field, path_of_text, path_field, attribute_after, attributes_after, attributes_of, attributes_field, blob_of, blob_field, file_kind, numbers_kind, kind_named, kind_field, kind_members, inode_with, inode_field, entry_with, entry_of}
 use Rattle.ovl_manifest.specs.Lists.{outline_of, outline}
 use Rattle.ovl_manifest.specs.declared.versions.Version.{Version}
-use Rattle.ovl_manifest.specs.declared.versions.Version.TheVariants.{One, Two}
 use Rattle.ovl_layer.specs.declared.faults.LayerFault.TheVariants.{Shape}
+use Rattle.ovl_manifest.proofs.EntryLemmas.{few_members, numbers-same}
+use Rattle.ovl_manifest.proofs.FieldLemmas.{member_count-len}
 
 -- ---- members
-
-pub member_count-len : (members : Members) → member_count members ≡ members_len members
-member_count-len no_members = refl
-member_count-len (member name value more) = omega (arith, member_count-len more)
 
 get-at : (o : Ordering) (value : Data) (rest : Option Data) (found : Option Data) → rest ≡ option_map kept found → match_ordering o rest (Some (kept value)) rest ≡ option_map kept (match_ordering o found (Some value) found)
 get-at Less value rest found e = e
@@ -127,10 +124,6 @@ module _ (members : Members) where
   seconds-kept : (name : List ℕ) → seconds_field name part ≡ seconds_field name whole
   seconds-kept name = λ j. option_and_then as_i64 (number-kept name j)
 
-  nsec-kept : (version : Version) → nsec_field version part ≡ nsec_field version whole
-  nsec-kept One = refl
-  nsec-kept Two = natural-kept (codes "mtime-nsec") nsec_limit
-
   path-kept : (version : Version) → path_field version part ≡ path_field version whole
   path-kept version = λ j. option_and_then (path_of_text version) (text-kept (codes "path") j)
 
@@ -165,7 +158,7 @@ module _ (members : Members) where
   kind-kept = λ j. option_and_then (λ name. named-kept name j) (text-kept (codes "kind") j)
 
   with-kept : (version : Version) (kind : Kind) (attrs : Attributes) → inode_with version kind attrs part ≡ inode_with version kind attrs whole
-  with-kept version kind attrs = rw (natural-kept (codes "mode") mode_limit, natural-kept (codes "uid") (2 ^ 32 - 1), natural-kept (codes "gid") (2 ^ 32 - 1), seconds-kept (codes "mtime"), nsec-kept version) refl
+  with-kept = numbers-same part whole natural-kept seconds-kept
 
   inode-kept : (version : Version) → inode_field version part ≡ inode_field version whole
   inode-kept version = λ j. option_and_then (λ kind. option_and_then (λ attrs. with-kept version kind attrs j) (attrs-kept j)) (kind-kept j)
@@ -218,24 +211,6 @@ outline-kept members =
     ∙ outline-with (option_and_then as_number (get (codes "overlay-layer") (object members))) _ _ (listed-kept members))
 
 -- ---- an object of too many names
-
-few_members : (version : Version) (kind : Kind) → length (kind_members version kind) ≤ member_limit
-few_members One Dir = omega arith
-few_members One (File size None) = omega arith
-few_members One (File size (Some blob)) = omega arith
-few_members One (Symlink target) = omega arith
-few_members One (Char major minor) = omega arith
-few_members One (Block major minor) = omega arith
-few_members One Fifo = omega arith
-few_members One Socket = omega arith
-few_members Two Dir = omega arith
-few_members Two (File size None) = omega arith
-few_members Two (File size (Some blob)) = omega arith
-few_members Two (Symlink target) = omega arith
-few_members Two (Char major minor) = omega arith
-few_members Two (Block major minor) = omega arith
-few_members Two Fifo = omega arith
-few_members Two Socket = omega arith
 
 too_many : (members : Members) (names : List (List ℕ)) → nat_le (members_len members) member_limit ≡ false → length names ≤ member_limit → has_exactly names (object members) ≡ false
 too_many members names many few = ap (λ b. b && list_all (λ name. is_some (get name (object members))) names) other

@@ -5,6 +5,8 @@ mod Rows
 mod RowsText
 pub mod ReadLemmas
 pub mod TextLemmas
+pub mod MemberLemmas
+pub mod EntryLemmas
 pub mod WrittenBackLemmas
 pub mod TailLemmas
 pub mod ValueLemmas

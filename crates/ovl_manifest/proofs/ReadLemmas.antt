@@ -22,12 +22,12 @@ use Rattle.ovl_inode.specs.Sound.{is_sound_inode}
 use Rattle.ovl_layer.specs.Layers.{Entry, Entries, is_within_limits}
 use Rattle.ovl_manifest.specs.Versions.{depth_of}
 use Rattle.ovl_manifest.specs.declared.versions.Version.{Version}
-use Rattle.ovl_manifest.specs.declared.versions.Version.TheVariants.{One, Two}
 use Rattle.ovl_layer.specs.Entries.{is_statable}
 use Rattle.ovl_manifest.specs.Manifest.{layer_of_value, read_layer}
 use Rattle.ovl_layer.specs.declared.faults.LayerFault.{LayerFault}
 use Rattle.ovl_layer.specs.declared.faults.LayerFault.TheVariants.{NotJson}
 use Rattle.ovl_manifest.specs.Fields.{entry_of, entry_with, is_entry, inode_field, path_field, path_of_text, text_field}
+use Rattle.ovl_manifest.proofs.EntryLemmas.{depth-limited}
 
 -- ---- a path that is read keeps the limits
 
@@ -70,11 +70,6 @@ none_of true false false false false none = (refl, refl, refl)
 
 not_past : (limit n : ℕ) → nat_lt limit n ≡ false → nat_le n limit ≡ true
 not_past limit n past = grind (arith, nat_tests)
-
--- no version has paths deeper than those of a layer
-pub depth-limited : (version : Version) → depth_of version ≤ depth_limit
-depth-limited One = omega arith
-depth-limited Two = omega arith
 
 within : (version : Version) (text : List ℕ) → path_fault (depth_of version) text ≡ None → is_within_limits (text_parts text) ≡ true
 within version text none =

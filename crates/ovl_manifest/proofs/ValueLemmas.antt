@@ -6,8 +6,7 @@ use Rattle.std.specs.Result.{result_ok}
 use Rattle.std.proofs.lemmas.Bool.Decides.{nat_tests}
 use Rattle.hex.specs.Hex.{lower_digits, encode_with, encode_lower, decode_of, IsBytes}
 use Rattle.hex.proofs.HexLemmas.{decode_of-encode_lower, length-encode_with}
-use Rattle.serde_json.specs.Data.{Data}
-use Rattle.serde_json.specs.Find.{get, as_number, as_u64, as_i64, of_integer}
+use Rattle.serde_json.specs.Find.{as_i64, of_integer}
 use Rattle.ovl_names.specs.Names.{name_fault, is_name, slash, dot, dot_dot, name_eq, name_limit}
 use Rattle.ovl_names.specs.declared.names.NameFault.{NameFault}
 use Rattle.ovl_names.specs.declared.names.NameFault.TheVariants.{Empty, TooLong, Dot, Slash, Nul}
@@ -21,13 +20,12 @@ use Rattle.ovl_inode.specs.Bytes.{are_bytes, is_digest}
 use Rattle.ovl_inode.proofs.AttributeLemmas.{put-last}
 use Rattle.ovl_inode.specs.Attributes.{Attributes, attribute_cmp, is_attribute, is_attribute_name, are_attributes, with_attribute}
 use Rattle.ovl_inode.specs.Hexadecimal.{is_lower_digit, bytes_of_digits, digest_of_text}
-use Rattle.ovl_inode.specs.Sound.{is_word, is_seconds, nsec_limit}
+use Rattle.ovl_inode.specs.Sound.{is_word, is_seconds}
 use Rattle.ovl_layer.specs.Layers.{is_within_limits}
-use Rattle.ovl_manifest.specs.Versions.{depth_of, states_nsec}
+use Rattle.ovl_manifest.specs.Versions.{depth_of}
 use Rattle.ovl_manifest.specs.declared.versions.Version.{Version}
-use Rattle.ovl_manifest.specs.declared.versions.Version.TheVariants.{One, Two}
-use Rattle.ovl_manifest.specs.Fields.{up_to, nsec_field, path_of_text, attribute_after, attributes_after}
-use Rattle.ovl_manifest.specs.Text.{whole, hexadecimal, attribute_members}
+use Rattle.ovl_manifest.specs.Fields.{up_to, path_of_text, attribute_after, attributes_after}
+use Rattle.ovl_manifest.specs.Text.{hexadecimal, attribute_members}
 use Rattle.ovl_layer.specs.TextPaths.{slashed}
 use Rattle.ovl_manifest.proofs.FieldLemmas.{attributes_after-put}
 use Rattle.ovl_manifest.proofs.TextLemmas.{attributes_in_turn, attribute_members-in_turn, no_or, all-at}
@@ -43,15 +41,6 @@ word-within n is = le-leb n (2 ^ 32 - 1) (omega (arith, ltb-true n (2 ^ 32) is))
 pub seconds-back : (z : ℤ) → is_seconds z ≡ true → as_i64 (of_integer z) ≡ Some z
 seconds-back (pos n) is = rw is refl
 seconds-back (negsuc n) is = refl
-
--- nanoseconds, which a version states or means to be 0
-abbrev pub nsec_member : Version → ℕ → Option Data
-nsec_member One nsec = None
-nsec_member Two nsec = Some (whole nsec)
-
-pub nsec-back : (version : Version) (value : Data) (nsec : ℕ) → get (codes "mtime-nsec") value ≡ nsec_member version nsec → states_nsec version nsec ≡ true → nat_le nsec nsec_limit ≡ true → nsec_field version value ≡ Some nsec
-nsec-back One value nsec has stated small = ap (λ (n : ℕ). Some n) (sym (eqb-true nsec 0 stated))
-nsec-back Two value nsec has stated small = ap (λ (o : Option Data). option_and_then (up_to nsec_limit) (option_and_then as_u64 (option_and_then as_number o))) has ∙ up_to-within nsec_limit nsec small
 
 -- ---- hexadecimal digits
 

@@ -16,6 +16,9 @@ pub(crate) enum Version {
     Two,
 }
 
+/// The version that is written.
+pub(crate) const WRITTEN: Version = Version::Two;
+
 impl Version {
     /// The version of this number, if there is one.
     pub(crate) fn of(number: u64) -> Option<Version>

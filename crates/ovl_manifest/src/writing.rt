@@ -9,7 +9,7 @@ ghost use Rattle.ovl_manifest.specs.Versions.{written};
 ghost use Rattle.ovl_layer.specs.TextPaths.{slashed};
 
 use crate::short_texts::ShortText;
-use crate::versions::Version;
+use crate::versions::WRITTEN;
 use crate::written_entries::push_entry;
 use ovl_inode::Kind;
 use ovl_layer::{Layer, Node};
@@ -68,7 +68,7 @@ fn push_layer(alloc: Global, text: &mut Vec<u8>, layer: &Layer) -> Result<(), Al
     push_entries(alloc, text, layer)?;
     let mut short = ShortText::new();
     short.put("}");
-    short.put_number(Version::Two.number());
+    short.put_number(WRITTEN.number());
     short.put("],\"overlay-layer\":");
     text.extend_from_slice(short.as_slice())
 }

@@ -82,7 +82,7 @@ fn what_is_no_manifest_is_refused(rt: HostRuntime) -> Result<(), Fail> {
     let alloc = rt.alloc();
     expect_fault(alloc, r#"{"entries":["#, LayerFault::NotJson)?;
     expect_fault(alloc, r#"[{"a":[1,"b"]}]"#, LayerFault::Shape)?;
-    let later = r#"{"entries":[],"overlay-layer":3}"#;
+    let later = r#"{"entries":[],"overlay-layer":1000}"#;
     expect_fault(alloc, later, LayerFault::Version)?;
     let empty = r#"{"entries":[],"overlay-layer":2}"#;
     expect_fault(alloc, empty, LayerFault::Count)?;

@@ -3,7 +3,7 @@ use Rattle.ovl_names.specs.Names.{is_name}
 use Rattle.ovl_names.specs.Paths.{PathNames, child_path, path_text}
 use Rattle.ovl_layer.specs.TextPaths.{slashed, AreEnds}
 use Rattle.ovl_layer.specs.SheetDrafts.{last_path}
-use Rattle.ovl_manifest.proofs.ReadLemmas.{depth-limited}
+use Rattle.ovl_manifest.proofs.EntryLemmas.{depth-limited}
 use Rattle.ovl_layer.proofs.WayLemmas.{child_limits, path_text-child}
 use Rattle.ovl_manifest.proofs.compact_layers.add_beside.Goals as goal
 
