@@ -2,7 +2,6 @@ pub mod KeptLemmas
 pub mod ListLemmas
 pub mod FieldLemmas
 mod Rows
-mod RowsText
 pub mod ReadLemmas
 pub mod TextLemmas
 pub mod MemberLemmas

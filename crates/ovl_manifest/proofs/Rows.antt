@@ -1,10 +1,13 @@
--- Worked examples of manifests, by computation.
-use Rattle.std.specs.Prelude.{◌≡◌, ℕ, Bool, true, false, Some, None, Result, Ok, Err, List, [], ◌∷◌, ◌++◌, codes, replicate, take, length, refl}
+-- Worked examples of manifests, read and written, by computation.
+use Rattle.std.specs.Prelude.{◌≡◌, ℕ, negsuc, Bool, true, false, Some, None, Result, Ok, Err, List, [], ◌∷◌, ◌++◌, codes, replicate, take, length, refl}
+use Rattle.std.specs.Fmt.{digits}
 use Rattle.std.specs.List.{list_all, range_with_len}
+use Rattle.hex.specs.Hex.{encode_with}
+use Rattle.serde_json.specs.Written.{compact_text}
 use Rattle.serde_json.proofs.OnLiterals.{serde_json_on_literals}
 use Rattle.ovl_inode.proofs.OnLiterals.{inode_on_literals}
 use Rattle.ovl_inode.specs.declared.inodes.Inode.{Inode}
-use Rattle.ovl_inode.specs.declared.inodes.Kind.TheVariants.{Dir}
+use Rattle.ovl_inode.specs.declared.inodes.Kind.TheVariants.{Dir, Symlink, Char}
 use Rattle.ovl_inode.specs.Inodes.{plain_inode}
 use Rattle.ovl_layer.specs.Layers.{Entries}
 use Rattle.ovl_layer.specs.declared.faults.LayerFault.{LayerFault}
@@ -12,6 +15,7 @@ use Rattle.ovl_layer.specs.declared.faults.LayerFault.TheVariants.{NotJson, Shap
 use Rattle.ovl_names.specs.Paths.{path_text}
 use Rattle.ovl_manifest.specs.Fields.{path_of_text}
 use Rattle.ovl_manifest.specs.Manifest.{read_layer}
+use Rattle.ovl_manifest.specs.Text.{layer_value, manifest_text}
 use Rattle.ovl_manifest.specs.declared.versions.Version.TheVariants.{One, Two}
 
 abbrev dir : Inode
@@ -113,3 +117,36 @@ deepest-in-first-version = refl
 too-deep-in-first-version : path_of_text One (path_text (replicate 65 (codes "d"))) ≡ None
 unfolding serde_json_on_literals inode_on_literals
 too-deep-in-first-version = refl
+
+-- ---- what is written
+
+-- a root alone: a line of 122 bytes
+alone : manifest_text (([], dir) ∷ []) ≡ codes "{\"entries\":[{\"gid\":0,\"kind\":\"dir\",\"mode\":493,\"mtime\":0,\"mtime-nsec\":0,\"path\":\"/\",\"uid\":0,\"xattrs\":{}}],\"overlay-layer\":2}\n"
+unfolding serde_json_on_literals inode_on_literals digits encode_with
+alone = refl
+
+alone-length : length (manifest_text (([], dir) ∷ [])) ≡ 122
+unfolding serde_json_on_literals inode_on_literals digits encode_with
+alone-length = refl
+
+-- the same in the first version: 106 bytes before the newline
+alone-first : compact_text (layer_value One (([], dir) ∷ [])) ≡ codes "{\"entries\":[{\"gid\":0,\"kind\":\"dir\",\"mode\":493,\"mtime\":0,\"path\":\"/\",\"uid\":0,\"xattrs\":{}}],\"overlay-layer\":1}"
+unfolding serde_json_on_literals inode_on_literals digits encode_with
+alone-first = refl
+
+alone-first-length : length (compact_text (layer_value One (([], dir) ∷ []))) ≡ 106
+unfolding serde_json_on_literals inode_on_literals digits encode_with
+alone-first-length = refl
+
+-- an opaque directory, and a symlink and a device in it
+abbrev small : Entries
+small =
+    ([], dir)
+    ∷ (codes "d" ∷ [], record (plain_inode Dir 493 ((codes "trusted.overlay.opaque", codes "y") ∷ (codes "user.k", 1 ∷ []) ∷ [])) { uid = 7; mtime = negsuc 4; nsec = 999999999 })
+    ∷ (codes "d" ∷ codes "s" ∷ [], record (plain_inode (Symlink (codes "a b")) 511 []) { nsec = 7 })
+    ∷ (codes "d" ∷ codes "t" ∷ [], plain_inode (Char 1 3) 438 [])
+    ∷ []
+
+back : read_layer (manifest_text small) ≡ Ok small
+unfolding serde_json_on_literals inode_on_literals digits encode_with
+back = refl
