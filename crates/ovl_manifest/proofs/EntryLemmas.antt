@@ -24,7 +24,6 @@ use Rattle.ovl_inode.specs.Marks.{has_metacopy}
 use Rattle.ovl_inode.specs.Sound.{is_sound_inode, is_sound_kind, has_sound_blob, is_word, mode_limit, nsec_limit, size_limit}
 use Rattle.ovl_inode.proofs.SoundLaws.{HasSoundValues, sound_values}
 use Rattle.ovl_json.specs.Kept.{member_limit}
-use Rattle.ovl_layer.specs.Layers.{Entry}
 use Rattle.ovl_manifest.specs.Fields.{has_exactly, up_to, natural_field, seconds_field, nsec_field, kind_field, kind_members, inode_with}
 use Rattle.ovl_manifest.specs.Versions.{version_number, version_of, depth_of, states_nsec, is_stated_by}
 use Rattle.ovl_manifest.specs.declared.versions.Version.{Version}

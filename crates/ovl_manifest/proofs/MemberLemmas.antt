@@ -1,6 +1,6 @@
 -- Values and members whose texts are UTF-8: numbers, strings and attributes, and objects of members that are put.
 use Rattle.std.proofs.Common.{◌≡◌, ◌≤◌, ◌<◌, ◌^◌, ℕ, zero, suc, ℤ, pos, negsuc, List, [], ◌∷◌, ◌++◌, Bool, true, false, refl, arith, decimal, ltb-true}
-use Rattle.std.specs.Prelude.{⊤, nat_lt, ◌&&◌, codes, slice_index}
+use Rattle.std.specs.Prelude.{⊤, nat_lt, codes, slice_index}
 use Rattle.std.specs.Ordering.{match_ordering, nat_cmp}
 use Rattle.std.specs.Cmp.Lexicographic.{slice_cmp}
 use Rattle.std.specs.declared.cmp.Ordering.{Ordering}
@@ -14,7 +14,7 @@ use Rattle.json.specs.Print.{quoted}
 use Rattle.json.proofs.Printed.Utf8.{IsUtf8-are_ascii, IsUtf8-quoted, are_ascii}
 use Rattle.serde_json.specs.Data.{Data, number, object, Members, no_members, member, put}
 use Rattle.serde_json.specs.Find.{of_integer}
-use Rattle.serde_json.specs.Written.{comma_if, compact_text, members_text, number_text}
+use Rattle.serde_json.specs.Written.{comma_if, compact_text, members_text}
 use Rattle.ovl_names.proofs.Ascending.{both}
 use Rattle.ovl_inode.specs.Sound.{is_seconds, is_word}
 use Rattle.ovl_manifest.specs.Text.{hexadecimal, whole}

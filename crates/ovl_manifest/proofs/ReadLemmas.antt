@@ -1,5 +1,5 @@
 -- What a stated entry is.
-use Rattle.std.proofs.Common.{◌≡◌, ℕ, ◌≤◌, List, [], ◌∷◌, Bool, true, false, Option, Some, None, Result, Ok, Err, refl, sym, ap, ap₂, ◌∙◌, subst, length, drop, arith, le-leb, leb-true}
+use Rattle.std.proofs.Common.{◌≡◌, ℕ, List, [], ◌∷◌, Bool, true, false, Option, Some, None, Result, Ok, Err, refl, sym, ap, ap₂, ◌∙◌, subst, length, drop, arith, le-leb, leb-true}
 use Rattle.std.specs.Option.{option_and_then}
 use Rattle.std.specs.Prelude.{◌==◌, not, IfSome, IsTrue, nat_eq, nat_lt, nat_le, is_some, is_none, if◌then◌else◌, flat_map, codes}
 use Rattle.std.specs.List.{starts_with, list_any}

@@ -1,6 +1,6 @@
 -- The values that are written state what they were written of.
 use Rattle.std.proofs.Common.{◌≡◌, ℕ, zero, suc, ◌-◌, ◌/◌, ◌%◌, ◌^◌, ◌<◌, ◌∙◌, ℤ, pos, negsuc, List, [], ◌∷◌, ◌++◌, Bool, true, false, Option, Some, None, refl, sym, ap, subst, append_assoc, append-nil, length, length-append, arith, ltb-true, le-leb, eqb-true, eq-eqb, cond}
-use Rattle.std.specs.Prelude.{◌||◌, ◌==◌, not, nat_eq, nat_lt, nat_le, is_some, is_none, if◌then◌else◌, slice_index, option_and_then, codes}
+use Rattle.std.specs.Prelude.{◌||◌, ◌==◌, not, nat_eq, nat_lt, nat_le, is_some, is_none, if◌then◌else◌, slice_index, option_and_then}
 use Rattle.std.specs.List.{list_all, list_any, starts_with, onto_first}
 use Rattle.std.specs.Result.{result_ok}
 use Rattle.std.proofs.lemmas.Bool.Decides.{nat_tests}
