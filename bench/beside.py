@@ -14,13 +14,11 @@ The other reading is a command that takes the same words (docs/FORMATS.md); as a
 
     python3 bench/beside.py --program ./ovl_layers --oracle 'python3 reading.py'
 """
-import argparse
 import collections
 import concurrent.futures
 import hashlib
 import os
 import random
-import shlex
 import subprocess
 import sys
 import tempfile
@@ -28,6 +26,7 @@ from collections.abc import Iterator, Sequence
 from dataclasses import dataclass, replace
 
 import ample
+from cases import add_oracle, oracle_of, show_sorts, words_of
 from generate import MOST_NAMES
 from entries import METACOPY, NSEC, REDIRECT, Entry, entry
 from growth import First, Layer, chain, write
@@ -246,19 +245,10 @@ def tell(case: Case, differ: list[Difference], keep: str | None) -> None:
 
 
 def main() -> None:
-    words = argparse.ArgumentParser(description="Compares what all commands do with small stacks with an independent reading.")
-    words.add_argument("--program", required=True, help="path of the program")
-    words.add_argument("--oracle", required=True, metavar="COMMAND", help="the other reading: a command and its words, after "
-                       "which come those of the program; it answers as the program must, see docs/FORMATS.md")
-    words.add_argument("--count", type=int, default=1000, help="how many stacks (default 1000)")
-    words.add_argument("--seed", default="1", help="other seeds give other stacks (default 1)")
-    words.add_argument("--case", type=int, action="append", help="only the stack of this number; may be said again")
-    words.add_argument("--jobs", type=int, default=1, help="stacks that are compared at once (default 1)")
-    words.add_argument("--keep", metavar="DIR", help="folder for the manifests of which something else is said")
+    words = words_of("Compares what all commands do with small stacks with an independent reading.", "stacks", 1000)
+    add_oracle(words, "stack", "those of the program")
     given = words.parse_args()
-    program, oracle = [os.path.abspath(given.program)], shlex.split(given.oracle)
-    oracle = [os.path.abspath(it) if os.path.exists(it) else it for it in oracle]
-
+    program, oracle = [os.path.abspath(given.program)], oracle_of(given)
     sorts: collections.Counter[str] = collections.Counter()
     versions: collections.Counter[str] = collections.Counter()
     bad = 0
@@ -270,8 +260,7 @@ def main() -> None:
             if differ:
                 tell(case, differ, given.keep)
                 bad += 1
-    for sort, count in sorted(sorts.items()):
-        print(f"{count:7,} {sort}")
+    show_sorts(sorts)
     told = ", ".join(f"{count:,} of version {names}" for names, count in sorted(versions.items()))
     print(f"{versions.total():,} stacks of seed {given.seed} ({told}), {bad} differ")
     sys.exit(1 if bad else 0)

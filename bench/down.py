@@ -11,7 +11,6 @@ number that is none, or too great, must be refused.
 
     python3 bench/down.py --program ./ovl_layers
 """
-import argparse
 import collections
 import concurrent.futures
 import os
@@ -24,6 +23,7 @@ from dataclasses import replace
 import ample
 import beside
 from beside import Answer, Case, Difference
+from cases import show_sorts, words_of
 from growth import Layer, write
 
 # How many layers aren't data-only, and the share of the stacks as overlays leave them.
@@ -118,13 +118,7 @@ def compared(program: list[str], case: Case) -> tuple[Case, list[str], list[Diff
 
 
 def main() -> None:
-    words = argparse.ArgumentParser(description="Merges small stacks down to each number of layers, at once and one by one.")
-    words.add_argument("--program", required=True, help="path of the program")
-    words.add_argument("--count", type=int, default=200, help="how many stacks (default 200)")
-    words.add_argument("--seed", default="1", help="other seeds give other stacks (default 1)")
-    words.add_argument("--jobs", type=int, default=1, help="stacks that are compared at once (default 1)")
-    words.add_argument("--keep", metavar="DIR", help="folder for the manifests of which something else is said")
-    given = words.parse_args()
+    given = words_of("Merges small stacks down to each number of layers, at once and one by one.", "stacks", 200).parse_args()
     program = [os.path.abspath(given.program)]
     sorts: collections.Counter[str] = collections.Counter()
     bad = 0
@@ -135,8 +129,7 @@ def main() -> None:
             if differ:
                 beside.tell(case, differ, given.keep)
                 bad += 1
-    for sort, count in sorted(sorts.items()):
-        print(f"{count:7,} {sort}")
+    show_sorts(sorts)
     print(f"{given.count:,} stacks of seed {given.seed}, {bad} differ")
     sys.exit(1 if bad else 0)
 

@@ -12,7 +12,6 @@ or the line of the fault, and ends with the status that stand there; as another 
 
     python3 bench/spoilt.py --program ./ovl_layers --oracle 'python3 reading.py'
 """
-import argparse
 import collections
 import concurrent.futures
 import functools
@@ -21,7 +20,6 @@ import json
 import os
 import random
 import re
-import shlex
 import subprocess
 import sys
 import tempfile
@@ -29,6 +27,7 @@ from collections.abc import Callable, Sequence
 from dataclasses import dataclass
 from typing import Any
 
+from cases import add_oracle, oracle_of, show_sorts, words_of
 from entries import METACOPY, NSEC
 
 WORKERS = (1, 4)
@@ -642,22 +641,12 @@ def sort_of(wanted: Answer) -> str:
 
 
 def main() -> None:
-    words = argparse.ArgumentParser(description="Compares what is said of spoilt manifests with an independent reading.")
-    words.add_argument("--program", required=True, help="path of the program")
-    words.add_argument("--oracle", required=True, metavar="COMMAND", help="the other reading: a command and its words, after "
-                       "which come 'show --workers 1 FILE..'; it answers as the program must, see docs/FORMATS.md")
+    words = words_of("Compares what is said of spoilt manifests with an independent reading.", "cases", 5000)
+    add_oracle(words, "case", "'show --workers 1 FILE..'")
     words.add_argument("--version", type=int, choices=DEEPEST, default=max(DEEPEST), help="version of the manifests that are "
                        f"spoilt (default {max(DEEPEST)})")
-    words.add_argument("--count", type=int, default=5000, help="how many cases (default 5000)")
-    words.add_argument("--seed", default="1", help="other seeds give other cases (default 1)")
-    words.add_argument("--case", type=int, action="append", help="only the case of this number; may be said again")
-    words.add_argument("--jobs", type=int, default=1, help="cases that are compared at once (default 1)")
-    words.add_argument("--keep", metavar="DIR", help="folder for the manifests of which something else is said")
     given = words.parse_args()
-    program, oracle = [os.path.abspath(given.program)], shlex.split(given.oracle)
-    # (a file that is named in the command is found from any folder)
-    oracle = [os.path.abspath(it) if os.path.exists(it) else it for it in oracle]
-
+    program, oracle = [os.path.abspath(given.program)], oracle_of(given)
     sorts: collections.Counter[str] = collections.Counter()
     bad = 0
     with concurrent.futures.ThreadPoolExecutor(given.jobs) as pool:
@@ -667,8 +656,7 @@ def main() -> None:
             if others:
                 tell(case, wanted, others, given.keep)
                 bad += 1
-    for sort, count in sorted(sorts.items()):
-        print(f"{count:7,} {sort}")
+    show_sorts(sorts)
     print(f"{sorts.total():7,} cases of version {given.version} and seed {given.seed}, {bad} differ")
     sys.exit(1 if bad else 0)
 

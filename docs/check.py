@@ -29,7 +29,7 @@ MADE = {
     "a fault of reading or writing": r"\bReadFault::(?:Device|TooLong)\b|\bProgramFault::(?:Input|Unread|Unwritten|Output)\b|\bErr\(\w*PartFault::",
 }
 # Types, and facts and records of specs/, whose names stand twice with two meanings. Each is to go; none is to come.
-TWICE = {"IsUnread", "PassesLimit", "Reached", "ReadFault", "Texts"}
+TWICE = {"Reached"}
 TESTS = {"ovl_pool_tests", "ovl_engine_tests", "ovl_program_tests", "ovl_refusal_tests"}
 
 

@@ -6,6 +6,8 @@ use Rattle.std.proofs.lemmas.List.Concat.{flat_map-append}
 use borrow.Author.Tests.{ltb-true}
 use Rattle.std.specs.Option.{option_to_list, is_none, unwrap_or}
 use Rattle.ovl_board.specs.declared.pieces.Piece.{Piece}
+use Rattle.ovl_board.specs.declared.events.CoreFault.{CoreFault}
+use Rattle.ovl_board.specs.declared.events.CoreFault.TheVariants.{NotPossible}
 use Rattle.ovl_board.specs.declared.events.Event.{Event}
 use Rattle.ovl_board.specs.declared.events.Event.TheVariants.{Pop, Steal, Work, Push}
 use Rattle.ovl_board.specs.Desks.{DeskView, empty_desk, is_free, push_first}
@@ -191,10 +193,23 @@ module _ {S : Type 0} (root : Piece) (views : List (ParcelView S)) (desks : List
           }
 
   -- a refused change leaves the desks
-  pub moved_kept : {T E : Type 0} (r : Result T E) (o : Option (List DeskView)) (new : List DeskView) (Q : E → Type 0) → IfSome o (IsKept root views) → ((e : E) → Q e → new ≡ desks)
+  moved_kept : {T E : Type 0} (r : Result T E) (o : Option (List DeskView)) (new : List DeskView) (Q : E → Type 0) → IfSome o (IsKept root views) → ((e : E) → Q e → new ≡ desks)
       → MatchResult r (λ _. o ≡ Some new) Q → IsKept root views new
   moved_kept (Ok x) o new Q h same m = let P : Option (List DeskView) → Type 0 = λ o. IfSome o (IsKept root views) in subst P m h
   moved_kept (Err e) o new Q h same m = subst (IsKept root views) (sym (same e m)) kept
+
+  -- desks after a step that was done, or refused as not possible
+  abbrev Refused : Option (List DeskView) → List DeskView → CoreFault → Type 0
+  Refused o new fault = (fault ≡ NotPossible) × (o ≡ None) × (new ≡ desks)
+
+  pub moved_by_take : {T : Type 0} (w l : ℕ) (r : Result T CoreFault) (new : List DeskView) → MatchResult r (λ _. after_take desks w l ≡ Some new) (Refused (after_take desks w l) new) → IsKept root views new
+  moved_by_take w l r new = moved_kept r (after_take desks w l) new (Refused (after_take desks w l) new) (take_kept w l) (λ fault refused. refused.2)
+
+  pub moved_by_steal : {T : Type 0} (w l : ℕ) (r : Result T CoreFault) (new : List DeskView) → MatchResult r (λ _. after_steal desks w l ≡ Some new) (Refused (after_steal desks w l) new) → IsKept root views new
+  moved_by_steal w l r new = moved_kept r (after_steal desks w l) new (Refused (after_steal desks w l) new) (steal_kept w l) (λ fault refused. refused.2)
+
+  pub moved_by_push : {T : Type 0} (w : ℕ) (r : Result T CoreFault) (new : List DeskView) → MatchResult r (λ _. after_push desks w ≡ Some new) (λ _. new ≡ desks) → IsKept root views new
+  moved_by_push w r new = moved_kept r (after_push desks w) new (λ _. new ≡ desks) (push_kept w) (λ fault same. same)
 
 module _ {S : Type 0} (kids : Piece → List Piece) (out : Piece → S) (root : Piece) where
   pub work_kept : (s : CoreState S) (w : ℕ) → IsCoreState root s → (hand : Option Piece) → (desk_of s.desks w).hand ≡ hand → IfSome (work_piece kids out s w hand) (IsCoreState root)

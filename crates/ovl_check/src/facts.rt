@@ -255,9 +255,5 @@ fn is_other(kind: &KindFacts) -> bool
 fn is_right(blob: &NamedBlob, size: u64) -> bool
     ensures { result ≡ facts.is_right blob.now size }
 {
-    match blob {
-        NamedBlob::Unnamed => true,
-        NamedBlob::Missing => false,
-        NamedBlob::Found { length, is_wrong } => *length == size && !*is_wrong,
-    }
+    !is_missing(blob) && !is_of_other_length(blob, size) && !is_wrong(blob)
 }

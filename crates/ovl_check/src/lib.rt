@@ -27,4 +27,4 @@ pub use finish::finish_check;
 pub use next_places::NextPlace;
 pub use stated::stated_names;
 pub use subjects::{CheckOut, CheckWork};
-pub use tellings::{PART, ReadFault, content_in};
+pub use tellings::{PART, PartFault, content_in};

@@ -1,6 +1,6 @@
 ghost use Rattle.std.specs.Prelude.{◌≡◌, ◌<◌, ◌+◌, ◌-◌, ◌^◌, ◌++◌, [], List, ℕ, Err, IfOk, IfSome, OnOk, length};
 ghost use Rattle.std.specs.Io.KnownBytes.{Consumes, IsAtEnd};
-ghost use Rattle.ovl_check.specs.declared.tellings.ReadFault.TheVariants.{TooLong};
+ghost use Rattle.ovl_check.specs.declared.tellings.PartFault.TheVariants.{TooLong};
 ghost use Rattle.ovl_check.specs.Told.{IsMeasured, HasRead, IsContentOf};
 
 use crate::contents::Content;
@@ -13,7 +13,7 @@ pub const PART: usize = 65536;
 
 /// Why what a reader gives isn't told.
 #[derive(Clone, Copy, Debug, PartialEq, Eq)]
-pub enum ReadFault {
+pub enum PartFault {
     /// A read answered an error.
     Device,
     /// More bytes came than a length can tell.
@@ -35,7 +35,7 @@ pub fn content_in<R: Read>(
     name: Digest,
     reader: &mut R,
     room: &mut [u8],
-) -> Result<Content, ReadFault>
+) -> Result<Content, PartFault>
     requires { 0 < length room.old }
     ensures room { length room.new ≡ length room.old }
     ensures taken { IfOk result (λ content. (bytes : List ℕ)
@@ -58,7 +58,7 @@ pub fn content_in<R: Read>(
 }
 
 // The length and the digest of all that a reader gives up to its end.
-fn digest_in<R: Read>(reader: &mut R, room: &mut [u8]) -> Result<Measured, ReadFault>
+fn digest_in<R: Read>(reader: &mut R, room: &mut [u8]) -> Result<Measured, PartFault>
     requires { 0 < length room.old }
     ensures room { length room.new ≡ length room.old }
     ensures taken { IfOk result (λ told. (bytes : List ℕ)
@@ -99,7 +99,7 @@ impl Reading {
     }
 
     // One read; how many bytes it gave, none at the end alone.
-    fn read_part<R: Read>(&mut self, reader: &mut R, room: &mut [u8]) -> Result<usize, ReadFault>
+    fn read_part<R: Read>(&mut self, reader: &mut R, room: &mut [u8]) -> Result<usize, PartFault>
         requires { 0 < length room.old }
         ensures room { length room.new ≡ length room.old }
         ensures grown { IfOk result (λ count. self.new.length ≡ self.old.length + count) }
@@ -114,10 +114,10 @@ impl Reading {
             → IfSome (R.remaining reader.old) (λ left. 2 ^ 64 - 1 < self.old.length + length left) }
     {
         let Ok(count) = reader.read(room) else {
-            return Err(ReadFault::Device);
+            return Err(PartFault::Device);
         };
         let Some(length) = self.length.checked_add(count as u64) else {
-            return Err(ReadFault::TooLong);
+            return Err(PartFault::TooLong);
         };
         self.length = length;
         sha2::Digest::update(&mut self.hasher, &room[..count]);

@@ -21,7 +21,7 @@ use Rattle.ovl_rewrite.specs.NewLayers.{IsToldWithin}
 use Rattle.ovl_rewrite.specs.Limits.{keeps_limits}
 use Rattle.ovl_deref.specs.Deref.{filled, IsDereferenced}
 use Rattle.ovl_deref.specs.Directories.{new_at, names_in, deref_depth, IsDerefWalk}
-use Rattle.ovl_deref.specs.Limits.{PassesLimit}
+use Rattle.ovl_deref.specs.Limits.{PassesDerefLimit}
 use Rattle.ovl_deref.proofs.DirectoryLemmas.{told}
 use Rattle.ovl_deref.proofs.LayerLemmas.{layer-but_limits}
 
@@ -50,10 +50,10 @@ module _ (stack : StackView) (each : All IsLayer stack.layers) (some : 0 < lengt
   walk-tells root views here walk = record { names = names_in stack; deepest = deref_depth stack; told = told stack each some; rooted = root-stays root here; walk = walk }
 
   -- over a sound stack its entries are a layer, or pass a limit
-  pub limit-passed : All IsLayer stack.data_only → IsSoundStack stack → (entries : Entries) → ascends entry_cmp entries ≡ true → IsDereferenced entries (top_layer stack) (lower_layers stack) → (IsLayer entries → ⊥) → PassesLimit stack
+  pub limit-passed : All IsLayer stack.data_only → IsSoundStack stack → (entries : Entries) → ascends entry_cmp entries ≡ true → IsDereferenced entries (top_layer stack) (lower_layers stack) → (IsLayer entries → ⊥) → PassesDerefLimit stack
   limit-passed deep sound entries up new refused = by (keeps_limits entries) refl
     where
-      by : (b : Bool) → keeps_limits entries ≡ b → PassesLimit stack
+      by : (b : Bool) → keeps_limits entries ≡ b → PassesDerefLimit stack
       by false e = (entries, up, new, e)
       by true e =
           let parts = both {a = list_all (λ (entry : Entry). is_within_limits entry.0) entries} {b = nat_le (length entries) entry_limit} e in
@@ -61,7 +61,7 @@ module _ (stack : StackView) (each : All IsLayer stack.layers) (some : 0 < lengt
           (subst IsSoundStack (sym (top-over stack some)) sound) entries up new parts.0 parts.1))
 
 -- a layer that is given keeps the limits
-pub limit-kept : (stack : StackView) (layer : Entries) → IsLayer layer → IsDereferenced layer (top_layer stack) (lower_layers stack) → PassesLimit stack → ⊥
+pub limit-kept : (stack : StackView) (layer : Entries) → IsLayer layer → IsDereferenced layer (top_layer stack) (lower_layers stack) → PassesDerefLimit stack → ⊥
 limit-kept stack layer is made (entries, up, new, out) =
     let same : entries ≡ layer = entries-unique entries layer up is.in_order (λ path. new path ∙ sym (made path)) in
     let kept : keeps_limits entries ≡ true = ap keeps_limits same ∙ (λ j. is.limited j && is.counted j) in

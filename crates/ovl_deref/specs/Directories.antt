@@ -13,9 +13,9 @@ use Rattle.ovl_lookup.specs.Passes.{kids_along}
 use Rattle.ovl_lookup.specs.Sound.{is_moved}
 use Rattle.ovl_lookup.specs.Words.{top_layer, lower_layers}
 use Rattle.ovl_board.specs.declared.pieces.Piece.{Piece}
-use Rattle.ovl_board.specs.Pieces.{space_root}
-use Rattle.ovl_board.specs.Parcels.{ParcelView, IsPlain}
-use Rattle.ovl_rewrite.specs.Directories.{NamedInode, directories_among, visited_kids}
+use Rattle.ovl_rewrite.specs.Directories.{NamedInode, directories_among}
+use Rattle.ovl_rewrite.specs.NewLayers.{IsWalkWithin}
+use Rattle.ovl_rewrite.specs.Passes.{InodesParcel}
 use Rattle.ovl_deref.specs.Deref.{any_prefix, dereferenced_at}
 
 -- the path or a directory above it is moved
@@ -54,11 +54,6 @@ deref_out stack piece = inodes_in stack piece.dir
 abbrev pub deref_depth : StackView → ℕ
 deref_depth stack = depth_limit * length stack.layers
 
--- its root
-abbrev pub deref_root : Piece
-deref_root = space_root 0
-
 -- the parcels of the plain walk over all that a manifest can hold of the new layer
-abbrev pub IsDerefWalk : StackView → List (ParcelView (List NamedInode)) → Type 0
-IsDerefWalk stack parcels =
-    IsPlain (visited_kids (deref_kids stack)) (deref_out stack) deref_root parcels
+abbrev pub IsDerefWalk : StackView → List InodesParcel → Type 0
+IsDerefWalk stack parcels = IsWalkWithin (deref_kids stack) (deref_out stack) parcels

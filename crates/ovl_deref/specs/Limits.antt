@@ -8,7 +8,7 @@ use Rattle.ovl_rewrite.specs.Limits.{keeps_limits}
 use Rattle.ovl_deref.specs.Deref.{IsDereferenced}
 
 -- the entries of the new topmost layer of a stack, in path order, don't keep them
-abbrev pub PassesLimit : StackView → Type 0
-PassesLimit stack =
+abbrev pub PassesDerefLimit : StackView → Type 0
+PassesDerefLimit stack =
     (entries : Entries) × (ascends entry_cmp entries ≡ true)
     × IsDereferenced entries (top_layer stack) (lower_layers stack) × (keeps_limits entries ≡ false)

@@ -6,7 +6,7 @@ ghost use Rattle.ovl_rewrite.specs.declared.faults.RewriteFault.TheVariants.{Lim
 ghost use Rattle.ovl_rewrite.specs.Directories.{inodes_seen};
 ghost use Rattle.ovl_deref.specs.Deref.{IsDereferenced};
 ghost use Rattle.ovl_deref.specs.Directories.{IsDerefWalk};
-ghost use Rattle.ovl_deref.specs.Limits.{PassesLimit};
+ghost use Rattle.ovl_deref.specs.Limits.{PassesDerefLimit};
 
 use crate::works::DerefWork;
 use ovl_board::Parcel;
@@ -27,8 +27,8 @@ pub fn finish_deref(
     requires { IsDerefWalk work.now (parcel_views inodes_seen parcels.items) }
     ensures layer { IfOk result
         (λ layer. IsDereferenced layer (top_layer work.now) (lower_layers work.now)) }
-    ensures kept { IfOk result (λ _. PassesLimit work.now → ⊥) }
-    ensures limit { IsSoundStack work.now → result ≡ Err LimitOut → PassesLimit work.now }
+    ensures kept { IfOk result (λ _. PassesDerefLimit work.now → ⊥) }
+    ensures limit { IsSoundStack work.now → result ≡ Err LimitOut → PassesDerefLimit work.now }
 {
     // Each layer of a stack is one.
     let _layers = work.stack.ordinary();

@@ -40,36 +40,25 @@ use Rattle.ovl_engine.specs.MergesDown.{KeepsTreeDown, count_in}
 
 -- ---- a stack without faults is sound
 
-no_layer_fault : (found : List Finding) → list_all (λ one. cond (is_fault one.code) 1 0 == 0) found ≡ true → list_any (λ one. is_layer_fault one.code) found ≡ false
-no_layer_fault [] none = refl
-no_layer_fault (one ∷ found) none = by (no_layer_fault found parts.1) (is_layer_fault one.code) refl
+-- no finding of a clean check is a fault, or what faults alone are
+no_fault : (test : Finding → Bool) → ((one : Finding) → test one ≡ true → is_fault one.code ≡ true) → (found : List Finding) → list_all (λ one. cond (is_fault one.code) 1 0 == 0) found ≡ true → list_any test found ≡ false
+no_fault test faulty [] none = refl
+no_fault test faulty (one ∷ found) none = by (no_fault test faulty found parts.1) (test one) refl
   where
     parts : ((cond (is_fault one.code) 1 0 == 0) ≡ true) × (list_all (λ one. cond (is_fault one.code) 1 0 == 0) found ≡ true)
     parts = both {a = cond (is_fault one.code) 1 0 == 0} {b = list_all (λ one. cond (is_fault one.code) 1 0 == 0) found} none
 
-    by : list_any (λ one. is_layer_fault one.code) found ≡ false → (b : Bool) → is_layer_fault one.code ≡ b → (b || list_any (λ one. is_layer_fault one.code) found) ≡ false
+    by : list_any test found ≡ false → (b : Bool) → test one ≡ b → (b || list_any test found) ≡ false
     by later false e = later
-    by later true e = let bad : false ≡ true = sym (ap (λ b. cond (b || is_blob_fault one.code) 1 0 == 0) e) ∙ parts.0 in cc
-
--- no finding of a clean check is a fault
-no_fault : (found : List Finding) → list_all (λ one. cond (is_fault one.code) 1 0 == 0) found ≡ true → list_any (λ one. is_fault one.code) found ≡ false
-no_fault [] none = refl
-no_fault (one ∷ found) none = by (no_fault found parts.1) (is_fault one.code) refl
-  where
-    parts : ((cond (is_fault one.code) 1 0 == 0) ≡ true) × (list_all (λ one. cond (is_fault one.code) 1 0 == 0) found ≡ true)
-    parts = both {a = cond (is_fault one.code) 1 0 == 0} {b = list_all (λ one. cond (is_fault one.code) 1 0 == 0) found} none
-
-    by : list_any (λ one. is_fault one.code) found ≡ false → (b : Bool) → is_fault one.code ≡ b → (b || list_any (λ one. is_fault one.code) found) ≡ false
-    by later false e = later
-    by later true e = let bad : false ≡ true = sym (ap (λ b. cond b 1 0 == 0) e) ∙ parts.0 in cc
+    by later true e = let bad : false ≡ true = sym (ap (λ b. cond b 1 0 == 0) (faulty one e)) ∙ parts.0 in cc
 
 pub clean-faultless : (found : List Finding) → is_clean found ≡ true → list_any (λ one. is_fault one.code) found ≡ false
-clean-faultless found clean = no_fault found (sym (sum_by-zero (λ (one : Finding). cond (is_fault one.code) 1 0) found) ∙ clean)
+clean-faultless found clean = no_fault (λ one. is_fault one.code) (λ one e. e) found (sym (sum_by-zero (λ (one : Finding). cond (is_fault one.code) 1 0) found) ∙ clean)
 
 pub clean-sound : FindingsTellSoundness → (blobs : List BlobView) (stack : StackView) → is_clean (findings blobs stack) ≡ true → IsSoundStack stack
 clean-sound tell blobs stack clean =
     tell blobs stack
-    ∙ ap not (no_layer_fault (findings blobs stack) (sym (sum_by-zero (λ (one : Finding). cond (is_fault one.code) 1 0) (findings blobs stack)) ∙ clean))
+    ∙ ap not (no_fault (λ one. is_layer_fault one.code) (λ one e. ap (λ b. b || is_blob_fault one.code) e) (findings blobs stack) (sym (sum_by-zero (λ (one : Finding). cond (is_fault one.code) 1 0) (findings blobs stack)) ∙ clean))
 
 -- ---- new layers in place of the topmost
 

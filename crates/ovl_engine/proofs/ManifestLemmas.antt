@@ -12,7 +12,7 @@ use Rattle.ovl_layer.specs.declared.faults.LayerFault.{LayerFault}
 use Rattle.ovl_layer.specs.declared.faults.LayerFault.TheVariants.{NotJson, Shape, Version, Count, Entry, Order, NoParent, Root, Escaped, Memory as UnreadMemory}
 use Rattle.ovl_engine.specs.declared.faults.EngineFault.{EngineFault}
 use Rattle.ovl_engine.specs.declared.faults.EngineFault.TheVariants.{Workers, Layers, Layer, BlobOrder, BlobSize, NoLower, Faulty, LimitOut, Run, Memory, DataLayers}
-use Rattle.ovl_engine.specs.Refusals.{layers_from, under_layer, unread_layer, stated_layers, first_unread, IsUnread}
+use Rattle.ovl_engine.specs.Refusals.{layers_from, under_layer, unread_layer, stated_layers, first_unread, IsUnreadLayer}
 
 -- layers on top of what others give
 abbrev over : List Entries → Result (List Entries) EngineFault → Result (List Entries) EngineFault
@@ -77,7 +77,7 @@ unread : (k : ℕ) (read : List (List ℕ)) (layers : List Entries) (manifest : 
 unread k read layers manifest more fault all is = behind k read (manifest ∷ more) layers all ∙ rw (is, layers_from) refl
 
 -- what is told of a layer that isn't read
-pub told : (index : ℕ) (one : Result Entries LayerFault) (all : Result (List Entries) EngineFault) → ((fault : LayerFault) → one ≡ Err fault → all ≡ Err (Layer index fault)) → (fault : LayerFault) → IsFaultOf one fault → IsUnread all (unread_layer index fault)
+pub told : (index : ℕ) (one : Result Entries LayerFault) (all : Result (List Entries) EngineFault) → ((fault : LayerFault) → one ≡ Err fault → all ≡ Err (Layer index fault)) → (fault : LayerFault) → IsFaultOf one fault → IsUnreadLayer all (unread_layer index fault)
 told index one all fails NotJson is = fails NotJson is
 told index one all fails Shape is = fails Shape is
 told index one all fails Version is = fails Version is
@@ -128,7 +128,7 @@ module _ {X : Type 0} (k : ℕ) (bytes : X → List ℕ) (read : List X) (x : X)
       ∙ ap (λ (m : ℕ). Err (Layer (k + m) fault)) (sym (number ∙ counted k (map bytes read) layers so_far)))
 
 -- what is told of some manifests is told of all, where their fault is that of all
-told_of_all : (read all : Result (List Entries) EngineFault) → ((fault : EngineFault) → read ≡ Err fault → all ≡ Err fault) → (fault : EngineFault) → IsUnread read fault → IsUnread all fault
+told_of_all : (read all : Result (List Entries) EngineFault) → ((fault : EngineFault) → read ≡ Err fault → all ≡ Err fault) → (fault : EngineFault) → IsUnreadLayer read fault → IsUnreadLayer all fault
 told_of_all read all fails (Layer index fault) is = fails (Layer index fault) is
 told_of_all read all fails Memory is = tt
 told_of_all read all fails Workers is = absurd is
@@ -148,7 +148,7 @@ module _ {X : Type 0} (k n : ℕ) (bytes : X → List ℕ) (all front back : Lis
       ap (λ (ms : List X). layers_from k (map bytes ms)) (sym ((λ j. first j ++ rest j) ∙ take-append-drop n all))
       ∙ ap (layers_from k) (map-append bytes front back)
 
-  pub front_unread : (fault : EngineFault) → IsUnread (layers_from k (map bytes front)) fault → IsUnread (layers_from k (map bytes all)) fault
+  pub front_unread : (fault : EngineFault) → IsUnreadLayer (layers_from k (map bytes front)) fault → IsUnreadLayer (layers_from k (map bytes all)) fault
   front_unread =
       told_of_all (layers_from k (map bytes front)) (layers_from k (map bytes all))
       (λ fault fails. in_parts ∙ before k (map bytes front) (map bytes back) fault fails)
@@ -163,7 +163,7 @@ module _ {X : Type 0} (k n : ℕ) (bytes : X → List ℕ) (all front back : Lis
     pub both_read : (more : List Entries) → layers_from (k + n) (map bytes back) ≡ Ok more → layers_from k (map bytes all) ≡ Ok (layers ++ more)
     both_read more is = over_back ∙ ap (over layers) is
 
-    pub back_unread : (fault : EngineFault) → IsUnread (layers_from (k + n) (map bytes back)) fault → IsUnread (layers_from k (map bytes all)) fault
+    pub back_unread : (fault : EngineFault) → IsUnreadLayer (layers_from (k + n) (map bytes back)) fault → IsUnreadLayer (layers_from k (map bytes all)) fault
     back_unread =
         told_of_all (layers_from (k + n) (map bytes back)) (layers_from k (map bytes all))
         (λ fault fails. over_back ∙ ap (over layers) fails)

@@ -11,7 +11,7 @@ use Rattle.ovl_check.specs.Blobs.{BlobView}
 use Rattle.ovl_check.specs.Findings.{findings}
 use Rattle.ovl_merge.specs.Places.{merge_of}
 use Rattle.ovl_merge.specs.MergeDown.{IsMergedDown}
-use Rattle.ovl_merge.specs.Limits.{PassesLimit}
+use Rattle.ovl_merge.specs.Limits.{PassesMergeLimit}
 use Rattle.ovl_commands.specs.declared.requests.Command.TheVariants.{Merge}
 use Rattle.ovl_commands.specs.declared.requests.Answer.{Answer}
 use Rattle.ovl_engine.specs.declared.faults.EngineFault.{EngineFault}
@@ -28,7 +28,7 @@ pub record IsLeftByMerge (stack next : StackView) : Type 0 where
   pub lower : Entries
   pub is_layer : IsLayer lower
   pub merged : IsMergedDown (merge_of stack) lower
-  pub within : PassesLimit (merge_of stack) → ⊥
+  pub within : PassesMergeLimit (merge_of stack) → ⊥
   pub same : next ≡ over lower (from_layer 2 stack)
 
 -- a merge leads from a stack, in which no fault is found with these blobs, to the one that it

@@ -17,15 +17,15 @@ use Rattle.ovl_check.specs.Findings.{findings}
 use Rattle.ovl_vacuum.specs.Vacuum.{vacuumed_layer, removed_paths}
 use Rattle.ovl_vacuum.specs.Directories.{vacuum_kids, vacuum_root}
 use Rattle.ovl_deref.specs.Deref.{IsDereferenced}
-use Rattle.ovl_deref.specs.Directories.{deref_kids, deref_root}
-use Rattle.ovl_deref.specs.Limits.{PassesLimit}
+use Rattle.ovl_deref.specs.Directories.{deref_kids}
+use Rattle.ovl_deref.specs.Limits.{PassesDerefLimit}
 use Rattle.ovl_merge.specs.Places.{merge_of}
 use Rattle.ovl_merge.specs.MergeDown.{IsMergedDown, merged_top}
-use Rattle.ovl_merge.specs.Directories.{merge_kids, merge_root}
-use Rattle.ovl_merge.specs.Limits.{PassesLimit as PassesLimitMerged}
+use Rattle.ovl_merge.specs.Directories.{merge_kids}
+use Rattle.ovl_merge.specs.Limits.{PassesMergeLimit}
 use Rattle.ovl_flatten.specs.Flatten.{IsFlattened}
-use Rattle.ovl_flatten.specs.Directories.{flatten_kids, flatten_root}
-use Rattle.ovl_flatten.specs.Limits.{PassesLimit as PassesLimitFlattened}
+use Rattle.ovl_flatten.specs.Directories.{flatten_kids}
+use Rattle.ovl_flatten.specs.Limits.{PassesFlattenLimit}
 use Rattle.ovl_reports.specs.Listings.{IsShowReport}
 use Rattle.ovl_engine.specs.FsckReports.{fsck_report, is_clean}
 use Rattle.ovl_reports.specs.VacuumReports.{vacuum_report}
@@ -74,7 +74,7 @@ pub record IsUnfolded (stack : StackView) (answer : Answer) : Type 0 where
   pub new : Entries
   pub is_layer : IsLayer new
   pub dereferenced : IsDereferenced new (top_layer stack) (lower_layers stack)
-  pub within : PassesLimit stack → ⊥
+  pub within : PassesDerefLimit stack → ⊥
   pub rewritten : IsRewritten (layer_report new) (new ∷ []) answer
 
 -- the answer of merge has and tells what the two topmost layers of this stack are as one, under the
@@ -83,7 +83,7 @@ pub record IsMergedInto (stack : StackView) (answer : Answer) : Type 0 where
   pub lower : Entries
   pub is_layer : IsLayer lower
   pub merged : IsMergedDown (merge_of stack) lower
-  pub within : PassesLimitMerged (merge_of stack) → ⊥
+  pub within : PassesMergeLimit (merge_of stack) → ⊥
   pub rewritten : IsRewritten (layer_report lower) (merged_top (merge_of stack) ∷ lower ∷ []) answer
 
 -- the answer of flatten has and tells what this stack shows, as one layer
@@ -91,7 +91,7 @@ pub record IsFlattenedInto (stack : StackView) (answer : Answer) : Type 0 where
   pub new : Entries
   pub is_layer : IsLayer new
   pub flattened : IsFlattened new stack
-  pub within : PassesLimitFlattened stack → ⊥
+  pub within : PassesFlattenLimit stack → ⊥
   pub rewritten : IsRewritten (layer_report new) (new ∷ []) answer
 
 -- the answer of a command over this stack, of which this is found
@@ -136,9 +136,9 @@ abbrev pub MayRefuseOwn : Command → StackView → (Piece → Type 0) → Type 
 MayRefuseOwn Show stack may_refuse = MayBeRefused (show_kids stack) may_refuse show_root
 MayRefuseOwn Fsck stack may_refuse = ⊥
 MayRefuseOwn Vacuum stack may_refuse = MayBeRefused (vacuum_kids stack) may_refuse vacuum_root
-MayRefuseOwn Deref stack may_refuse = MayBeRefused (deref_kids stack) may_refuse deref_root
-MayRefuseOwn Merge stack may_refuse = MayBeRefused (merge_kids stack) may_refuse merge_root
-MayRefuseOwn Flatten stack may_refuse = MayBeRefused (flatten_kids stack) may_refuse flatten_root
+MayRefuseOwn Deref stack may_refuse = MayBeRefused (deref_kids stack) may_refuse (space_root 0)
+MayRefuseOwn Merge stack may_refuse = MayBeRefused (merge_kids stack) may_refuse (space_root 0)
+MayRefuseOwn Flatten stack may_refuse = MayBeRefused (flatten_kids stack) may_refuse (space_root 0)
 
 -- the gate may refuse a piece that is reached where the command is run over this stack and blobs
 abbrev pub MayRefuse : Command → StackView → List BlobView → (Piece → Type 0) → Type 0
@@ -164,9 +164,9 @@ abbrev pub PassesNewLimit : Command → StackView → Type 0
 PassesNewLimit Show stack = ⊥
 PassesNewLimit Fsck stack = ⊥
 PassesNewLimit Vacuum stack = ⊥
-PassesNewLimit Deref stack = PassesLimit stack
-PassesNewLimit Merge stack = PassesLimitMerged (merge_of stack)
-PassesNewLimit Flatten stack = PassesLimitFlattened stack
+PassesNewLimit Deref stack = PassesDerefLimit stack
+PassesNewLimit Merge stack = PassesMergeLimit (merge_of stack)
+PassesNewLimit Flatten stack = PassesFlattenLimit stack
 
 abbrev pub IsLimitedOut : Command → StackView → List Finding → Type 0
 IsLimitedOut command stack found = (is_clean found ≡ true) × PassesNewLimit command stack

@@ -108,15 +108,15 @@ failed_merge MergeLimit = LimitOut
 failed_merge MergeMemory = Memory
 
 -- why manifests aren't all read; out of memory may come at any time
-abbrev pub IsUnread : Result (List Entries) EngineFault → EngineFault → Type 0
-IsUnread read (Layer index fault) = read ≡ Err (Layer index fault)
-IsUnread read Memory = ⊤
-IsUnread read Workers = ⊥
-IsUnread read Layers = ⊥
-IsUnread read BlobOrder = ⊥
-IsUnread read BlobSize = ⊥
-IsUnread read NoLower = ⊥
-IsUnread read (Faulty report) = ⊥
-IsUnread read LimitOut = ⊥
-IsUnread read (Run fault) = ⊥
-IsUnread read DataLayers = ⊥
+abbrev pub IsUnreadLayer : Result (List Entries) EngineFault → EngineFault → Type 0
+IsUnreadLayer read (Layer index fault) = read ≡ Err (Layer index fault)
+IsUnreadLayer read Memory = ⊤
+IsUnreadLayer read Workers = ⊥
+IsUnreadLayer read Layers = ⊥
+IsUnreadLayer read BlobOrder = ⊥
+IsUnreadLayer read BlobSize = ⊥
+IsUnreadLayer read NoLower = ⊥
+IsUnreadLayer read (Faulty report) = ⊥
+IsUnreadLayer read LimitOut = ⊥
+IsUnreadLayer read (Run fault) = ⊥
+IsUnreadLayer read DataLayers = ⊥

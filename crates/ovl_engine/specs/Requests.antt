@@ -15,8 +15,8 @@ pub record Request : Type 0 where
   pub workers : ℕ
 
 -- manifests in memory
-abbrev pub Texts : Type 0
-Texts = List (Vec ℕ Global)
+abbrev pub ManifestTexts : Type 0
+ManifestTexts = List (Vec ℕ Global)
 
 -- the request of these arguments
 abbrev pub request_of : Command → List (Vec ℕ Global) → ℕ → List Blob → ℕ → Request

@@ -4,7 +4,7 @@ ghost use Rattle.ovl_lookup.specs.Words.{top_layer, lower_layers};
 ghost use Rattle.ovl_board.specs.Machine.{worker_limit};
 ghost use Rattle.ovl_check.specs.declared.findings.Finding.{Finding};
 ghost use Rattle.ovl_deref.specs.Deref.{IsDereferenced};
-ghost use Rattle.ovl_deref.specs.Limits.{PassesLimit};
+ghost use Rattle.ovl_deref.specs.Limits.{PassesDerefLimit};
 ghost use Rattle.ovl_commands.specs.declared.requests.Command.TheVariants.{Deref};
 ghost use Rattle.ovl_engine.specs.FsckReports.{is_clean};
 ghost use Rattle.ovl_engine.specs.Outcomes.{IsFailure, IsRun, MayRefuseOwn};
@@ -56,7 +56,7 @@ fn dereferenced<G: Gate + Sync, R: Threads + Wait + Sync>(
     requires sound { IsSoundStack stack.now }
     ensures layer { IfOk result
         (λ layer. IsDereferenced layer (top_layer stack.now) (lower_layers stack.now)) }
-    ensures within { IfOk result (λ _. PassesLimit stack.now → ⊥) }
+    ensures within { IfOk result (λ _. PassesDerefLimit stack.now → ⊥) }
     ensures fault { IfErr result (λ fault. (found : List Finding) → is_clean found ≡ true
         → IsFailure Deref stack.now found
         (MayRefuseOwn Deref stack.now (G.may_refuse team.now.gate.now)) fault) }

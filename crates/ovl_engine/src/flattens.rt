@@ -3,7 +3,7 @@ ghost use Rattle.ovl_lookup.specs.Sound.{IsSoundStack};
 ghost use Rattle.ovl_board.specs.Machine.{worker_limit};
 ghost use Rattle.ovl_check.specs.declared.findings.Finding.{Finding};
 ghost use Rattle.ovl_flatten.specs.Flatten.{IsFlattened};
-ghost use Rattle.ovl_flatten.specs.Limits.{PassesLimit};
+ghost use Rattle.ovl_flatten.specs.Limits.{PassesFlattenLimit};
 ghost use Rattle.ovl_commands.specs.declared.requests.Command.TheVariants.{Flatten};
 ghost use Rattle.ovl_engine.specs.FsckReports.{is_clean};
 ghost use Rattle.ovl_engine.specs.Outcomes.{IsFailure, IsRun, MayRefuseOwn};
@@ -59,7 +59,7 @@ fn flattened<G: Gate + Sync, R: Threads + Wait + Sync>(
     requires number { (0 < team.now.workers) × (team.now.workers ≤ worker_limit) }
     requires sound { IsSoundStack stack }
     ensures layer { IfOk result (λ layer. IsFlattened layer stack) }
-    ensures within { IfOk result (λ _. PassesLimit stack → ⊥) }
+    ensures within { IfOk result (λ _. PassesFlattenLimit stack → ⊥) }
     ensures fault { IfErr result (λ fault. (found : List Finding) → is_clean found ≡ true
         → IsFailure Flatten stack found
         (MayRefuseOwn Flatten stack (G.may_refuse team.now.gate.now)) fault) }

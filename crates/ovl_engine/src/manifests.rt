@@ -1,5 +1,5 @@
 ghost use Rattle.std.specs.Prelude.{◌≡◌, IfOk, length, map};
-ghost use Rattle.ovl_engine.specs.Requests.{Texts};
+ghost use Rattle.ovl_engine.specs.Requests.{ManifestTexts};
 
 use std::alloc::{AllocError, Global};
 use std::convert::AsSlice;
@@ -10,7 +10,7 @@ pub trait Manifests {
     type Manifest: AsSlice<u8> + Send + Drop;
 
     /// All of them, whoever owns them.
-    ghost held: { Self → Texts };
+    ghost held: { Self → ManifestTexts };
 
     /// How many there are.
     fn len(&self) -> usize

@@ -4,7 +4,7 @@ ghost use Rattle.ovl_board.specs.Machine.{worker_limit};
 ghost use Rattle.ovl_check.specs.declared.findings.Finding.{Finding};
 ghost use Rattle.ovl_merge.specs.Places.{merge_of};
 ghost use Rattle.ovl_merge.specs.MergeDown.{IsMergedDown, merged_top};
-ghost use Rattle.ovl_merge.specs.Limits.{PassesLimit};
+ghost use Rattle.ovl_merge.specs.Limits.{PassesMergeLimit};
 ghost use Rattle.ovl_merge.specs.Ends.{IsMergeEnd};
 ghost use Rattle.ovl_merge.specs.Directories.{IsMergeWalk};
 ghost use Rattle.ovl_rewrite.specs.Directories.{inodes_seen};
@@ -65,7 +65,7 @@ fn merged<G: Gate + Sync, R: Threads + Wait + Sync>(
     requires sound { IsSoundStack stack }
     ensures top { IfOk result (λ done. done.top ≡ merged_top (merge_of stack)) }
     ensures lower { IfOk result (λ done. IsMergedDown (merge_of stack) done.lower) }
-    ensures within { IfOk result (λ _. PassesLimit (merge_of stack) → ⊥) }
+    ensures within { IfOk result (λ _. PassesMergeLimit (merge_of stack) → ⊥) }
     ensures fault { IfErr result (λ fault. (found : List Finding) → is_clean found ≡ true
         → IsFailure Merge stack found
         (MayRefuseOwn Merge stack (G.may_refuse team.now.gate.now)) fault) }

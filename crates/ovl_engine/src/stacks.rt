@@ -1,7 +1,7 @@
 ghost use Rattle.std.specs.Prelude.{◌≡◌, ◌+◌, ◌-◌, ◌^◌, ◌<◌, ◌≤◌, None, Ok, IfOk, IfErr, MatchResult, length, map};
 ghost use Rattle.std.specs.Thread.{IsSync, IsSend};
 ghost use Rattle.ovl_lookup.specs.Stacks.{layer_limit, stack_with};
-ghost use Rattle.ovl_engine.specs.Refusals.{layers_from, stated_layers, first_unread, IsUnread};
+ghost use Rattle.ovl_engine.specs.Refusals.{layers_from, stated_layers, first_unread, IsUnreadLayer};
 
 use crate::faults::EngineFault;
 use ovl_layer::Sheet;
@@ -29,7 +29,7 @@ pub(crate) fn read_stack<R: Threads + Sync, M: AsSlice<u8> + Send + Drop>(
         (λ stack. stack ≡ stack_with (stated_layers (map M.items manifests.items)) bottom) }
     ensures count { IfOk result (λ stack. length stack.layers ≡ length manifests.items - bottom) }
     ensures unread { IfErr result
-        (λ fault. IsUnread (layers_from 0 (map M.items manifests.items)) fault) }
+        (λ fault. IsUnreadLayer (layers_from 0 (map M.items manifests.items)) fault) }
 {
     let ordinary = manifests.len() - usize::from(bottom);
     let share = manifests.len().div_ceil(workers);
@@ -56,7 +56,7 @@ fn read_layers<R: Threads + Sync, M: AsSlice<u8> + Send + Drop>(
     requires room { first + length manifests.items < 2 ^ 64 }
     ensures { MatchResult result
         (λ layers. layers_from first (map M.items manifests.items) ≡ Ok layers.items)
-        (λ fault. IsUnread (layers_from first (map M.items manifests.items)) fault) }
+        (λ fault. IsUnreadLayer (layers_from first (map M.items manifests.items)) fault) }
 {
     if manifests.len() <= share {
         return read_share(alloc, first, manifests);
@@ -67,7 +67,7 @@ fn read_layers<R: Threads + Sync, M: AsSlice<u8> + Send + Drop>(
         requires { first + length manifests.items < 2 ^ 64 }
         ensures { MatchResult result
             (λ layers. layers_from first (map M.items manifests.items) ≡ Ok layers.items)
-            (λ fault. IsUnread (layers_from first (map M.items manifests.items)) fault) }
+            (λ fault. IsUnreadLayer (layers_from first (map M.items manifests.items)) fault) }
     { read_share(alloc, first, manifests) };
     let back = || -> Result<Vec<Sheet>, EngineFault>
         requires shared { IsSync R.row × IsSend M.row }
@@ -75,7 +75,7 @@ fn read_layers<R: Threads + Sync, M: AsSlice<u8> + Send + Drop>(
         requires room { behind + length rest.items < 2 ^ 64 }
         ensures { MatchResult result
             (λ layers. layers_from behind (map M.items rest.items) ≡ Ok layers.items)
-            (λ fault. IsUnread (layers_from behind (map M.items rest.items)) fault) }
+            (λ fault. IsUnreadLayer (layers_from behind (map M.items rest.items)) fault) }
     { read_layers(rt, alloc, behind, rest, share) };
     let (read, more) = join(rt, front, back);
     let mut layers = read?;
@@ -93,7 +93,7 @@ fn read_share<M: AsSlice<u8> + Drop>(
     requires { first + length manifests.items < 2 ^ 64 }
     ensures { MatchResult result
         (λ layers. layers_from first (map M.items manifests.items) ≡ Ok layers.items)
-        (λ fault. IsUnread (layers_from first (map M.items manifests.items)) fault) }
+        (λ fault. IsUnreadLayer (layers_from first (map M.items manifests.items)) fault) }
 {
     let mut layers = Vec::new(alloc);
     for manifest in manifests {

@@ -1,4 +1,4 @@
-ghost use Rattle.std.specs.Prelude.{◌≡◌, ◌<◌, ◌≤◌, true, IfOk, MatchResult};
+ghost use Rattle.std.specs.Prelude.{◌≡◌, ◌<◌, ◌≤◌, true, IfOk, MatchResult, length};
 ghost use Rattle.ovl_board.specs.Machine.{worker_limit};
 ghost use Rattle.ovl_lookup.specs.Sound.{IsSoundStack};
 ghost use Rattle.ovl_commands.specs.declared.requests.Command.TheVariants.{Vacuum};
@@ -14,8 +14,9 @@ use crate::teams::Team;
 use ovl_check::Finding;
 use ovl_commands::Answer;
 use ovl_lookup::Stack;
+use ovl_names::Path;
 use ovl_pool::Gate;
-use ovl_reports::{entry_count, vacuum_report_of};
+use ovl_reports::vacuum_report_of;
 use ovl_vacuum::laws::{vacuum_keeps_soundness, vacuum_keeps_the_tree};
 use ovl_vacuum::{VacuumDone, VacuumWork, finish_vacuum};
 use std::alloc::AllocError;
@@ -41,9 +42,9 @@ pub(crate) fn vacuum<G: Gate + Sync, R: Threads + Wait + Sync>(
     vacuum_keeps_soundness();
     expect_clean(team.alloc, found)?;
     let done = vacuumed(team, &stack)?;
+    let kept = kept_of(&stack, &done.removed);
     let_go(team.rt, team.alloc, stack, team.workers);
     let VacuumDone { layer, removed } = done;
-    let kept = entry_count(&layer)?;
     let alloc = team.alloc;
     let report = || -> Result<Vec<u8>, AllocError>
         ensures { IfOk result (λ report. report.items ≡ vacuum_report removed.items kept) }
@@ -66,4 +67,12 @@ fn vacuumed<G: Gate + Sync, R: Threads + Wait + Sync>(
     let work = VacuumWork::new(stack);
     let parcels = team.walk(&work, 0)?;
     Ok(finish_vacuum(team.alloc, &work, parcels)?)
+}
+
+// How many entries vacuum keeps: those of the topmost layer that don't go.
+fn kept_of(stack: &Stack, removed: &[Path]) -> u64
+    requires { removed.now ≡ removed_by_vacuum stack.now }
+    ensures { result ≡ length (left_by_vacuum stack.now) }
+{
+    u64::from(stack.top().len()) - removed.len() as u64
 }

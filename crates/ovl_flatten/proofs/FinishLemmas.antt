@@ -20,7 +20,7 @@ use Rattle.ovl_rewrite.specs.Limits.{keeps_limits}
 use Rattle.ovl_lookup.specs.Passes.{kids_along}
 use Rattle.ovl_flatten.specs.Flatten.{flattened_at, IsFlattened}
 use Rattle.ovl_flatten.specs.Directories.{flatten_depth, IsFlattenWalk}
-use Rattle.ovl_flatten.specs.Limits.{PassesLimit}
+use Rattle.ovl_flatten.specs.Limits.{PassesFlattenLimit}
 use Rattle.ovl_flatten.proofs.DirectoryLemmas.{told}
 use Rattle.ovl_flatten.proofs.FlattenLemmas.{root-shown, layer-but_limits}
 
@@ -36,17 +36,17 @@ module _ (stack : StackView) (each : All IsLayer stack.layers) (some : 0 < lengt
   walk-tells root views here walk = record { names = kids_along stack; deepest = flatten_depth stack; told = told stack each; rooted = root-told root here; walk = walk }
 
   -- over a sound stack its entries are a layer, or pass a limit
-  pub limit-passed : All IsLayer stack.data_only → IsSoundStack stack → (entries : Entries) → ascends entry_cmp entries ≡ true → IsFlattened entries stack → (IsLayer entries → ⊥) → PassesLimit stack
+  pub limit-passed : All IsLayer stack.data_only → IsSoundStack stack → (entries : Entries) → ascends entry_cmp entries ≡ true → IsFlattened entries stack → (IsLayer entries → ⊥) → PassesFlattenLimit stack
   limit-passed deep sound entries up new refused = by (keeps_limits entries) refl
     where
-      by : (b : Bool) → keeps_limits entries ≡ b → PassesLimit stack
+      by : (b : Bool) → keeps_limits entries ≡ b → PassesFlattenLimit stack
       by false e = (entries, up, new, e)
       by true e =
           let parts = both {a = list_all (λ (entry : Entry). is_within_limits entry.0) entries} {b = nat_le (length entries) entry_limit} e in
           absurd (refused (layer-but_limits stack each sound some deep entries up new parts.0 parts.1))
 
 -- a layer that is given keeps the limits
-pub limit-kept : (stack : StackView) (layer : Entries) → IsLayer layer → IsFlattened layer stack → PassesLimit stack → ⊥
+pub limit-kept : (stack : StackView) (layer : Entries) → IsLayer layer → IsFlattened layer stack → PassesFlattenLimit stack → ⊥
 limit-kept stack layer is made (entries, up, new, out) =
     let same : entries ≡ layer = entries-unique entries layer up is.in_order (λ path. new path ∙ sym (made path)) in
     let kept : keeps_limits entries ≡ true = ap keeps_limits same ∙ (λ j. is.limited j && is.counted j) in

@@ -5,9 +5,9 @@ use Rattle.ovl_names.specs.Paths.{depth_limit}
 use Rattle.ovl_lookup.specs.Stacks.{StackView}
 use Rattle.ovl_lookup.specs.ShownInodes.{shown_inodes}
 use Rattle.ovl_board.specs.declared.pieces.Piece.{Piece}
-use Rattle.ovl_board.specs.Pieces.{space_root}
-use Rattle.ovl_board.specs.Parcels.{ParcelView, IsPlain}
-use Rattle.ovl_rewrite.specs.Directories.{NamedInode, directories_among, visited_kids}
+use Rattle.ovl_rewrite.specs.Directories.{NamedInode, directories_among}
+use Rattle.ovl_rewrite.specs.NewLayers.{IsWalkWithin}
+use Rattle.ovl_rewrite.specs.Passes.{InodesParcel}
 
 -- the kids of a directory are the directories in it, and its output is each name in it, in order,
 -- with its inode
@@ -21,11 +21,6 @@ flatten_out stack piece = shown_inodes stack piece.dir
 abbrev pub flatten_depth : StackView → ℕ
 flatten_depth stack = depth_limit * length stack.layers
 
--- its root
-abbrev pub flatten_root : Piece
-flatten_root = space_root 0
-
 -- the parcels of the plain walk over all that a manifest can hold of the flattened layer
-abbrev pub IsFlattenWalk : StackView → List (ParcelView (List NamedInode)) → Type 0
-IsFlattenWalk stack parcels =
-    IsPlain (visited_kids (flatten_kids stack)) (flatten_out stack) flatten_root parcels
+abbrev pub IsFlattenWalk : StackView → List InodesParcel → Type 0
+IsFlattenWalk stack parcels = IsWalkWithin (flatten_kids stack) (flatten_out stack) parcels

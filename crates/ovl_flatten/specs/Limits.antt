@@ -7,7 +7,7 @@ use Rattle.ovl_rewrite.specs.Limits.{keeps_limits}
 use Rattle.ovl_flatten.specs.Flatten.{IsFlattened}
 
 -- the entries of the flattened layer of a stack, in path order, don't keep them
-abbrev pub PassesLimit : StackView → Type 0
-PassesLimit stack =
+abbrev pub PassesFlattenLimit : StackView → Type 0
+PassesFlattenLimit stack =
     (entries : Entries) × (ascends entry_cmp entries ≡ true) × IsFlattened entries stack
     × (keeps_limits entries ≡ false)

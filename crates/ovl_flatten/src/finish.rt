@@ -8,7 +8,7 @@ ghost use Rattle.ovl_rewrite.specs.Directories.{inodes_seen};
 ghost use Rattle.ovl_flatten.specs.Flatten.{IsFlattened};
 ghost use Rattle.ovl_flatten.specs.Directories.{IsFlattenWalk};
 ghost use Rattle.ovl_flatten.specs.Ends.{IsFlattenEnd};
-ghost use Rattle.ovl_flatten.specs.Limits.{PassesLimit};
+ghost use Rattle.ovl_flatten.specs.Limits.{PassesFlattenLimit};
 
 use crate::works::FlattenWork;
 use ovl_board::Parcel;
@@ -50,11 +50,11 @@ impl FlattenEnd {
             → IsFlattenWalk stack (parcel_views inodes_seen parcels.items)
             → IsFlattened layer stack) }
         ensures kept { IfOk result (λ _. (stack : StackView) → IsFlattenEnd stack self
-            → IsFlattenWalk stack (parcel_views inodes_seen parcels.items) → PassesLimit stack
+            → IsFlattenWalk stack (parcel_views inodes_seen parcels.items) → PassesFlattenLimit stack
             → ⊥) }
         ensures limit { result ≡ Err LimitOut → (stack : StackView) → IsFlattenEnd stack self
             → IsSoundStack stack
-            → IsFlattenWalk stack (parcel_views inodes_seen parcels.items) → PassesLimit stack }
+            → IsFlattenWalk stack (parcel_views inodes_seen parcels.items) → PassesFlattenLimit stack }
     {
         layer_within(alloc, self.root, parcels)
     }
@@ -71,8 +71,8 @@ pub fn finish_flatten(
     requires { IsFlattenWalk work.now (parcel_views inodes_seen parcels.items) }
     ensures is { IfOk result (λ layer. IsLayer layer) }
     ensures layer { IfOk result (λ layer. IsFlattened layer work.now) }
-    ensures kept { IfOk result (λ _. PassesLimit work.now → ⊥) }
-    ensures limit { IsSoundStack work.now → result ≡ Err LimitOut → PassesLimit work.now }
+    ensures kept { IfOk result (λ _. PassesFlattenLimit work.now → ⊥) }
+    ensures limit { IsSoundStack work.now → result ≡ Err LimitOut → PassesFlattenLimit work.now }
 {
     work.end(alloc)?.finish(alloc, parcels)
 }

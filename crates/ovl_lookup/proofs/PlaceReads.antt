@@ -1,7 +1,8 @@
 -- What is found from a place on, by what stands at a name there; the place is read from a list by its number.
-use Rattle.std.proofs.Common.{◌≡◌, ℕ, ◌+◌, ◌<◌, length, true, false, Some, None, List, [], drop}
+use Rattle.std.proofs.Common.{◌≡◌, ◌∙◌, ℕ, ◌+◌, ◌<◌, length, true, false, Some, None, List, [], drop}
 use Rattle.std.specs.Prelude.{slice_get}
 use Rattle.ovl_names.specs.Names.{PathName}
+use Rattle.ovl_names.specs.Paths.{PathNames}
 use Rattle.ovl_inode.specs.declared.inodes.Inode.{Inode}
 use Rattle.ovl_inode.specs.Marks.{is_directory, is_whiteout, is_data, is_metacopy_mark}
 use Rattle.ovl_lookup.specs.declared.looks.Look.TheVariants.{Nothing}
@@ -13,10 +14,11 @@ use Rattle.ovl_lookup.specs.Merged.{shown_of, place_of_data}
 use Rattle.ovl_lookup.specs.Sights.{sight_of, sight_of_kind}
 use Rattle.ovl_lookup.specs.Passes.{data_below}
 use Rattle.ovl_lookup.specs.Views.{Reached, entry_in, below_entry, found_below, reached_below}
+use Rattle.ovl_lookup.specs.Onwards.{path_on, name_on}
 use Rattle.ovl_lookup.specs.DirViews.{IsEntryIn, place_in, places_in}
 use Rattle.ovl_lookup.proofs.ViewSteps.{below-none, below-file, found-none}
-use Rattle.ovl_lookup.proofs.DirViewLemmas.{place_read, place-read}
-use Rattle.ovl_lookup.proofs.ViewLookLemmas.{whiteout-shows, entry-sight, whiteout-data, own-data, other-data, onward-data}
+use Rattle.ovl_lookup.proofs.DirViewLemmas.{place_read, place-read, on-path, on-name, on-none}
+use Rattle.ovl_lookup.proofs.ViewLookLemmas.{whiteout-shows, entry-sight, whiteout-data, own-data, other-data, onward-data, onward-placed}
 
 module _ (stack : StackView) (name : PathName) (places : List DirPlace) (k : ℕ) (inside : k < length places) where
   abbrev own : DirPlace
@@ -59,7 +61,24 @@ module _ (stack : StackView) (name : PathName) (places : List DirPlace) (k : ℕ
     pub other-holds : is_whiteout entry.inode.now ≡ false → is_data entry.inode.now ≡ false → is_metacopy_mark entry.mark.now ≡ false → data_below stack.data_only None (found_from k) ≡ None
     other-holds white bare meta = other-data stack.data_only stack.layers name (places_in stack places) k (place_in stack own) at entry.inode.now entry.mark.now is.inode is.mark white bare meta
 
-    pub metacopy-holds : is_whiteout entry.inode.now ≡ false → is_metacopy_mark entry.mark.now ≡ true
+    metacopy-holds : is_whiteout entry.inode.now ≡ false → is_metacopy_mark entry.mark.now ≡ true
         → data_below stack.data_only None (found_from k)
         ≡ data_below stack.data_only (place_of_data entry.mark.now) (below_entry entry.mark.now name (things_found (drop (own.layer + 1) stack.layers)) (λ other. found_below stack.layers other (drop (k + 1) (places_in stack places))))
     metacopy-holds white meta = onward-data stack.data_only stack.layers name (places_in stack places) k (place_in stack own) at entry.inode.now entry.mark.now is.inode is.mark white meta
+
+    -- ... by where the walk of its mark goes on
+    module _ (white : is_whiteout entry.inode.now ≡ false) (meta : is_metacopy_mark entry.mark.now ≡ true) where
+      abbrev from_root : PathNames → List Inode
+      from_root = things_found (drop (own.layer + 1) stack.layers)
+
+      abbrev beside : PathName → List Inode
+      beside other = found_below stack.layers other (drop (k + 1) (places_in stack places))
+
+      pub path-holds : (origin : PathNames) → path_on entry.mark.now ≡ Some origin → data_below stack.data_only None (found_from k) ≡ data_below stack.data_only (Some origin) (from_root origin)
+      path-holds origin at = metacopy-holds white meta ∙ onward-placed stack.data_only entry.mark.now (Some origin) _ _ meta at (on-path name from_root beside entry.mark.now origin at)
+
+      pub name-holds : (other : PathName) → path_on entry.mark.now ≡ None → name_on entry.mark.now name ≡ Some other → data_below stack.data_only None (found_from k) ≡ data_below stack.data_only None (beside other)
+      name-holds other at by = metacopy-holds white meta ∙ onward-placed stack.data_only entry.mark.now None _ _ meta at (on-name name from_root beside entry.mark.now other by)
+
+      pub nothing-holds : path_on entry.mark.now ≡ None → name_on entry.mark.now name ≡ None → data_below stack.data_only None (found_from k) ≡ None
+      nothing-holds at by = metacopy-holds white meta ∙ onward-placed stack.data_only entry.mark.now None _ _ meta at (on-none name from_root beside entry.mark.now at by)

@@ -20,19 +20,18 @@ use Rattle.ovl_lookup.proofs.LawsOfPaths.{lookup-all, entries-unique}
 use Rattle.ovl_lookup.proofs.LawsOfWalks.{walk-whole, directory_found, directory-entry}
 use Rattle.ovl_lookup.proofs.LawsOfInodes.{sound-visible, unescaped-filter}
 use Rattle.ovl_board.specs.declared.pieces.Piece.{Piece}
-use Rattle.ovl_board.specs.Parcels.{IsPlain}
-use Rattle.ovl_rewrite.specs.Directories.{NamedInode, directories_among, visited_kids}
+use Rattle.ovl_rewrite.specs.Directories.{NamedInode, directories_among}
 use Rattle.ovl_rewrite.specs.Passes.{InodesParcel}
-use Rattle.ovl_rewrite.specs.NewLayers.{IsToldWithin}
+use Rattle.ovl_rewrite.specs.NewLayers.{IsToldWithin, IsWalkWithin}
 use Rattle.ovl_rewrite.specs.Limits.{keeps_limits}
 use Rattle.ovl_rewrite.specs.declared.faults.RewriteFault.{RewriteFault}
 use Rattle.ovl_rewrite.specs.declared.faults.RewriteFault.TheVariants.{LimitOut as LimitPassed, Memory as NoMemory}
 use Rattle.ovl_rewrite.proofs.InodeLemmas.{directory-flag}
 use Rattle.ovl_merge.specs.Places.{Merge, whole, merge_of, lower_path, first_hit, reach}
 use Rattle.ovl_merge.specs.MergeDown.{merged_directory, merged_entry, merged_entry_of, merged_top, IsMergedDown}
-use Rattle.ovl_merge.specs.Directories.{entries_in, candidate_names, merge_depth, merge_root}
+use Rattle.ovl_merge.specs.Directories.{entries_in, candidate_names, merge_depth}
 use Rattle.ovl_merge.specs.declared.faults.MergeFault.TheVariants.{NoLower, LimitOut, Memory}
-use Rattle.ovl_merge.specs.Limits.{PassesLimit, refused}
+use Rattle.ovl_merge.specs.Limits.{PassesMergeLimit, refused}
 use Rattle.ovl_merge.proofs.Firsts.{first_hit-steps, first_step}
 use Rattle.ovl_merge.proofs.Inodes.{merged-directory}
 use Rattle.ovl_merge.proofs.LayerLemmas.{upper, MergeGivesLayer-holds}
@@ -114,7 +113,7 @@ module _ (m : Merge) (each : All IsLayer (whole m).layers) where
   out piece = entries_in m piece.dir
 
   -- the plain walk tells the new lower layer
-  pub walk-tells : (root : Inode) (views : List InodesParcel) → option_map visible (entry_at m.upper []) ≡ Some root → IsPlain (visited_kids kids) out merge_root views → IsToldWithin (merged_entry m) root views
+  pub walk-tells : (root : Inode) (views : List InodesParcel) → option_map visible (entry_at m.upper []) ≡ Some root → IsWalkWithin kids out views → IsToldWithin (merged_entry m) root views
   walk-tells root views is walk =
       let own = directory-entry m.upper [] (upper m each).rooted in
       record {
@@ -126,17 +125,17 @@ module _ (m : Merge) (each : All IsLayer (whole m).layers) where
       }
 
   -- over a sound stack its entries are a layer, or pass a limit
-  pub limit-passed : All IsLayer m.rest.data_only → IsSoundStack (whole m) → (entries : Entries) → ascends entry_cmp entries ≡ true → IsMergedDown m entries → (IsLayer entries → ⊥) → PassesLimit m
+  pub limit-passed : All IsLayer m.rest.data_only → IsSoundStack (whole m) → (entries : Entries) → ascends entry_cmp entries ≡ true → IsMergedDown m entries → (IsLayer entries → ⊥) → PassesMergeLimit m
   limit-passed deep sound entries up new refused = by (keeps_limits entries) refl
     where
-      by : (b : Bool) → keeps_limits entries ≡ b → PassesLimit m
+      by : (b : Bool) → keeps_limits entries ≡ b → PassesMergeLimit m
       by false e = (entries, up, new, e)
       by true e =
           let parts = both {a = list_all (λ (entry : Entry). is_within_limits entry.0) entries} {b = nat_le (length entries) entry_limit} e in
           absurd (refused (MergeGivesLayer-holds m each deep sound entries up new parts.0 parts.1))
 
 -- a layer that is given keeps the limits
-pub limit-kept : (m : Merge) (layer : Entries) → IsLayer layer → IsMergedDown m layer → PassesLimit m → ⊥
+pub limit-kept : (m : Merge) (layer : Entries) → IsLayer layer → IsMergedDown m layer → PassesMergeLimit m → ⊥
 limit-kept m layer is made (entries, up, new, out) =
     let same : entries ≡ layer = entries-unique entries layer up is.in_order (λ path. new path ∙ sym (made path)) in
     let kept : keeps_limits entries ≡ true = ap keeps_limits same ∙ (λ j. is.limited j && is.counted j) in

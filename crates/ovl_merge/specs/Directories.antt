@@ -8,9 +8,9 @@ use Rattle.ovl_names.specs.Paths.{PathNames, child_path, depth_limit}
 use Rattle.ovl_lookup.specs.Stacks.{StackView}
 use Rattle.ovl_lookup.specs.Passes.{own_names_along, put_names, kids_along}
 use Rattle.ovl_board.specs.declared.pieces.Piece.{Piece}
-use Rattle.ovl_board.specs.Pieces.{space_root}
-use Rattle.ovl_board.specs.Parcels.{ParcelView, IsPlain}
-use Rattle.ovl_rewrite.specs.Directories.{NamedInode, directories_among, visited_kids}
+use Rattle.ovl_rewrite.specs.Directories.{NamedInode, directories_among}
+use Rattle.ovl_rewrite.specs.NewLayers.{IsWalkWithin}
+use Rattle.ovl_rewrite.specs.Passes.{InodesParcel}
 use Rattle.ovl_merge.specs.Places.{Merge, merge_of, two_layers, base}
 use Rattle.ovl_merge.specs.MergeDown.{merged_entry}
 
@@ -47,11 +47,6 @@ merge_out stack piece = entries_in (merge_of stack) piece.dir
 abbrev pub merge_depth : ℕ
 merge_depth = depth_limit * 2
 
--- its root
-abbrev pub merge_root : Piece
-merge_root = space_root 0
-
 -- the parcels of the plain walk over all that a manifest can hold of the new lower layer
-abbrev pub IsMergeWalk : StackView → List (ParcelView (List NamedInode)) → Type 0
-IsMergeWalk stack parcels =
-    IsPlain (visited_kids (merge_kids stack)) (merge_out stack) merge_root parcels
+abbrev pub IsMergeWalk : StackView → List InodesParcel → Type 0
+IsMergeWalk stack parcels = IsWalkWithin (merge_kids stack) (merge_out stack) parcels

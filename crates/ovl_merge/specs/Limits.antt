@@ -11,8 +11,8 @@ use Rattle.ovl_merge.specs.Places.{Merge}
 use Rattle.ovl_merge.specs.MergeDown.{IsMergedDown}
 
 -- the entries of the new lower layer, in path order, don't keep them
-abbrev pub PassesLimit : Merge → Type 0
-PassesLimit m =
+abbrev pub PassesMergeLimit : Merge → Type 0
+PassesMergeLimit m =
     (entries : Entries) × (ascends entry_cmp entries ≡ true) × IsMergedDown m entries
     × (keeps_limits entries ≡ false)
 

@@ -7,7 +7,7 @@ ghost use Rattle.ovl_merge.specs.declared.faults.MergeFault.TheVariants.{NoLower
 ghost use Rattle.ovl_merge.specs.Places.{merge_of};
 ghost use Rattle.ovl_merge.specs.MergeDown.{merged_top, IsMergedDown};
 ghost use Rattle.ovl_merge.specs.Directories.{IsMergeWalk};
-ghost use Rattle.ovl_merge.specs.Limits.{PassesLimit};
+ghost use Rattle.ovl_merge.specs.Limits.{PassesMergeLimit};
 ghost use Rattle.ovl_merge.specs.Ends.{IsMergeEnd};
 
 use crate::{MergeFault, MergeWork};
@@ -63,11 +63,11 @@ impl MergeEnd {
             → IsMergedDown (merge_of stack) done.lower) }
         ensures kept { IfOk result (λ _. (stack : StackView) → IsMergeEnd stack self
             → IsMergeWalk stack (parcel_views inodes_seen parcels.items)
-            → PassesLimit (merge_of stack) → ⊥) }
+            → PassesMergeLimit (merge_of stack) → ⊥) }
         ensures limit { result ≡ Err LimitOut → (stack : StackView) → IsMergeEnd stack self
             → IsSoundStack stack
             → IsMergeWalk stack (parcel_views inodes_seen parcels.items)
-            → PassesLimit (merge_of stack) }
+            → PassesMergeLimit (merge_of stack) }
         ensures two { result ≡ Err NoLower → ⊥ }
     {
         let MergeEnd { root } = self;
@@ -88,9 +88,9 @@ pub fn finish_merge(
     requires { IsMergeWalk work.now (parcel_views inodes_seen parcels.items) }
     ensures top { IfOk result (λ done. done.top ≡ merged_top (merge_of work.now)) }
     ensures lower { IfOk result (λ done. IsMergedDown (merge_of work.now) done.lower) }
-    ensures kept { IfOk result (λ _. PassesLimit (merge_of work.now) → ⊥) }
+    ensures kept { IfOk result (λ _. PassesMergeLimit (merge_of work.now) → ⊥) }
     ensures limit { IsSoundStack work.now → result ≡ Err LimitOut
-        → PassesLimit (merge_of work.now) }
+        → PassesMergeLimit (merge_of work.now) }
     ensures two { result ≡ Err NoLower → ⊥ }
 {
     work.end(alloc)?.finish(alloc, parcels)

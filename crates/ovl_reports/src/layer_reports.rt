@@ -23,59 +23,41 @@ pub fn layer_report_of(alloc: Global, layer: &Layer) -> Result<Vec<u8>, AllocErr
     ensures layer { OnOk result (IsLayer layer.now) }
 {
     let mut report = String::new(alloc);
+    let mut entries = 1;
     for node in layer.root().children() {
-        push_under(alloc, &mut report, "", node)?;
+        push_under(alloc, &mut report, &mut entries, "", node)?;
     }
-    push_count(&mut report, entry_count(layer)?)?;
+    push_count(&mut report, entries)?;
     Ok(report.into_bytes())
 }
 
-// Appends the lines of the entries at and under a node; `above` is the text of the path up to its
-// name.
+// Appends the lines of the entries at and under a node, and counts these; `above` is the text of the
+// path up to its name.
 fn push_under(
     alloc: Global,
     report: &mut String,
+    entries: &mut u64,
     above: &str,
     node: &Node,
 ) -> Result<(), AllocError>
-    ensures { OnOk result
+    ensures lines { OnOk result
         ((dir : PathNames) → above.now ≡ shown_names dir
         → string_bytes report.new ≡ string_bytes report.old
         ++ flat_map entry_line
         (placed (child_path dir node.now.name) (entries_from node.now.inode node.now.below))) }
+    ensures count { OnOk result
+        (entries.new ≡ entries.old + length (entries_from node.now.inode node.now.below)) }
 {
     let name = node.name().as_str();
     push_entry(alloc, report, above, name, node.inode())?;
+    *entries = one_more(*entries)?;
     let children = node.children();
     if children.is_empty() {
         return Ok(());
     }
     let path = text_of(alloc, above, name)?;
     for child in children {
-        push_under(alloc, report, path.as_str(), child)?;
-    }
-    Ok(())
-}
-
-/// The number of all entries of a layer. Memory can't hold as many as have none.
-pub fn entry_count(layer: &Layer) -> Result<u64, AllocError>
-    ensures { IfOk result (λ count. count ≡ length layer.now) }
-{
-    let mut entries = 1;
-    for node in layer.root().children() {
-        count_under(node, &mut entries)?;
-    }
-    Ok(entries)
-}
-
-// Counts the entries at and under a node.
-fn count_under(node: &Node, entries: &mut u64) -> Result<(), AllocError>
-    ensures { OnOk result
-        (entries.new ≡ entries.old + length (entries_from node.now.inode node.now.below)) }
-{
-    *entries = one_more(*entries)?;
-    for child in node.children() {
-        count_under(child, entries)?;
+        push_under(alloc, report, entries, path.as_str(), child)?;
     }
     Ok(())
 }

@@ -10,7 +10,7 @@ mod vacuum_reports;
 mod works;
 
 pub use emits::{EmitFault, emit};
-pub use layer_reports::{entry_count, layer_report_of};
+pub use layer_reports::layer_report_of;
 pub use listings::report_by;
 pub use reports::{push_name, push_number, push_number_word, push_word};
 pub use shares::{joined, share_of, side_by_side};

@@ -72,14 +72,18 @@ pub record IsToldBy (new : NewLayer) (root : Inode) (views : List InodesParcel) 
   pub rooted : new [] ≡ Some root
   pub walk : IsPlain (tree_kids (tree_by new names)) (tree_out (tree_by new names)) (space_root 0) views
 
--- the same where what no manifest can hold is left out of the walk
+-- parcels are the plain walk over those directories of a new layer that a manifest can hold
+abbrev pub IsWalkWithin : (Piece → List Piece) → (Piece → List NamedInode) → List InodesParcel
+    → Type 0
+IsWalkWithin kids out views = IsPlain (visited_kids kids) out (space_root 0) views
+
+-- parcels tell it so
 pub record IsToldWithin (new : NewLayer) (root : Inode) (views : List InodesParcel) : Type 0 where
   pub names : PathNames → List PathName
   pub deepest : ℕ
   pub told : AreNamesOf new names deepest
   pub rooted : new [] ≡ Some root
-  pub walk : IsPlain (visited_kids (tree_kids (tree_by new names))) (tree_out (tree_by new names))
-      (space_root 0) views
+  pub walk : IsWalkWithin (tree_kids (tree_by new names)) (tree_out (tree_by new names)) views
 
 -- something was left out at a directory
 abbrev pub leaves_out : InodesParcel → Bool

@@ -4,7 +4,7 @@ ghost use Rattle.std.specs.IoError.{error_kind, raw_os_error};
 ghost use Rattle.std.specs.declared.io.ErrorKind.TheVariants.{OutOfMemory};
 ghost use Rattle.ovl_program.specs.declared.files.reads.ReadFault.TheVariants.{TooLong, Memory};
 
-use ovl_check::ReadFault as PartFault;
+use ovl_check::PartFault;
 use ovl_engine::BLOB_LIMIT;
 use std::alloc::{AllocError, AllocFailed, Global};
 use std::io::{Error, ErrorKind, Read};

@@ -10,7 +10,7 @@ use Rattle.ovl_rewrite.specs.NewLayers.{IsToldWithin}
 use Rattle.ovl_rewrite.proofs.LayerLemmas.{ok-both}
 use Rattle.ovl_deref.specs.Deref.{IsDereferenced}
 use Rattle.ovl_deref.specs.Directories.{new_at, IsDerefWalk}
-use Rattle.ovl_deref.specs.Limits.{PassesLimit}
+use Rattle.ovl_deref.specs.Limits.{PassesDerefLimit}
 use Rattle.ovl_deref.proofs.FinishLemmas.{root-there, walk-tells, limit-kept, limit-passed}
 use Rattle.ovl_deref.proofs.finish.finish_deref.Goals as goal
 
@@ -29,7 +29,7 @@ returns-clause-layer c =
 pub returns-clause-kept : goal.returns-clause-kept
 returns-clause-kept c =
     let stack = c.args.work.now in
-    ok-both c.layer_within.result IsLayer (λ (layer : Entries). IsDereferenced layer (top_layer stack) (lower_layers stack)) (λ _. PassesLimit stack → ⊥)
+    ok-both c.layer_within.result IsLayer (λ (layer : Entries). IsDereferenced layer (top_layer stack) (lower_layers stack)) (λ _. PassesDerefLimit stack → ⊥)
     (λ layer is made passes. limit-kept stack layer is made passes) c.layer_within.ensures.is (returns-clause-layer c)
 
 pub returns-clause-limit : goal.returns-clause-limit

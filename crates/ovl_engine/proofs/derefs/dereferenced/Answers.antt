@@ -1,7 +1,8 @@
 use Rattle.std.proofs.lemmas.Result.{err_from_is_err_and}
+use Rattle.ovl_board.specs.Pieces.{space_root}
 use Rattle.ovl_pool.specs.Runs.{MayBeRefused}
 use Rattle.ovl_rewrite.specs.Directories.{visited_kids}
-use Rattle.ovl_deref.specs.Directories.{deref_kids, deref_root}
+use Rattle.ovl_deref.specs.Directories.{deref_kids}
 use Rattle.ovl_commands.specs.declared.requests.Command.TheVariants.{Deref}
 use Rattle.ovl_engine.specs.Outcomes.{MayRefuseOwn}
 use Rattle.ovl_engine.proofs.OutcomeLemmas.{unwalked, walk-part, visited-refused}
@@ -13,4 +14,4 @@ returns-in_err-parcels-clause-fault g c =
     let may_refuse = g.G.Gate.may_refuse c.args.team.now.gate.now in
     let refused = MayRefuseOwn Deref c.args.stack.now (g.G.Gate.may_refuse c.args.team.now.gate.now) in
     rw (out.1, out.2) (λ found clean. unwalked refused Deref c.args.stack.now found c.in_err-parcels.field-0.0
-    (walk-part (MayBeRefused (visited_kids (deref_kids c.args.stack.now)) may_refuse deref_root) refused (visited-refused (deref_kids c.args.stack.now) may_refuse deref_root) c.in_err-parcels.field-0.0 (rw (c.new-work.ensures.value) at c.in_err-parcels.ensures)))
+    (walk-part (MayBeRefused (visited_kids (deref_kids c.args.stack.now)) may_refuse (space_root 0)) refused (visited-refused (deref_kids c.args.stack.now) may_refuse (space_root 0)) c.in_err-parcels.field-0.0 (rw (c.new-work.ensures.value) at c.in_err-parcels.ensures)))

@@ -1,18 +1,12 @@
 use Rattle.std.specs.Option.{option_map}
-use Rattle.std.proofs.Common.{◌≡◌, ◌+◌, ◌∙◌, Some, None, Option, List, IfOk, drop, length, sym, ap, subst, arith}
-use Rattle.ovl_names.specs.Names.{PathName}
+use Rattle.std.proofs.Common.{◌≡◌, ◌+◌, ◌∙◌, Some, None, Option, IfOk, drop, length, sym, ap, subst, arith}
 use Rattle.ovl_names.specs.Paths.{PathNames}
 use Rattle.ovl_inode.specs.declared.inodes.Inode.{Inode}
-use Rattle.ovl_inode.specs.declared.marks.Mark.{Mark}
-use Rattle.ovl_lookup.specs.declared.views.DirPlace.{DirPlace}
 use Rattle.ovl_lookup.specs.Stacks.{StackView}
 use Rattle.ovl_lookup.specs.Trace.{things_found}
 use Rattle.ovl_lookup.specs.Passes.{data_below}
-use Rattle.ovl_lookup.specs.Views.{found_below}
-use Rattle.ovl_lookup.specs.DirViews.{places_in}
-use Rattle.ovl_lookup.proofs.DirViewLemmas.{place_read, layer-read, on-path, on-name, on-none}
-use Rattle.ovl_lookup.proofs.ViewLookLemmas.{onward-placed}
-use Rattle.ovl_lookup.proofs.PlaceReads.{none-found, whiteout-holds, data-holds, other-holds, metacopy-holds}
+use Rattle.ovl_lookup.proofs.DirViewLemmas.{place_read, layer-read}
+use Rattle.ovl_lookup.proofs.PlaceReads.{none-found, whiteout-holds, data-holds, other-holds, path-holds, name-holds, nothing-holds}
 use Rattle.ovl_lookup.proofs.view_looks.data_in.Goals as goal
 
 pub overflow_add-place : goal.overflow_add-place
@@ -44,34 +38,16 @@ returns-then-not-is_well_formed_metacopy c =
 pub returns-in-At : goal.returns-in-At
 returns-in-At c =
     let stack : StackView = c.args.stack.now in
-    let places : List DirPlace = c.args.places.now in
-    let k = c.loop-place.place-index in
-    let own : DirPlace = place_read places k in
-    let mark : Mark = c.in-Some.entry.mark.now in
     let origin : PathNames = c.in-At.origin.now in
-    let from_root = things_found (drop (own.layer + 1) stack.layers) in
-    let onward = metacopy-holds c.args.stack.now c.loop-place.own.now c.args.places.now c.loop-place.place-index c.loop-place-test.true c.in-Some.entry c.in-Some.ensures (sym c.is_whiteout.ensures ∙ c.if-is_whiteout.false) (sym c.is_well_formed_metacopy.ensures ∙ c.if-not-is_well_formed_metacopy.false) in
+    let from_root = things_found (drop ((place_read c.args.places.now c.loop-place.place-index).layer + 1) stack.layers) in
     let same = ap (λ (p : PathNames). data_below stack.data_only (Some origin) (from_root p)) (c.in_ok-trail-in-At.ensures ∙ c.names.ensures.value)
-    ∙ sym (sym c.loop-place.invariant ∙ (onward ∙ onward-placed stack.data_only mark (Some origin) _ _ (sym c.is_well_formed_metacopy.ensures ∙ c.if-not-is_well_formed_metacopy.false) (sym c.in-At.ensures.at) (on-path c.loop-place.own.now from_root (λ other. found_below stack.layers other (drop (k + 1) (places_in stack places))) mark origin (sym c.in-At.ensures.at)))) in
+    ∙ sym (sym c.loop-place.invariant ∙ path-holds c.args.stack.now c.loop-place.own.now c.args.places.now c.loop-place.place-index c.loop-place-test.true c.in-Some.entry c.in-Some.ensures (sym c.is_whiteout.ensures ∙ c.if-is_whiteout.false) (sym c.is_well_formed_metacopy.ensures ∙ c.if-not-is_well_formed_metacopy.false) origin (sym c.in-At.ensures.at)) in
     subst (λ (wanted : Option Inode). IfOk c.data.result (λ found. option_map (λ inode. inode.now) found ≡ wanted)) same c.data.ensures
 
 pub returns-in-Nowhere : goal.returns-in-Nowhere
 returns-in-Nowhere c =
-    let stack : StackView = c.args.stack.now in
-    let places : List DirPlace = c.args.places.now in
-    let k = c.loop-place.place-index in
-    let own : DirPlace = place_read places k in
-    let mark : Mark = c.in-Some.entry.mark.now in
-    let onward = metacopy-holds c.args.stack.now c.loop-place.own.now c.args.places.now c.loop-place.place-index c.loop-place-test.true c.in-Some.entry c.in-Some.ensures (sym c.is_whiteout.ensures ∙ c.if-is_whiteout.false) (sym c.is_well_formed_metacopy.ensures ∙ c.if-not-is_well_formed_metacopy.false) in
-    sym (sym c.loop-place.invariant ∙ (onward ∙ onward-placed stack.data_only mark None _ _ (sym c.is_well_formed_metacopy.ensures ∙ c.if-not-is_well_formed_metacopy.false) (sym c.in-Nowhere.ensures.at) (on-none c.loop-place.own.now (things_found (drop (own.layer + 1) stack.layers)) (λ other. found_below stack.layers other (drop (k + 1) (places_in stack places))) mark (sym c.in-Nowhere.ensures.at) (sym c.in-Nowhere.ensures.by))))
+    sym (sym c.loop-place.invariant ∙ nothing-holds c.args.stack.now c.loop-place.own.now c.args.places.now c.loop-place.place-index c.loop-place-test.true c.in-Some.entry c.in-Some.ensures (sym c.is_whiteout.ensures ∙ c.if-is_whiteout.false) (sym c.is_well_formed_metacopy.ensures ∙ c.if-not-is_well_formed_metacopy.false) (sym c.in-Nowhere.ensures.at) (sym c.in-Nowhere.ensures.by))
 
 pub loop-place-preserved : goal.loop-place-preserved
 loop-place-preserved c =
-    let stack : StackView = c.args.stack.now in
-    let places : List DirPlace = c.args.places.now in
-    let k = c.loop-place.place-index in
-    let own : DirPlace = place_read places k in
-    let mark : Mark = c.in-Some.entry.mark.now in
-    let other : PathName = c.in-Beside.other.now in
-    let onward = metacopy-holds c.args.stack.now c.loop-place.own.now c.args.places.now c.loop-place.place-index c.loop-place-test.true c.in-Some.entry c.in-Some.ensures (sym c.is_whiteout.ensures ∙ c.if-is_whiteout.false) (sym c.is_well_formed_metacopy.ensures ∙ c.if-not-is_well_formed_metacopy.false) in
-    sym (sym c.loop-place.invariant ∙ (onward ∙ onward-placed stack.data_only mark None _ _ (sym c.is_well_formed_metacopy.ensures ∙ c.if-not-is_well_formed_metacopy.false) (sym c.in-Beside.ensures.at) (on-name c.loop-place.own.now (things_found (drop (own.layer + 1) stack.layers)) (λ name. found_below stack.layers name (drop (k + 1) (places_in stack places))) mark other (sym c.in-Beside.ensures.by))))
+    sym (sym c.loop-place.invariant ∙ name-holds c.args.stack.now c.loop-place.own.now c.args.places.now c.loop-place.place-index c.loop-place-test.true c.in-Some.entry c.in-Some.ensures (sym c.is_whiteout.ensures ∙ c.if-is_whiteout.false) (sym c.is_well_formed_metacopy.ensures ∙ c.if-not-is_well_formed_metacopy.false) c.in-Beside.other.now (sym c.in-Beside.ensures.at) (sym c.in-Beside.ensures.by))

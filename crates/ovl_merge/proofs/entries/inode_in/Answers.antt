@@ -1,60 +1,74 @@
-use Rattle.std.proofs.Common.{◌≡◌, ◌∙◌, Option, Some, true, false, sym, ap}
+use Rattle.std.proofs.Common.{◌≡◌, ◌∙◌, Bool, Option, Some, true, false, sym, ap}
 use Rattle.ovl_names.specs.Names.{PathName}
 use Rattle.ovl_names.specs.Paths.{PathNames, child_path}
 use Rattle.ovl_inode.specs.declared.inodes.Inode.{Inode}
-use Rattle.ovl_inode.specs.Marks.{is_metacopy, is_metacopy_mark}
-use Rattle.ovl_merge.specs.Places.{Merge, merge_of, first_hit}
-use Rattle.ovl_merge.specs.MergeDown.{merged_entry, merged_entry_of, merged_inode}
-use Rattle.ovl_merge.specs.Reckoned.{onward_at}
+use Rattle.ovl_inode.specs.Marks.{is_directory, is_metacopy, is_metacopy_mark, mark_of}
+use Rattle.ovl_inode.specs.Inodes.{visible}
+use Rattle.ovl_lookup.specs.declared.steps.Found.{Found}
+use Rattle.ovl_lookup.specs.Stacks.{StackView}
+use Rattle.ovl_merge.specs.declared.directories.Directory.{Directory}
+use Rattle.ovl_merge.specs.declared.passages.Passage.{Passage}
+use Rattle.ovl_merge.specs.Places.{Merge, merge_of, reach}
+use Rattle.ovl_merge.specs.MergeDown.{merged_entry, merged_entry_of, merged_inode, merged_directory, merged_metacopy}
+use Rattle.ovl_merge.specs.Passages.{IsPassage, IsFoundMarked, IsFirstFound, first_in}
+use Rattle.ovl_merge.specs.Reckoned.{IsVisited, onward_at}
 use Rattle.ovl_merge.proofs.Inodes.{merged-directory, merged-metacopy, merged-other}
 use Rattle.ovl_merge.proofs.PassageLemmas.{passage-first}
 use Rattle.ovl_merge.proofs.entries.inode_in.Goals as goal
 
--- the new inode of the first hit is what the new lower layer has there
-entered : (m : Merge) (above : PathNames) (own name : PathName) (hit : Option Inode) (inode new : Inode) → Some inode ≡ hit → hit ≡ first_hit m (child_path above own) → own ≡ name → new ≡ merged_inode m (child_path above own) inode → Some new ≡ merged_entry m (child_path above name)
-entered m above own name hit inode new is first same told =
-    ap (λ (i : Inode). Some i) told
-    ∙ (ap (merged_entry_of m (child_path above own)) (is ∙ first)
-    ∙ ap (λ (n : PathName). merged_entry m (child_path above n)) same)
+-- what is found first at a name in a directory
+module _ (stack : StackView) (directory : Directory) (walks : Passage) (thing : Found) (above : IsVisited stack directory.path directory) (passage : IsPassage (merge_of stack) (child_path directory.path walks.name.now) (onward_at directory.lower) walks) (first : Some thing.inode.now ≡ first_in walks) (told : IsFoundMarked walks.upper → IsFoundMarked walks.lower.found → thing.mark.now ≡ mark_of thing.inode.now) where
+  abbrev m : Merge
+  m = merge_of stack
+
+  abbrev path : PathNames
+  path = child_path directory.path walks.name.now
+
+  abbrev inode : Inode
+  inode = thing.inode.now
+
+  marked : thing.mark.now ≡ mark_of inode
+  marked = told passage.marked passage.lower.marked
+
+  is-first : IsFirstFound stack directory walks thing
+  is-first = record { above = above; passage = passage; first = first; marked = marked }
+
+  -- its new inode is what the new lower layer has there
+  module _ (name : PathName) (same : walks.name.now ≡ name) (new : Inode) where
+    entered : new ≡ merged_inode m path inode → Some new ≡ merged_entry m (child_path directory.path name)
+    entered is =
+        ap (λ (i : Inode). Some i) is
+        ∙ (ap (merged_entry_of m path) (first ∙ passage-first m path (onward_at directory.lower) walks passage)
+        ∙ ap (λ (n : PathName). merged_entry m (child_path directory.path n)) same)
+
+    entered-directory : true ≡ is_directory inode → new ≡ merged_directory m path inode (reach m path) → Some new ≡ merged_entry m (child_path directory.path name)
+    entered-directory is made = entered (made ∙ sym (merged-directory m path inode (sym is)))
+
+    entered-metacopy : false ≡ is_directory inode → true ≡ is_metacopy_mark thing.mark.now → new ≡ merged_metacopy m path inode (reach m path) → Some new ≡ merged_entry m (child_path directory.path name)
+    entered-metacopy is meta made = entered (made ∙ sym (merged-metacopy m path inode (sym is) (sym (meta ∙ ap is_metacopy_mark marked))))
+
+    entered-other : false ≡ is_directory inode → false ≡ is_metacopy_mark thing.mark.now → new ≡ visible inode → Some new ≡ merged_entry m (child_path directory.path name)
+    entered-other is meta made = entered (made ∙ sym (merged-other m path inode (sym is) (sym (meta ∙ ap is_metacopy_mark marked))))
 
 pub merged_directory-requires-clause-first : goal.merged_directory-requires-clause-first
 merged_directory-requires-clause-first c =
-    record { above = c.requires.above; passage = c.in_ok-passage.ensures.walks; first = c.in-Some.ensures.first; marked = c.in-Some.ensures.marked c.in_ok-passage.ensures.walks.marked c.in_ok-passage.ensures.walks.lower.marked }
+    is-first c.args.stack.now c.args.above.now c.in_ok-passage.passage c.in-Some.found.now c.requires.above c.in_ok-passage.ensures.walks c.in-Some.ensures.first c.in-Some.ensures.marked
 
 pub returns-then-is_directory-clause-inode : goal.returns-then-is_directory-clause-inode
 returns-then-is_directory-clause-inode c =
-    let m = merge_of c.args.stack.now in
-    let above = c.args.above.now in
-    let path : PathNames = child_path above.path c.in_ok-passage.passage.name.now in
-    let inode : Inode = c.in-Some.found.now.inode.now in
-    entered m above.path c.in_ok-passage.passage.name.now _ _ inode _ c.in-Some.ensures.first (passage-first m path (onward_at above.lower) c.in_ok-passage.passage c.in_ok-passage.ensures.walks) c.in_ok-passage.ensures.name
-    (c.in_ok-directory.ensures ∙ sym (merged-directory m path inode (sym c.if-is_directory.ensures)))
+    entered-directory c.args.stack.now c.args.above.now c.in_ok-passage.passage c.in-Some.found.now c.requires.above c.in_ok-passage.ensures.walks c.in-Some.ensures.first c.in-Some.ensures.marked _ c.in_ok-passage.ensures.name _ c.if-is_directory.ensures c.in_ok-directory.ensures
 
 pub merged_metacopy-requires-clause-first : goal.merged_metacopy-requires-clause-first
 merged_metacopy-requires-clause-first c =
-    record { above = c.requires.above; passage = c.in_ok-passage.ensures.walks; first = c.in-Some.ensures.first; marked = c.in-Some.ensures.marked c.in_ok-passage.ensures.walks.marked c.in_ok-passage.ensures.walks.lower.marked }
+    is-first c.args.stack.now c.args.above.now c.in_ok-passage.passage c.in-Some.found.now c.requires.above c.in_ok-passage.ensures.walks c.in-Some.ensures.first c.in-Some.ensures.marked
 
 pub returns-then-is_well_formed_metacopy-clause-inode : goal.returns-then-is_well_formed_metacopy-clause-inode
 returns-then-is_well_formed_metacopy-clause-inode c =
-    let m = merge_of c.args.stack.now in
-    let above = c.args.above.now in
-    let path : PathNames = child_path above.path c.in_ok-passage.passage.name.now in
-    let inode : Inode = c.in-Some.found.now.inode.now in
-    let marked = c.in-Some.ensures.marked c.in_ok-passage.ensures.walks.marked c.in_ok-passage.ensures.walks.lower.marked in
-    let meta : is_metacopy inode ≡ true = sym (c.if-is_well_formed_metacopy.ensures ∙ ap is_metacopy_mark marked) in
-    entered m above.path c.in_ok-passage.passage.name.now _ _ inode _ c.in-Some.ensures.first (passage-first m path (onward_at above.lower) c.in_ok-passage.passage c.in_ok-passage.ensures.walks) c.in_ok-passage.ensures.name
-    (c.in_ok-metacopy.ensures.inode ∙ sym (merged-metacopy m path inode (sym c.if-is_directory.ensures) meta))
+    entered-metacopy c.args.stack.now c.args.above.now c.in_ok-passage.passage c.in-Some.found.now c.requires.above c.in_ok-passage.ensures.walks c.in-Some.ensures.first c.in-Some.ensures.marked _ c.in_ok-passage.ensures.name _ c.if-is_directory.ensures c.if-is_well_formed_metacopy.ensures c.in_ok-metacopy.ensures.inode
 
 pub returns-clause-inode : goal.returns-clause-inode
 returns-clause-inode c =
-    let m = merge_of c.args.stack.now in
-    let above = c.args.above.now in
-    let path : PathNames = child_path above.path c.in_ok-passage.passage.name.now in
-    let inode : Inode = c.in-Some.found.now.inode.now in
-    let marked = c.in-Some.ensures.marked c.in_ok-passage.ensures.walks.marked c.in_ok-passage.ensures.walks.lower.marked in
-    let none : is_metacopy inode ≡ false = sym (c.if-is_well_formed_metacopy.ensures ∙ ap is_metacopy_mark marked) in
-    entered m above.path c.in_ok-passage.passage.name.now _ _ inode _ c.in-Some.ensures.first (passage-first m path (onward_at above.lower) c.in_ok-passage.passage c.in_ok-passage.ensures.walks) c.in_ok-passage.ensures.name
-    (c.in_ok-shown.ensures ∙ sym (merged-other m path inode (sym c.if-is_directory.ensures) none))
+    entered-other c.args.stack.now c.args.above.now c.in_ok-passage.passage c.in-Some.found.now c.requires.above c.in_ok-passage.ensures.walks c.in-Some.ensures.first c.in-Some.ensures.marked _ c.in_ok-passage.ensures.name _ c.if-is_directory.ensures c.if-is_well_formed_metacopy.ensures c.in_ok-shown.ensures
 
 pub unfound-requires-clause-none : goal.unfound-requires-clause-none
 unfound-requires-clause-none c = sym c.in_default.ensures.first

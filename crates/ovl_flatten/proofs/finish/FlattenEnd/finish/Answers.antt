@@ -7,7 +7,7 @@ use Rattle.ovl_rewrite.proofs.LayerLemmas.{ok-both}
 use Rattle.ovl_flatten.specs.Flatten.{flattened_at, IsFlattened}
 use Rattle.ovl_flatten.specs.Directories.{IsFlattenWalk}
 use Rattle.ovl_flatten.specs.Ends.{IsFlattenEnd}
-use Rattle.ovl_flatten.specs.Limits.{PassesLimit}
+use Rattle.ovl_flatten.specs.Limits.{PassesFlattenLimit}
 use Rattle.ovl_flatten.proofs.FinishLemmas.{walk-tells, limit-kept, limit-passed}
 use Rattle.ovl_flatten.proofs.finish.FlattenEnd.finish.Goals as goal
 
@@ -20,7 +20,7 @@ pub returns-clause-kept : goal.returns-clause-kept
 returns-clause-kept c =
     ok-both c.layer_within.result IsLayer
     (λ layer. (stack : StackView) → IsFlattenEnd stack c.args.self → IsFlattenWalk stack (parcel_views inodes_seen c.args.parcels.items) → IsFlattened layer stack)
-    (λ _. (stack : StackView) → IsFlattenEnd stack c.args.self → IsFlattenWalk stack (parcel_views inodes_seen c.args.parcels.items) → PassesLimit stack → ⊥)
+    (λ _. (stack : StackView) → IsFlattenEnd stack c.args.self → IsFlattenWalk stack (parcel_views inodes_seen c.args.parcels.items) → PassesFlattenLimit stack → ⊥)
     (λ layer is made stack end walk passes. limit-kept stack layer is (made stack end walk) passes) c.layer_within.ensures.is (returns-clause-layer c)
 
 pub returns-clause-limit : goal.returns-clause-limit
