@@ -23,7 +23,7 @@ use Rattle.json.specs.Tree.{json_tokens, depth as tree_depth}
 use Rattle.json.proofs.Printed.Strings.{escape_byte_plain}
 use Rattle.json.proofs.Printed.Tokens.{tokens-print}
 use Rattle.json.proofs.Printed.Trees.{ArePrintable-json_tokens, value-json_tokens}
-use Rattle.serde_json.specs.Data.{Data, null, boolean, number, string, array, object, Members}
+use Rattle.serde_json.specs.Data.{Data, null, boolean, number, string, array, object, Members, no_members, member}
 use Rattle.serde_json.specs.Find.{as_str, of_integer}
 use Rattle.serde_json.specs.Read.{read, max_depth, of_json}
 use Rattle.serde_json.specs.Written.{outline, number_text, comma_if, compact_text, items_text, members_text}
@@ -44,7 +44,8 @@ use Rattle.ovl_manifest.specs.Manifest.{read_layer}
 use Rattle.ovl_manifest.specs.Versions.{version_number, is_stated_by}
 use Rattle.ovl_manifest.specs.declared.versions.Version.{Version}
 use Rattle.ovl_manifest.specs.declared.versions.Version.TheVariants.{One, Two}
-use Rattle.ovl_manifest.specs.Text.{attribute_members, entry_value, entry_items, layer_value}
+use Rattle.ovl_manifest.specs.AnyOrder.{IsReadAs}
+use Rattle.ovl_manifest.specs.Text.{whole, attribute_members, entry_value, entry_items, layer_value}
 use Rattle.ovl_manifest.specs.Compact.{group_text, device_text, nsec_text, contents_text, blob_of_kind, device_of_kind, attribute_text, attributes_text, entries_text}
 use Rattle.ovl_manifest.specs.Fields.{attribute_after}
 use Rattle.ovl_manifest.proofs.ReadLemmas.{if-Some, text_read}
@@ -303,26 +304,12 @@ items-entries version before (entry ∷ entries) =
     ap (λ (t : List ℕ). comma_if before ++ (compact_text (entry_value version entry) ++ t)) (items-entries version true entries)
     ∙ sym (append_assoc (comma_if before) (compact_text (entry_value version entry) ++ entries_text version true entries) (93 ∷ []) ∙ ap (λ (t : List ℕ). comma_if before ++ t) (append_assoc (compact_text (entry_value version entry)) (entries_text version true entries) (93 ∷ [])))
 
--- one entry more, behind others
-entries-more : (version : Version) (entries : Entries) (entry : Entry) → 0 < length entries → entries_text version false (entries ++ entry ∷ []) ≡ entries_text version false entries ++ 44 ∷ compact_text (entry_value version entry)
-entries-more version [] entry some = absurd (omega (arith, some))
-entries-more version (first ∷ entries) entry some = ap (λ (t : List ℕ). compact_text (entry_value version first) ++ t) (behind entries) ∙ sym (append_assoc (compact_text (entry_value version first)) (entries_text version true entries) (44 ∷ compact_text (entry_value version entry)))
-  where
-    behind : (entries : Entries) → entries_text version true (entries ++ entry ∷ []) ≡ entries_text version true entries ++ 44 ∷ compact_text (entry_value version entry)
-    behind [] = ap (λ (t : List ℕ). 44 ∷ t) (append-nil (compact_text (entry_value version entry)))
-    behind (next ∷ entries) = ap (λ (t : List ℕ). 44 ∷ (compact_text (entry_value version next) ++ t)) (behind entries) ∙ ap (λ (t : List ℕ). 44 ∷ t) (sym (append_assoc (compact_text (entry_value version next)) (entries_text version true entries) (44 ∷ compact_text (entry_value version entry))))
-
 -- entries behind others, all of them behind commas
 pub entries-append : (version : Version) (entries more : Entries) → entries_text version true (entries ++ more) ≡ entries_text version true entries ++ entries_text version true more
 entries-append version [] more = refl
 entries-append version (entry ∷ entries) more =
     ap (λ (t : List ℕ). 44 ∷ (compact_text (entry_value version entry) ++ t)) (entries-append version entries more)
     ∙ ap (λ (t : List ℕ). 44 ∷ t) (sym (append_assoc (compact_text (entry_value version entry)) (entries_text version true entries) (entries_text version true more)))
-
--- the same in front of what follows
-pub entries-onto : (version : Version) (entries : Entries) (entry : Entry) (rest : List ℕ) → 0 < length entries → entries_text version false entries ++ 44 ∷ (compact_text (entry_value version entry) ++ rest) ≡ entries_text version false (entries ++ entry ∷ []) ++ rest
-entries-onto version entries entry rest some =
-    sym (append_assoc (entries_text version false entries) (44 ∷ compact_text (entry_value version entry)) rest) ∙ ap (λ (t : List ℕ). t ++ rest) (sym (entries-more version entries entry some))
 
 -- ---- manifests
 
@@ -342,11 +329,21 @@ layer_text version layer rest =
     sym (ap (λ (t : List ℕ). t ++ rest) (in_brackets version layer)
     ∙ ap (λ (t : List ℕ). begin ++ t) (append_assoc items (named ++ (own ++ codes "}")) rest ∙ ap (λ (t : List ℕ). items ++ (named ++ t)) (append_assoc own (codes "}") rest)))
 
--- the text of a layer states it, with a newline and without
-module _ (version : Version) (layer : Entries) (is : IsLayer layer) (stated : list_all (is_stated_by version) layer ≡ true) where
-  abbrev value : Data
-  value = layer_value version layer
+-- the same with a list of the entries as it stands, and with the number first
+pub entries_first : (own : Data) (number : ℕ) (rest : List ℕ)
+    → codes "{\"entries\":" ++ (compact_text own ++ (codes ",\"overlay-layer\":" ++ (decimal number ++ (codes "}" ++ rest))))
+    ≡ compact_text (object (member (codes "entries") own (member (codes "overlay-layer") (whole number) no_members))) ++ rest
+unfolding escape_byte
+entries_first own number rest = simp append_assoc
 
+pub number_first : (own : Data) (number : ℕ) (rest : List ℕ)
+    → codes "{\"overlay-layer\":" ++ (decimal number ++ (codes ",\"entries\":" ++ (compact_text own ++ (codes "}" ++ rest))))
+    ≡ compact_text (object (member (codes "overlay-layer") (whole number) (member (codes "entries") own no_members))) ++ rest
+unfolding escape_byte
+number_first own number rest = simp append_assoc
+
+-- a text of a layer states it, with a newline and without
+module _ (version : Version) (layer : Entries) (value : Data) (back : IsReadAs 4 value (layer_value version layer)) (is : IsLayer layer) (stated : list_all (is_stated_by version) layer ≡ true) where
   abbrev text : List ℕ
   text = compact_text value
 
@@ -354,18 +351,22 @@ module _ (version : Version) (layer : Entries) (is : IsLayer layer) (stated : li
   printed = sym (print-outline value)
 
   own : tokens text ≡ json_tokens (outline value)
-  own = ap tokens printed ∙ tokens-print (json_tokens (outline value)) (ArePrintable-json_tokens (outline value) (layer_numbers version layer is))
+  own = ap tokens printed ∙ tokens-print (json_tokens (outline value)) (ArePrintable-json_tokens (outline value) back.numbers)
 
   told : (bytes : List ℕ) → IsUtf8 bytes → tokens bytes ≡ json_tokens (outline value) → read_layer bytes ≡ Ok layer
   told bytes utf8 spelled =
-      let shallow : tree_depth (outline value) ≤ 4 = omega (arith, outline-depth value, layer-shallow version layer) in
+      let shallow : tree_depth (outline value) ≤ 4 = omega (arith, outline-depth value, back.shallow) in
       let parsed : json.value max_depth (tokens bytes) ≡ Some (outline value, []) =
       ap (json.value max_depth) (spelled ∙ sym (append-nil (json_tokens (outline value)))) ∙ value-json_tokens (outline value) max_depth [] (omega (arith, shallow)) in
-      let reads : read bytes ≡ Some value = ap (λ o. option_and_then of_json (option_and_then (λ p. json.if_last p.0 p.1) o)) parsed ∙ layer_states version layer is in
-      text_read bytes value utf8 reads ∙ layer-back version layer is stated
+      let reads : read bytes ≡ Some (layer_value version layer) = ap (λ o. option_and_then of_json (option_and_then (λ p. json.if_last p.0 p.1) o)) parsed ∙ back.read in
+      text_read bytes (layer_value version layer) utf8 reads ∙ layer-back version layer is stated
 
   pub text-alone : IsUtf8 text → read_layer text ≡ Ok layer
   text-alone utf8 = told text utf8 own
 
   pub text-back : IsUtf8 (text ++ codes "\n") → read_layer (text ++ codes "\n") ≡ Ok layer
   text-back utf8 = told (text ++ codes "\n") utf8 (tokens-ended text value own (printed ∙ ap print (sym own)) ∙ own)
+
+-- the text that is written of a layer is one
+pub layer-itself : (version : Version) (layer : Entries) → IsLayer layer → IsReadAs 4 (layer_value version layer) (layer_value version layer)
+layer-itself version layer is = record { read = layer_states version layer is; numbers = layer_numbers version layer is; shallow = layer-shallow version layer }

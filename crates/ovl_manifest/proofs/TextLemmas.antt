@@ -69,7 +69,7 @@ kind-shallow (Block major minor) ms low = put-shallow 1 (codes "minor") (whole m
 kind-shallow Fifo ms low = low
 kind-shallow Socket ms low = low
 
-entry-shallow : (version : Version) (entry : Entry) → depth (entry_value version entry) ≤ 2
+pub entry-shallow : (version : Version) (entry : Entry) → depth (entry_value version entry) ≤ 2
 entry-shallow One entry = omega (arith, kind-shallow entry.1.kind (common_members One entry) (omega (arith, attributes-shallow entry.1.attrs)))
 entry-shallow Two entry = omega (arith, kind-shallow entry.1.kind (common_members Two entry) (omega (arith, attributes-shallow entry.1.attrs)))
 

@@ -1,6 +1,6 @@
 -- The tokens that are written of a layer's value are read as that value.
 use Rattle.std.proofs.Common.{◌≡◌, ◌∙◌, ℕ, ◌≤◌, ◌<◌, ◌^◌, ℤ, pos, negsuc, suc, max, List, [], ◌∷◌, ◌++◌, Bool, true, Option, Some, None, refl, sym, ap, ap₂, arith, append_assoc, append-nil, decimal, ltb-true, leb-true}
-use Rattle.std.specs.Prelude.{⊤, option_and_then, nat_le, ◌&&◌, codes}
+use Rattle.std.specs.Prelude.{option_and_then, nat_le, ◌&&◌, codes}
 use Rattle.std.specs.Option.{option_map}
 use Rattle.std.specs.List.{list_all}
 use Rattle.std.specs.Ordering.{is_lt, nat_cmp, match_ordering}
@@ -30,6 +30,7 @@ use Rattle.ovl_inode.specs.Marks.{has_metacopy}
 use Rattle.ovl_inode.specs.Sound.{is_sound_inode, is_sound_kind, is_word, is_seconds, has_sound_blob, mode_limit, nsec_limit, size_limit}
 use Rattle.ovl_inode.proofs.SoundLaws.{sound_values}
 use Rattle.ovl_layer.specs.Layers.{Entries, IsLayer}
+use Rattle.ovl_manifest.specs.AnyOrder.{put_all, IsBack, AreBack}
 use Rattle.ovl_manifest.specs.Versions.{version_number}
 use Rattle.ovl_manifest.specs.declared.versions.Version.{Version}
 use Rattle.ovl_manifest.specs.declared.versions.Version.TheVariants.{One, Two}
@@ -51,14 +52,6 @@ seconds_number (negsuc n) is = IsNumber-signed_decimal (negsuc n) (ltb-true n (2
 
 -- ---- members
 
--- a value is read as itself, and its numbers are numbers of JSON
-abbrev IsBack : Data → Type 0
-IsBack d = (of_json (outline d) ≡ Some d) × HasNumbers (outline d)
-
-abbrev AreBack : Members → Type 0
-AreBack no_members = ⊤
-AreBack (member k d ms) = IsBack d × AreBack ms
-
 put-back : (k : List ℕ) (d : Data) (ms : Members) → IsBack d → AreBack ms → AreBack (put k d ms)
 put-back k d no_members own others = (own, others)
 put-back k d (member l e ms) own others = by (slice_cmp nat_cmp k l) (put-back k d ms own others.1)
@@ -68,17 +61,12 @@ put-back k d (member l e ms) own others = by (slice_cmp nat_cmp k l) (put-back k
     by Equal later = (own, others.1)
     by Greater later = (others.0, later)
 
--- members put one after another behind others
-abbrev put_all : Members → Members → Members
-put_all no_members found = found
-put_all (member k d ms) found = put_all ms (put k d found)
-
-members-read : (ms found : Members) → AreBack ms → of_members (members_outline ms) found ≡ Some (put_all ms found)
+pub members-read : (ms found : Members) → AreBack ms → of_members (members_outline ms) found ≡ Some (put_all ms found)
 members-read no_members found all = refl
 members-read (member k d ms) found all =
     ap (option_and_then (λ own. of_members (members_outline ms) (put k own found))) all.0.0 ∙ members-read ms (put k d found) all.1
 
-members-numbers : (ms : Members) → AreBack ms → MembersHaveNumbers (members_outline ms)
+pub members-numbers : (ms : Members) → AreBack ms → MembersHaveNumbers (members_outline ms)
 members-numbers no_members all = tt
 members-numbers (member k d ms) all = (all.0.1, members-numbers ms all.1)
 
@@ -195,10 +183,13 @@ in_order Two path inode (Block major minor) = refl
 in_order Two path inode Fifo = refl
 in_order Two path inode Socket = refl
 
-entry-back : (version : Version) (path : PathNames) (inode : Inode) → is_sound_inode inode ≡ true → IsBack (entry_value version (path, inode))
+pub entry_members-back : (version : Version) (path : PathNames) (inode : Inode) → is_sound_inode inode ≡ true → AreBack (with_kind inode.kind (common_members version (path, inode)))
+entry_members-back version path inode sound = kind-back inode.kind (has_metacopy inode) (common_members version (path, inode)) (sound_values inode sound).kind (common-back version path inode sound)
+
+pub entry-back : (version : Version) (path : PathNames) (inode : Inode) → is_sound_inode inode ≡ true → IsBack (entry_value version (path, inode))
 entry-back version path inode sound =
     let ms : Members = with_kind inode.kind (common_members version (path, inode)) in
-    let all : AreBack ms = kind-back inode.kind (has_metacopy inode) (common_members version (path, inode)) (sound_values inode sound).kind (common-back version path inode sound) in
+    let all : AreBack ms = entry_members-back version path inode sound in
     (ap (option_map object) (members-read ms no_members all ∙ ap (λ (own : Members). Some own) (in_order version path inode inode.kind)), members-numbers ms all)
 
 entries_back : (version : Version) (entries : Entries) → list_all (λ entry. is_sound_inode entry.1) entries ≡ true → of_items (items_outline (entry_items version entries)) ≡ Some (entry_items version entries)
@@ -220,7 +211,7 @@ number-small : (version : Version) → version_number version ≤ 2
 number-small One = omega arith
 number-small Two = omega arith
 
-version-back : (version : Version) → IsBack (whole (version_number version))
+pub version-back : (version : Version) → IsBack (whole (version_number version))
 version-back version = whole-back (version_number version) 2 (number-small version) (omega arith)
 
 pub layer_numbers : (version : Version) (layer : Entries) → IsLayer layer → HasNumbers (outline (layer_value version layer))

@@ -76,9 +76,9 @@ fn read_group(rest: &mut Rest<'_>) -> Option<(Option<Digest>, u32)>
     Some((Some(digest), gid as u32))
 }
 
-// The word of a kind with its quotation marks; most entries are files or directories.
+/// The word of a kind with its quotation marks; most entries are files or directories.
 #[inline(always)]
-fn take_word<'a>(rest: &mut Rest<'a>) -> Option<&'a str>
+pub(crate) fn take_word<'a>(rest: &mut Rest<'a>) -> Option<&'a str>
     ensures { IfSome result (λ word. rest.old ≡ quoted word.now ++ rest.new) }
 {
     if rest.take("\"file\"").is_some() {
@@ -167,8 +167,8 @@ fn read_kind(
     }
 }
 
-// The attributes, in the order of their names.
-fn read_attributes(alloc: Global, rest: &mut Rest<'_>) -> Option<Attrs>
+/// The attributes, in the order of their names.
+pub(crate) fn read_attributes(alloc: Global, rest: &mut Rest<'_>) -> Option<Attrs>
     ensures { IfSome result
         (λ attrs. rest.old ≡ compact_text (object (attribute_members attrs)) ++ rest.new) }
 {
