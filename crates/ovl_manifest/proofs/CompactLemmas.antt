@@ -45,13 +45,13 @@ use Rattle.ovl_manifest.specs.Versions.{version_number, is_stated_by}
 use Rattle.ovl_manifest.specs.declared.versions.Version.{Version}
 use Rattle.ovl_manifest.specs.declared.versions.Version.TheVariants.{One, Two}
 use Rattle.ovl_manifest.specs.AnyOrder.{IsReadAs}
-use Rattle.ovl_manifest.specs.Text.{whole, attribute_members, entry_value, entry_items, layer_value}
+use Rattle.ovl_manifest.specs.Text.{whole, with_kind, attribute_members, entry_value, entry_items, layer_value}
 use Rattle.ovl_manifest.specs.Compact.{group_text, device_text, nsec_text, contents_text, blob_of_kind, device_of_kind, attribute_text, attributes_text, entries_text}
 use Rattle.ovl_manifest.specs.Fields.{attribute_after}
 use Rattle.ovl_manifest.proofs.ReadLemmas.{if-Some, text_read}
 use Rattle.ovl_manifest.proofs.TextLemmas.{attributes_in_turn, attribute_members-in_turn, layer-shallow}
 use Rattle.ovl_manifest.proofs.TailLemmas.{tokens-ended}
-use Rattle.ovl_manifest.proofs.WrittenBackLemmas.{layer_states, layer_numbers, outline-depth}
+use Rattle.ovl_manifest.proofs.WrittenBackLemmas.{common_with, layer_states, layer_numbers, outline-depth}
 use Rattle.ovl_manifest.proofs.StatedLemmas.{layer-back}
 
 -- ---- whether something was taken
@@ -202,40 +202,40 @@ digest-quoted digits blob is = ap quoted (digest-spelled digits blob is) ∙ ap 
 
 -- ---- an entry
 
--- the pieces of an entry's text, and what follows it
-abbrev pub in_turn : Version → Option Digest → List ℕ → Option (ℕ × ℕ) → Inode → List ℕ → List ℕ → List ℕ → List ℕ
-in_turn version blob word device inode seconds path rest =
+-- the pieces of an entry's text, with a value of its attributes, and what follows it
+abbrev pub in_turn : Version → Option Digest → List ℕ → Option (ℕ × ℕ) → Inode → List ℕ → List ℕ → Data → List ℕ → List ℕ
+in_turn version blob word device inode seconds path own rest =
     group_text blob inode.gid ++ (codes ",\"kind\":" ++ (quoted word ++ (device_text device ++ (codes ",\"mode\":" ++ (decimal inode.mode
     ++ (codes ",\"mtime\":" ++ (seconds ++ (nsec_text version inode.nsec ++ (codes ",\"path\":" ++ (quoted path ++ (contents_text inode.kind ++ (codes ",\"uid\":" ++ (decimal inode.uid
-    ++ (codes ",\"xattrs\":" ++ (compact_text (object (attribute_members inode.attrs)) ++ (codes "}" ++ rest))))))))))))))))
+    ++ (codes ",\"xattrs\":" ++ (compact_text own ++ (codes "}" ++ rest))))))))))))))))
 
 -- those of an entry of this kind
-abbrev pub pieces : Version → PathNames → Inode → Kind → List ℕ → List ℕ
-pieces version path inode kind rest =
-    in_turn version (blob_of_kind kind) (kind_word kind) (device_of_kind kind) (record inode { kind = kind }) (number_text (of_integer inode.mtime)) (path_text path) rest
+abbrev pub pieces : Version → PathNames → Inode → Kind → Data → List ℕ → List ℕ
+pieces version path inode kind own rest =
+    in_turn version (blob_of_kind kind) (kind_word kind) (device_of_kind kind) (record inode { kind = kind }) (number_text (of_integer inode.mtime)) (path_text path) own rest
 
-kind_text : (version : Version) (path : PathNames) (inode : Inode) (kind : Kind) (rest : List ℕ)
-    → pieces version path inode kind rest ≡ compact_text (entry_value version (path, record inode { kind = kind })) ++ rest
+kind_text : (version : Version) (path : PathNames) (inode : Inode) (kind : Kind) (own : Data) (rest : List ℕ)
+    → pieces version path inode kind own rest ≡ compact_text (object (with_kind kind (common_with version path (record inode { kind = kind }) own))) ++ rest
 unfolding escape_byte
-kind_text One path inode Dir rest = simp append_assoc
-kind_text One path inode (File size None) rest = simp append_assoc
-kind_text One path inode (File size (Some blob)) rest = simp append_assoc
-kind_text One path inode (Symlink target) rest = simp append_assoc
-kind_text One path inode (Char major minor) rest = simp append_assoc
-kind_text One path inode (Block major minor) rest = simp append_assoc
-kind_text One path inode Fifo rest = simp append_assoc
-kind_text One path inode Socket rest = simp append_assoc
-kind_text Two path inode Dir rest = simp append_assoc
-kind_text Two path inode (File size None) rest = simp append_assoc
-kind_text Two path inode (File size (Some blob)) rest = simp append_assoc
-kind_text Two path inode (Symlink target) rest = simp append_assoc
-kind_text Two path inode (Char major minor) rest = simp append_assoc
-kind_text Two path inode (Block major minor) rest = simp append_assoc
-kind_text Two path inode Fifo rest = simp append_assoc
-kind_text Two path inode Socket rest = simp append_assoc
+kind_text One path inode Dir own rest = simp append_assoc
+kind_text One path inode (File size None) own rest = simp append_assoc
+kind_text One path inode (File size (Some blob)) own rest = simp append_assoc
+kind_text One path inode (Symlink target) own rest = simp append_assoc
+kind_text One path inode (Char major minor) own rest = simp append_assoc
+kind_text One path inode (Block major minor) own rest = simp append_assoc
+kind_text One path inode Fifo own rest = simp append_assoc
+kind_text One path inode Socket own rest = simp append_assoc
+kind_text Two path inode Dir own rest = simp append_assoc
+kind_text Two path inode (File size None) own rest = simp append_assoc
+kind_text Two path inode (File size (Some blob)) own rest = simp append_assoc
+kind_text Two path inode (Symlink target) own rest = simp append_assoc
+kind_text Two path inode (Char major minor) own rest = simp append_assoc
+kind_text Two path inode (Block major minor) own rest = simp append_assoc
+kind_text Two path inode Fifo own rest = simp append_assoc
+kind_text Two path inode Socket own rest = simp append_assoc
 
-pub entry_text : (version : Version) (path : PathNames) (inode : Inode) (rest : List ℕ) → pieces version path inode inode.kind rest ≡ compact_text (entry_value version (path, inode)) ++ rest
-entry_text version path inode rest = kind_text version path inode inode.kind rest
+pub entry_text : (version : Version) (path : PathNames) (inode : Inode) (own : Data) (rest : List ℕ) → pieces version path inode inode.kind own rest ≡ compact_text (object (with_kind inode.kind (common_with version path inode own))) ++ rest
+entry_text version path inode own rest = kind_text version path inode inode.kind own rest
 
 -- ---- piece after piece
 
@@ -268,33 +268,18 @@ pub attributes-onto : (attrs : Attributes) (attr : List ℕ × List ℕ) (rest :
 attributes-onto attrs attr rest some =
     sym (append_assoc (attributes_text false attrs) (44 ∷ attribute_text attr) rest) ∙ ap (λ (t : List ℕ). t ++ rest) (sym (attributes-more attrs attr some))
 
--- where the last name comes before another, all do
-pub all_before-last : (front : Attributes) (last : List ℕ × List ℕ) (name : List ℕ) → ascends attribute_cmp (front ++ last ∷ []) ≡ true → is_lt (name_cmp last.0 name) ≡ true → all_before (front ++ last ∷ []) name ≡ true
-all_before-last front last name up before = through front (ascends-across attribute_cmp front last [] up)
-  where
-    through : (attrs : Attributes) → list_all (λ other. is_lt (attribute_cmp other last)) attrs ≡ true → all_before (attrs ++ last ∷ []) name ≡ true
-    through [] all = rw before refl
-    through (attr ∷ attrs) all =
-        let parts = both {a = is_lt (attribute_cmp attr last)} {b = list_all (λ other. is_lt (attribute_cmp other last)) attrs} all in
-        let less : is_lt (name_cmp attr.0 name) ≡ true = ap is_lt (nat_list_cmp_total.trans attr.0 last.0 name (is_lt-Less (name_cmp attr.0 last.0) parts.0) (is_lt-Less (name_cmp last.0 name) before)) in
-        rw less (through attrs parts.1)
-
-put-behind : (attrs : Attributes) (name value : List ℕ) → all_before attrs name ≡ true → with_attribute attrs name value ≡ attrs ++ (name, value) ∷ []
-put-behind [] name value before = refl
-put-behind (attr ∷ attrs) name value before =
-    let parts = both {a = is_lt (name_cmp attr.0 name)} {b = all_before attrs name} before in
-    rw (reversed nat_list_cmp_total attr.0 name parts.0) (ap (λ (rest : Attributes). attr ∷ rest) (put-behind attrs name value parts.1))
-
--- an attribute that is put after all others, with the digits of its value
-pub attribute-behind : (attrs more : Attributes) (name digits : List ℕ) → all_before attrs name ≡ true → attribute_after attrs name (string digits) ≡ Some more → (bytes : List ℕ) × (encode_lower bytes ≡ digits) × (more ≡ attrs ++ (name, bytes) ∷ [])
-attribute-behind attrs more name digits before is =
+-- an attribute that is put, with the digits of its value
+pub attribute-put : (attrs more : Attributes) (name digits : List ℕ) → attribute_after attrs name (string digits) ≡ Some more → (bytes : List ℕ) × (encode_lower bytes ≡ digits) × (more ≡ with_attribute attrs name bytes)
+attribute-put attrs more name digits is =
     option_and_then_some (λ bytes. if is_attribute_name name then Some (with_attribute attrs name bytes) else None) (bytes_of_digits digits) more is (λ bytes spelled made.
-    let same = (if-Some (is_attribute_name name) (with_attribute attrs name bytes) more made).1 in
-    (bytes, bytes-spelled digits bytes spelled, sym same ∙ put-behind attrs name bytes before))
+    (bytes, bytes-spelled digits bytes spelled, sym (if-Some (is_attribute_name name) (with_attribute attrs name bytes) more made).1))
 
--- the object of ascending attributes
+-- the object of attributes in some order, and of ascending ones
+pub attributes_object-stood : (stood : Attributes) → compact_text (object (attributes_in_turn stood)) ≡ 123 ∷ (attributes_text false stood ++ 125 ∷ [])
+attributes_object-stood stood = ap (λ (t : List ℕ). 123 ∷ t) (members-attributes false stood)
+
 pub attributes_object : (attrs : Attributes) → ascends attribute_cmp attrs ≡ true → compact_text (object (attribute_members attrs)) ≡ 123 ∷ (attributes_text false attrs ++ 125 ∷ [])
-attributes_object attrs up = ap (λ (ms : Members). compact_text (object ms)) (attribute_members-in_turn attrs up) ∙ ap (λ (t : List ℕ). 123 ∷ t) (members-attributes false attrs)
+attributes_object attrs up = ap (λ (ms : Members). compact_text (object ms)) (attribute_members-in_turn attrs up) ∙ attributes_object-stood attrs
 
 -- ---- the list of entries
 

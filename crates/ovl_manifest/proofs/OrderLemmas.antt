@@ -3,26 +3,30 @@ use Rattle.std.proofs.Common.{◌≡◌, ◌∙◌, ℕ, ◌≤◌, ◌<◌, Lis
 use Rattle.std.specs.Prelude.{⊤, ◌&&◌, codes}
 use Rattle.std.specs.Option.{option_map}
 use Rattle.std.specs.List.{list_all}
-use Rattle.std.specs.Ordering.{is_lt}
+use Rattle.std.specs.Ordering.{is_lt, match_ordering}
+use Rattle.std.specs.declared.cmp.Ordering.{Ordering}
+use Rattle.std.specs.declared.cmp.Ordering.TheVariants.{Less, Equal, Greater}
 use Rattle.std.specs.Cmp.Lexicographic.{nat_list_cmp_total}
 use Rattle.json.specs.Print.{quoted}
-use Rattle.json.specs.Tree.{ItemsHaveNumbers}
+use Rattle.json.specs.Tree.{ItemsHaveNumbers, MembersHaveNumbers}
 use Rattle.serde_json.specs.Data.{Data, array, object, Items, no_items, item, items_depth, Members, no_members, member, put, depth, members_depth}
-use Rattle.serde_json.specs.Read.{of_items}
-use Rattle.serde_json.specs.Written.{items_outline, comma_if, compact_text, items_text, members_text}
+use Rattle.serde_json.specs.Read.{of_items, of_members}
+use Rattle.serde_json.specs.Written.{items_outline, members_outline, comma_if, compact_text, items_text, members_text}
 use Rattle.ovl_names.specs.Names.{name_cmp}
+use Rattle.ovl_names.specs.Order.{ascends}
 use Rattle.ovl_names.specs.Paths.{PathNames}
 use Rattle.ovl_names.proofs.Ascending.{both, reversed, is_lt-Less}
 use Rattle.ovl_inode.specs.declared.inodes.Inode.{Inode}
+use Rattle.ovl_inode.specs.Attributes.{Attributes, attribute_cmp, with_attribute}
 use Rattle.ovl_inode.specs.Sound.{is_sound_inode}
 use Rattle.ovl_layer.specs.Layers.{Entry, Entries}
-use Rattle.ovl_manifest.specs.AnyOrder.{commas, member_texts, put_all, IsReadAs, IsBack, AreBack, ArePut}
+use Rattle.ovl_manifest.specs.AnyOrder.{commas, member_texts, IsReadAs, IsBack, AreBack, MayBeReadAs}
 use Rattle.ovl_manifest.specs.Places.{Places, filled, Fills}
-use Rattle.ovl_manifest.specs.Text.{whole, with_kind, common_members, entry_value, entry_items, layer_value}
+use Rattle.ovl_manifest.specs.Text.{whole, hexadecimal, with_kind, attribute_members, common_members, entry_value, entry_items, layer_value}
 use Rattle.ovl_manifest.specs.Versions.{version_number}
 use Rattle.ovl_manifest.specs.declared.versions.Version.{Version}
-use Rattle.ovl_manifest.proofs.TextLemmas.{entry-shallow}
-use Rattle.ovl_manifest.proofs.WrittenBackLemmas.{members-read, members-numbers, entry-back, entry_members-back, version-back}
+use Rattle.ovl_manifest.proofs.TextLemmas.{attributes_in_turn, attribute_members-in_turn, entry-shallow}
+use Rattle.ovl_manifest.proofs.WrittenBackLemmas.{behind, read-behind, numbers-behind, shallow-behind, entry_members-back, version-back}
 
 -- ---- texts behind commas
 
@@ -49,12 +53,7 @@ members-commas before (member k d ms) =
     ap (λ (t : List ℕ). comma_if before ++ (quoted k ++ 58 ∷ (compact_text d ++ t))) (members-commas true ms)
     ∙ simp append_assoc
 
--- ---- members in the order in which they stand
-
-abbrev pub behind : Members → List ℕ → Data → Members
-behind no_members name value = member name value no_members
-behind (member l e ms) name value = member l e (behind ms name value)
-
+-- one member more, behind others
 pub texts-behind : (ms : Members) (name : List ℕ) (value : Data) → member_texts (behind ms name value) ≡ member_texts ms ++ (quoted name ++ 58 ∷ compact_text value) ∷ []
 texts-behind no_members name value = refl
 texts-behind (member l e ms) name value = ap (λ (ts : List (List ℕ)). (quoted l ++ 58 ∷ compact_text e) ∷ ts) (texts-behind ms name value)
@@ -62,18 +61,6 @@ texts-behind (member l e ms) name value = ap (λ (ts : List (List ℕ)). (quoted
 pub some-behind : (ms : Members) (name : List ℕ) (value : Data) → 0 < length (member_texts (behind ms name value))
 some-behind no_members name value = omega arith
 some-behind (member l e ms) name value = omega arith
-
-put_all-behind : (ms found : Members) (name : List ℕ) (value : Data) → put_all (behind ms name value) found ≡ put name value (put_all ms found)
-put_all-behind no_members found name value = refl
-put_all-behind (member l e ms) found name value = put_all-behind ms (put l e found) name value
-
-back-behind : (ms : Members) (name : List ℕ) (value : Data) → AreBack ms → IsBack value → AreBack (behind ms name value)
-back-behind no_members name value all own = (own, tt)
-back-behind (member l e ms) name value all own = (all.0, back-behind ms name value all.1 own)
-
-shallow-behind : (ms : Members) (name : List ℕ) (value : Data) → members_depth ms ≤ 1 → depth value ≤ 1 → members_depth (behind ms name value) ≤ 1
-shallow-behind no_members name value all own = omega (arith, own)
-shallow-behind (member l e ms) name value all own = omega (arith, all, shallow-behind ms name value (omega (arith, all)) own)
 
 -- ---- places
 
@@ -108,41 +95,81 @@ shallow-place ((other, Some d) ∷ front) name value back all =
     let rest = shallow-place front name value back (omega (arith, all)) in
     (omega (arith, all, rest.0), rest.1)
 
-pub put-none : (all : Members) → all ≡ no_members → ArePut no_members all
-put-none all none = record { put = sym none; back = λ is. tt; shallow = λ is. omega arith }
+pub read-none : (all : Members) → all ≡ no_members → MayBeReadAs no_members all
+read-none all none = λ back low. record { read = ap (λ (ms : Members). Some ms) (sym none); numbers = tt; shallow = omega arith }
 
 -- one member more
-pub put-more : (ms : Members) (name : List ℕ) (value : Data) (before after : Places) → ArePut ms (filled before) → Fills name value before after → ArePut (behind ms name value) (filled after)
-put-more ms name value before after are fills = record {
-  put = put_all-behind ms no_members name value
-      ∙ (ap (put name value) (are.put ∙ ap filled fills.empty)
-      ∙ (put-place fills.front name value fills.back fills.lesser fills.greater ∙ ap filled (sym fills.full)));
-  back = λ all.
-      let own = back-place fills.front name value fills.back (subst (λ (ps : Places). AreBack (filled ps)) fills.full all) in
-      back-behind ms name value (are.back (subst (λ (ps : Places). AreBack (filled ps)) (sym fills.empty) own.0)) own.1;
-  shallow = λ all.
-      let own = shallow-place fills.front name value fills.back (subst (λ (ps : Places). members_depth (filled ps) ≤ 1) fills.full all) in
-      shallow-behind ms name value (are.shallow (subst (λ (ps : Places). members_depth (filled ps) ≤ 1) (sym fills.empty) own.0)) own.1;
+pub read-part : (ms : Members) (name : List ℕ) (own value : Data) (before after : Places) → MayBeReadAs ms (filled before) → Fills name value before after → (IsBack value → depth value ≤ 1 → IsReadAs 1 own value) → MayBeReadAs (behind ms name own) (filled after)
+read-part ms name own value before after are fills is = λ back low.
+    let backs = back-place fills.front name value fills.back (subst (λ (ps : Places). AreBack (filled ps)) fills.full back) in
+    let lows = shallow-place fills.front name value fills.back (subst (λ (ps : Places). members_depth (filled ps) ≤ 1) fills.full low) in
+    let others = are (subst (λ (ps : Places). AreBack (filled ps)) (sym fills.empty) backs.0) (subst (λ (ps : Places). members_depth (filled ps) ≤ 1) (sym fills.empty) lows.0) in
+    let one = is backs.1 lows.1 in
+    record {
+      read = read-behind ms no_members (filled before) name own value others.read one.read
+          ∙ ap (λ (all : Members). Some all)
+          (ap (λ (ps : Places). put name value (filled ps)) fills.empty
+          ∙ (put-place fills.front name value fills.back fills.lesser fills.greater ∙ ap filled (sym fills.full)));
+      numbers = numbers-behind ms name own others.numbers one.numbers;
+      shallow = shallow-behind ms name own others.shallow one.shallow;
+    }
+
+-- a value that stands for itself
+pub itself : (value : Data) → IsBack value → depth value ≤ 1 → IsReadAs 1 value value
+itself value back low = record { read = back.0; numbers = back.1; shallow = low }
+
+-- ---- attributes in the order in which they stand
+
+abbrev pub put_attributes : Attributes → Attributes → Attributes
+put_attributes [] found = found
+put_attributes (attr ∷ stood) found = put_attributes stood (with_attribute found attr.0 attr.1)
+
+pub put_attributes-behind : (stood found : Attributes) (attr : List ℕ × List ℕ) → put_attributes (stood ++ attr ∷ []) found ≡ with_attribute (put_attributes stood found) attr.0 attr.1
+put_attributes-behind [] found attr = refl
+put_attributes-behind (first ∷ stood) found attr = put_attributes-behind stood (with_attribute found first.0 first.1) attr
+
+put-in_turn : (attrs : Attributes) (name value : List ℕ) → put name (hexadecimal value) (attributes_in_turn attrs) ≡ attributes_in_turn (with_attribute attrs name value)
+put-in_turn [] name value = refl
+put-in_turn (attr ∷ attrs) name value = by (name_cmp name attr.0) (put-in_turn attrs name value)
+  where
+    by : (o : Ordering) → put name (hexadecimal value) (attributes_in_turn attrs) ≡ attributes_in_turn (with_attribute attrs name value)
+        → match_ordering o (member name (hexadecimal value) (attributes_in_turn (attr ∷ attrs))) (member attr.0 (hexadecimal value) (attributes_in_turn attrs)) (member attr.0 (hexadecimal attr.1) (put name (hexadecimal value) (attributes_in_turn attrs)))
+        ≡ attributes_in_turn (match_ordering o ((name, value) ∷ attr ∷ attrs) ((attr.0, value) ∷ attrs) (attr ∷ with_attribute attrs name value))
+    by Less later = refl
+    by Equal later = refl
+    by Greater later = ap (member attr.0 (hexadecimal attr.1)) later
+
+stood_read : (stood found : Attributes) → of_members (members_outline (attributes_in_turn stood)) (attributes_in_turn found) ≡ Some (attributes_in_turn (put_attributes stood found))
+stood_read [] found = refl
+stood_read (attr ∷ stood) found =
+    ap (of_members (members_outline (attributes_in_turn stood))) (put-in_turn found attr.0 attr.1) ∙ stood_read stood (with_attribute found attr.0 attr.1)
+
+stood_numbers : (stood : Attributes) → MembersHaveNumbers (members_outline (attributes_in_turn stood))
+stood_numbers [] = tt
+stood_numbers (attr ∷ stood) = (tt, stood_numbers stood)
+
+stood_shallow : (stood : Attributes) → members_depth (attributes_in_turn stood) ≤ 0
+stood_shallow [] = omega arith
+stood_shallow (attr ∷ stood) = omega (arith, stood_shallow stood)
+
+pub attributes-read : (stood attrs : Attributes) → put_attributes stood [] ≡ attrs → ascends attribute_cmp attrs ≡ true → IsReadAs 1 (object (attributes_in_turn stood)) (object (attribute_members attrs))
+attributes-read stood attrs put up = record {
+  read = ap (option_map object) (stood_read stood [] ∙ ap (λ (all : Members). Some all) (ap attributes_in_turn put ∙ sym (attribute_members-in_turn attrs up)));
+  numbers = stood_numbers stood;
+  shallow = omega (arith, stood_shallow stood);
 }
 
 -- ---- an entry
 
 -- an entry's members in any order are read as the entry's value
-pub entry-ordered : (version : Version) (path : PathNames) (inode : Inode) (ms all : Members) → ArePut ms all → all ≡ with_kind inode.kind (common_members version (path, inode)) → is_sound_inode inode ≡ true → IsReadAs 2 (object ms) (entry_value version (path, inode))
-entry-ordered version path inode ms all are same sound =
-    let back = are.back (subst AreBack (sym same) (entry_members-back version path inode sound)) in
-    let shallow = are.shallow (subst (λ (own : Members). members_depth own ≤ 1) (sym same) (omega (arith, entry-shallow version (path, inode)))) in
+pub entry-ordered : (version : Version) (path : PathNames) (inode : Inode) (ms all : Members) → MayBeReadAs ms all → all ≡ with_kind inode.kind (common_members version (path, inode)) → is_sound_inode inode ≡ true → IsReadAs 2 (object ms) (entry_value version (path, inode))
+entry-ordered version path inode ms all may same sound =
+    let are = may (subst AreBack (sym same) (entry_members-back version path inode sound)) (subst (λ (own : Members). members_depth own ≤ 1) (sym same) (omega (arith, entry-shallow version (path, inode)))) in
     record {
-      read = ap (option_map object) (members-read ms no_members back ∙ ap (λ (own : Members). Some own) (are.put ∙ same));
-      numbers = members-numbers ms back;
-      shallow = omega (arith, shallow);
+      read = ap (option_map object) (are.read ∙ ap (λ (own : Members). Some own) same);
+      numbers = are.numbers;
+      shallow = omega (arith, are.shallow);
     }
-
--- and so is the value itself
-pub entry-itself : (version : Version) (path : PathNames) (inode : Inode) → is_sound_inode inode ≡ true → IsReadAs 2 (entry_value version (path, inode)) (entry_value version (path, inode))
-entry-itself version path inode sound =
-    let back = entry-back version path inode sound in
-    record { read = back.0; numbers = back.1; shallow = entry-shallow version (path, inode) }
 
 -- ---- the list of entries
 

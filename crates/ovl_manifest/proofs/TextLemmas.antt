@@ -55,11 +55,11 @@ put-shallow n k d (member l e ms) own others = by (slice_cmp nat_cmp k l) (put-s
     by Equal later = omega (arith, own, others)
     by Greater later = omega (arith, later, others)
 
-attributes-shallow : (attrs : Attributes) → members_depth (attribute_members attrs) ≤ 0
+pub attributes-shallow : (attrs : Attributes) → members_depth (attribute_members attrs) ≤ 0
 attributes-shallow [] = omega arith
 attributes-shallow (attr ∷ attrs) = put-shallow 0 attr.0 (hexadecimal attr.1) (attribute_members attrs) (omega arith) (attributes-shallow attrs)
 
-kind-shallow : (kind : Kind) (ms : Members) → members_depth ms ≤ 1 → members_depth (with_kind kind ms) ≤ 1
+pub kind-shallow : (kind : Kind) (ms : Members) → members_depth ms ≤ 1 → members_depth (with_kind kind ms) ≤ 1
 kind-shallow Dir ms low = low
 kind-shallow (File size None) ms low = put-shallow 1 (codes "size") (whole size) ms (omega arith) low
 kind-shallow (File size (Some blob)) ms low = put-shallow 1 (codes "blob") (hexadecimal blob) (put (codes "size") (whole size) ms) (omega arith) (put-shallow 1 (codes "size") (whole size) ms (omega arith) low)

@@ -1,10 +1,10 @@
 -- Texts of values whose members stand in any order, for private clauses.
 use Rattle.std.specs.Prelude.{◌≡◌, ◌≤◌, ⊤, ℕ, Bool, true, false, Some, List, [], ◌∷◌, ◌++◌}
 use Rattle.json.specs.Print.{quoted}
-use Rattle.json.specs.Tree.{HasNumbers}
-use Rattle.serde_json.specs.Data.{Data, Members, no_members, member, put, depth, members_depth}
-use Rattle.serde_json.specs.Read.{of_json}
-use Rattle.serde_json.specs.Written.{outline, comma_if, compact_text}
+use Rattle.json.specs.Tree.{HasNumbers, MembersHaveNumbers}
+use Rattle.serde_json.specs.Data.{Data, Members, no_members, member, depth, members_depth}
+use Rattle.serde_json.specs.Read.{of_json, of_members}
+use Rattle.serde_json.specs.Written.{outline, members_outline, comma_if, compact_text}
 
 -- texts one after another, the first behind a comma if others come `before`
 abbrev pub commas : Bool → List (List ℕ) → List ℕ
@@ -16,11 +16,6 @@ abbrev pub member_texts : Members → List (List ℕ)
 member_texts no_members = []
 member_texts (member name value members) =
     (quoted name ++ 58 ∷ compact_text value) ∷ member_texts members
-
--- members put one after another behind others
-abbrev pub put_all : Members → Members → Members
-put_all no_members found = found
-put_all (member name value members) found = put_all members (put name value found)
 
 -- a value is read as another, its numbers are numbers of JSON, and it nests at most so deep
 pub record IsReadAs (limit : ℕ) (own value : Data) : Type 0 where
@@ -42,8 +37,12 @@ abbrev pub AreBack : Members → Type 0
 AreBack no_members = ⊤
 AreBack (member name value members) = IsBack value × AreBack members
 
--- put one after another these members give those, and as much holds of them
-pub record ArePut (members all : Members) : Type 0 where
-  pub put : put_all members no_members ≡ all
-  pub back : AreBack all → AreBack members
-  pub shallow : members_depth all ≤ 1 → members_depth members ≤ 1
+-- members are read as these, one after another
+pub record AreReadAs (members all : Members) : Type 0 where
+  pub read : of_members (members_outline members) no_members ≡ Some all
+  pub numbers : MembersHaveNumbers (members_outline members)
+  pub shallow : members_depth members ≤ 1
+
+-- and so they are where these can be read
+abbrev pub MayBeReadAs : Members → Members → Type 0
+MayBeReadAs members all = AreBack all → members_depth all ≤ 1 → AreReadAs members all

@@ -1,11 +1,11 @@
 -- The members of an entry that were read so far, each in its place, for private clauses.
-use Rattle.std.specs.Prelude.{◌≡◌, ℕ, true, Option, Some, None, List, [], ◌∷◌, ◌++◌, codes}
+use Rattle.std.specs.Prelude.{◌≡◌, ◌≤◌, ℕ, true, Option, Some, None, List, [], ◌∷◌, ◌++◌, codes}
 use Rattle.std.specs.Cow.{cow_str_bytes}
 use Rattle.std.specs.List.{list_all}
 use Rattle.std.specs.Option.{option_map}
 use Rattle.std.specs.Ordering.{is_lt}
 use Rattle.json.specs.Print.{quoted}
-use Rattle.serde_json.specs.Data.{Data, number, string, object, Members, no_members, member}
+use Rattle.serde_json.specs.Data.{Data, number, string, object, Members, no_members, member, depth}
 use Rattle.serde_json.specs.Find.{of_integer}
 use Rattle.serde_json.specs.Written.{compact_text}
 use Rattle.ovl_names.specs.Names.{name_cmp}
@@ -13,7 +13,7 @@ use Rattle.ovl_inode.specs.declared.digests.Digest.{Digest}
 use Rattle.ovl_inode.specs.declared.inodes.Kind.{Kind}
 use Rattle.ovl_inode.specs.declared.inodes.Kind.TheVariants.{File, Symlink}
 use Rattle.ovl_inode.specs.Kinds.{kind_word}
-use Rattle.ovl_manifest.specs.AnyOrder.{ArePut}
+use Rattle.ovl_manifest.specs.AnyOrder.{IsReadAs, IsBack, MayBeReadAs}
 use Rattle.ovl_manifest.specs.Compact.{blob_of_kind, device_of_kind}
 use Rattle.ovl_manifest.specs.Text.{whole, hexadecimal, attribute_members}
 use Rattle.ovl_manifest.specs.declared.unordered_entries.Parts.{Parts}
@@ -62,15 +62,17 @@ pub record Fills (name : List ℕ) (value : Data) (before after : Places) : Type
 -- the text begins with a member, which comes to the others
 pub record TakesPart (text : List ℕ) (parts : Parts) (rest : List ℕ) (more : Parts) : Type 0 where
   pub name : List ℕ
+  pub own : Data
   pub value : Data
-  pub first : text ≡ quoted name ++ 58 ∷ (compact_text value ++ rest)
+  pub first : text ≡ quoted name ++ 58 ∷ (compact_text own ++ rest)
   pub fills : Fills name value (places parts) (places more)
+  pub back : IsBack value → depth value ≤ 1 → IsReadAs 1 own value
 
 -- the text begins with an object of these members in any order
 pub record SpellsParts (parts : Parts) (text rest : List ℕ) : Type 0 where
   pub members : Members
   pub taken : text ≡ compact_text (object members) ++ rest
-  pub are : ArePut members (filled (places parts))
+  pub are : MayBeReadAs members (filled (places parts))
 
 -- the nanoseconds as a version has them in their place
 abbrev pub nsec_place : Version → ℕ → Option ℕ
