@@ -2,8 +2,6 @@
 use Rattle.std.proofs.Common.{◌≡◌, ◌∙◌, ℕ, ℤ, pos, negsuc, zero, suc, ◌+◌, ◌*◌, ◌/◌, ◌%◌, ◌≤◌, ◌<◌, ◌^◌, append-nil, List, [], ◌∷◌, ◌++◌, length, length-take, take, get_or, Bool, true, false, Option, Some, None, Result, Ok, Err, refl, sym, ap, ap₂, subst, append_assoc, arith, ltb-true, eqb-true, decimal}
 use Rattle.std.specs.Prelude.{◌==◌, not, ◌&&◌, ◌||◌, nat_eq, nat_lt, slice_index, codes, option_and_then, if◌then◌else◌, is_some, unwrap_or, MatchOption}
 use Rattle.std.specs.List.{list_all}
-use Rattle.std.specs.Ordering.{is_lt}
-use Rattle.std.specs.Cmp.Lexicographic.{nat_list_cmp_total}
 use Rattle.std.specs.Fmt.{signed_decimal}
 use Rattle.std.specs.Str.{IsUtf8}
 use Rattle.std.proofs.lemmas.Option.{option_and_then_some}
@@ -28,18 +26,17 @@ use Rattle.serde_json.specs.Find.{as_str, of_integer}
 use Rattle.serde_json.specs.Read.{read, max_depth, of_json}
 use Rattle.serde_json.specs.Written.{outline, number_text, comma_if, compact_text, items_text, members_text}
 use Rattle.serde_json.proofs.Texts.{print-outline}
-use Rattle.ovl_names.specs.Names.{name_cmp}
 use Rattle.ovl_names.specs.Order.{ascends}
 use Rattle.ovl_names.specs.Paths.{PathNames, path_text}
-use Rattle.ovl_names.proofs.Ascending.{both, reversed, ascends-across, is_lt-Less}
+use Rattle.ovl_names.proofs.Ascending.{both}
 use Rattle.ovl_inode.specs.declared.digests.Digest.{Digest}
 use Rattle.ovl_inode.specs.declared.inodes.Inode.{Inode}
 use Rattle.ovl_inode.specs.declared.inodes.Kind.{Kind}
 use Rattle.ovl_inode.specs.declared.inodes.Kind.TheVariants.{Dir, File, Symlink, Char, Block, Fifo, Socket}
-use Rattle.ovl_inode.specs.Attributes.{Attributes, attribute_cmp, all_before, is_attribute_name, with_attribute}
+use Rattle.ovl_inode.specs.Attributes.{Attributes, attribute_cmp, is_attribute_name, with_attribute}
 use Rattle.ovl_inode.specs.Hexadecimal.{is_lower_digit, bytes_of_digits, digest_of_text}
 use Rattle.ovl_inode.specs.Kinds.{kind_word}
-use Rattle.ovl_layer.specs.Layers.{Entry, Entries, IsLayer}
+use Rattle.ovl_layer.specs.Layers.{Entries, IsLayer}
 use Rattle.ovl_manifest.specs.Manifest.{read_layer}
 use Rattle.ovl_manifest.specs.Versions.{version_number, is_stated_by}
 use Rattle.ovl_manifest.specs.declared.versions.Version.{Version}
@@ -315,17 +312,17 @@ layer_text version layer rest =
     ∙ ap (λ (t : List ℕ). begin ++ t) (append_assoc items (named ++ (own ++ codes "}")) rest ∙ ap (λ (t : List ℕ). items ++ (named ++ t)) (append_assoc own (codes "}") rest)))
 
 -- the same with a list of the entries as it stands, and with the number first
-pub entries_first : (own : Data) (number : ℕ) (rest : List ℕ)
-    → codes "{\"entries\":" ++ (compact_text own ++ (codes ",\"overlay-layer\":" ++ (decimal number ++ (codes "}" ++ rest))))
-    ≡ compact_text (object (member (codes "entries") own (member (codes "overlay-layer") (whole number) no_members))) ++ rest
+pub entries_first : (own : Data) (n : ℕ) (rest : List ℕ)
+    → codes "{\"entries\":" ++ (compact_text own ++ (codes ",\"overlay-layer\":" ++ (decimal n ++ (codes "}" ++ rest))))
+    ≡ compact_text (object (member (codes "entries") own (member (codes "overlay-layer") (whole n) no_members))) ++ rest
 unfolding escape_byte
-entries_first own number rest = simp append_assoc
+entries_first own n rest = simp append_assoc
 
-pub number_first : (own : Data) (number : ℕ) (rest : List ℕ)
-    → codes "{\"overlay-layer\":" ++ (decimal number ++ (codes ",\"entries\":" ++ (compact_text own ++ (codes "}" ++ rest))))
-    ≡ compact_text (object (member (codes "overlay-layer") (whole number) (member (codes "entries") own no_members))) ++ rest
+pub number_first : (own : Data) (n : ℕ) (rest : List ℕ)
+    → codes "{\"overlay-layer\":" ++ (decimal n ++ (codes ",\"entries\":" ++ (compact_text own ++ (codes "}" ++ rest))))
+    ≡ compact_text (object (member (codes "overlay-layer") (whole n) (member (codes "entries") own no_members))) ++ rest
 unfolding escape_byte
-number_first own number rest = simp append_assoc
+number_first own n rest = simp append_assoc
 
 -- a text of a layer states it, with a newline and without
 module _ (version : Version) (layer : Entries) (value : Data) (back : IsReadAs 4 value (layer_value version layer)) (is : IsLayer layer) (stated : list_all (is_stated_by version) layer ≡ true) where

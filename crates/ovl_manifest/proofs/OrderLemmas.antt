@@ -1,6 +1,6 @@
 -- Members in any order, and entries of them.
 use Rattle.std.proofs.Common.{◌≡◌, ◌∙◌, ℕ, ◌≤◌, ◌<◌, List, [], ◌∷◌, ◌++◌, Bool, true, false, Option, Some, None, length, map, refl, sym, ap, subst, append_assoc, append-nil, arith}
-use Rattle.std.specs.Prelude.{⊤, ◌&&◌, codes}
+use Rattle.std.specs.Prelude.{⊤, IfSome, codes}
 use Rattle.std.specs.Option.{option_map}
 use Rattle.std.specs.List.{list_all}
 use Rattle.std.specs.Ordering.{is_lt, match_ordering}
@@ -117,6 +117,14 @@ read-part ms name own value before after are fills is = λ back low.
 -- a value that stands for itself
 pub itself : (value : Data) → IsBack value → depth value ≤ 1 → IsReadAs 1 value value
 itself value back low = record { read = back.0; numbers = back.1; shallow = low }
+
+pub if_some-then : {A P Q : Type 0} (o : Option A) → (P → Q) → IfSome o (λ _. P) → IfSome o (λ _. Q)
+if_some-then None then is = tt
+if_some-then (Some a) then is = then is
+
+-- a member's name, the colon, and its value
+pub part-first : (text after behind rest named name : List ℕ) (own : Data) → text ≡ quoted named ++ after → after ≡ 58 ∷ behind → named ≡ name → behind ≡ compact_text own ++ rest → text ≡ quoted name ++ 58 ∷ (compact_text own ++ rest)
+part-first text after behind rest named name own first colon same value = first ∙ (λ j. quoted (same j) ++ (colon ∙ ap (λ (t : List ℕ). 58 ∷ t) value) j)
 
 -- ---- attributes in the order in which they stand
 

@@ -15,7 +15,7 @@ use Rattle.json.specs.Print.{quoted}
 use Rattle.json.proofs.Printed.Utf8.{IsUtf8-are_ascii, IsUtf8-quoted, are_ascii}
 use Rattle.serde_json.specs.Data.{Data, array, number, object, string, Members, no_members, member, put}
 use Rattle.serde_json.specs.Find.{of_integer}
-use Rattle.serde_json.specs.Written.{comma_if, compact_text, items_text, members_text, number_text}
+use Rattle.serde_json.specs.Written.{comma_if, compact_text, items_text, members_text}
 use Rattle.ovl_names.specs.Names.{is_name, name_fault, slash}
 use Rattle.ovl_names.specs.Paths.{PathNames, has_names, path_text}
 use Rattle.ovl_names.proofs.Ascending.{both}
@@ -23,7 +23,7 @@ use Rattle.ovl_inode.specs.declared.digests.Digest.{Digest}
 use Rattle.ovl_inode.specs.declared.inodes.Inode.{Inode}
 use Rattle.ovl_inode.specs.declared.inodes.Kind.{Kind}
 use Rattle.ovl_inode.specs.declared.inodes.Kind.TheVariants.{Dir, File, Symlink, Char, Block, Fifo, Socket}
-use Rattle.ovl_inode.specs.Attributes.{Attributes, are_attributes, attribute_fault, is_attribute, is_attribute_name}
+use Rattle.ovl_inode.specs.Attributes.{Attributes, attribute_fault, is_attribute, is_attribute_name}
 use Rattle.ovl_inode.specs.Bytes.{are_bytes}
 use Rattle.ovl_inode.specs.Kinds.{kind_word}
 use Rattle.ovl_inode.specs.Marks.{has_metacopy}

@@ -80,11 +80,13 @@ pub read-behind : (ms found all : Members) (name : List ℕ) (own value : Data) 
 read-behind no_members found all name own value are is =
     let same : Some found ≡ Some all = are in
     ap (option_and_then (λ d. Some (put name d found))) is ∙ ap (option_map (put name value)) same
-read-behind (member l e ms) found all name own value are is = by (of_json (outline e)) are
+read-behind (member l e ms) found all name own value are is = by (of_json (outline e)) are (λ d some. read-behind ms (put l d found) all name own value some is)
   where
-    by : (o : Option Data) → option_and_then (λ d. of_members (members_outline ms) (put l d found)) o ≡ Some all → option_and_then (λ d. of_members (members_outline (behind ms name own)) (put l d found)) o ≡ Some (put name value all)
-    by None none = let bad : None ≡ Some all = none in cc
-    by (Some d) some = read-behind ms (put l d found) all name own value some is
+    by : (o : Option Data) → option_and_then (λ d. of_members (members_outline ms) (put l d found)) o ≡ Some all
+        → ((d : Data) → of_members (members_outline ms) (put l d found) ≡ Some all → of_members (members_outline (behind ms name own)) (put l d found) ≡ Some (put name value all))
+        → option_and_then (λ d. of_members (members_outline (behind ms name own)) (put l d found)) o ≡ Some (put name value all)
+    by None none later = let bad : None ≡ Some all = none in cc
+    by (Some d) some later = later d some
 
 pub numbers-behind : (ms : Members) (name : List ℕ) (own : Data) → MembersHaveNumbers (members_outline ms) → HasNumbers (outline own) → MembersHaveNumbers (members_outline (behind ms name own))
 numbers-behind no_members name own all is = (is, tt)

@@ -1,5 +1,5 @@
 -- Texts of values whose members stand in any order, for private clauses.
-use Rattle.std.specs.Prelude.{◌≡◌, ◌≤◌, ⊤, ℕ, Bool, true, false, Some, List, [], ◌∷◌, ◌++◌}
+use Rattle.std.specs.Prelude.{◌≡◌, ◌≤◌, ⊤, ℕ, Bool, true, Some, List, [], ◌∷◌, ◌++◌}
 use Rattle.json.specs.Print.{quoted}
 use Rattle.json.specs.Tree.{HasNumbers, MembersHaveNumbers}
 use Rattle.serde_json.specs.Data.{Data, Members, no_members, member, depth, members_depth}

@@ -30,9 +30,9 @@ use std::borrow::CowStr;
 // bytes of the text seldom grows. Room that no entry takes is never touched.
 const ENTRY_TEXT: usize = 96;
 
-/// The sheet of the layer whose manifest these bytes are, byte for byte as
-/// [`write_layer`](crate::write_layer) writes it, or wrote it in the first version; the newline at
-/// its end may be missing. Gives none of manifests that are written in another way, of any fault
+/// The sheet of the layer whose manifest these bytes are, without white space but for a newline at
+/// its end, and with no more escapes than it needs; members may stand in any order, but for
+/// attributes none twice. Gives none of manifests that are written in another way, of any fault
 /// and where memory runs out.
 pub(crate) fn read_compact(alloc: Global, bytes: &[u8]) -> Option<Sheet>
     ensures { IfSome result (λ sheet. layer_stated bytes.now ≡ Ok sheet) }

@@ -79,7 +79,7 @@ fn read_parts<'a>(alloc: Global, rest: &mut Rest<'a>) -> Option<Parts<'a>>
     ensures { IfSome result (λ parts. SpellsParts parts rest.old rest.new) }
 {
     rest.take("{")?;
-    let mut parts = Parts::none();
+    let mut parts: Parts<'a> = Parts::none();
     read_part(alloc, rest, &mut parts)?;
     'parts: while rest.take(",").is_some() {
         read_part(alloc, rest, &mut parts)?;
@@ -163,7 +163,7 @@ fn take_target(alloc: Global, rest: &mut Rest<'_>) -> Option<Target>
 fn entry_of<'a>(version: Version, parts: Parts<'a>) -> Option<(CowStr<'a, Global>, Inode)>
     ensures members { IfSome result
         (λ entry. (path : PathNames) → path_text path ≡ cow_str_bytes entry.0
-        → filled (places parts) ≡ with_kind entry.1.kind (common_members version (path, entry.1))) }
+        → filled (places parts.entry) ≡ with_kind entry.1.kind (common_members version (path, entry.1))) }
     ensures stated { IfSome result (λ entry. states_nsec version entry.1.nsec ≡ true) }
     ensures sound { IfSome result (λ entry. is_sound_inode entry.1 ≡ true) }
 {

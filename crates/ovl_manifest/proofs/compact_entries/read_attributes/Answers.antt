@@ -1,12 +1,14 @@
-use Rattle.std.proofs.Common.{◌≡◌, ◌∙◌, ◌++◌, ◌∷◌, [], ℕ, List, true, false, refl, sym, ap, subst, append_assoc, append-nil, length, length-append, arith}
+use Rattle.std.proofs.Common.{◌≡◌, ◌∙◌, ◌++◌, ◌∷◌, [], ℕ, List, true, false, refl, sym, ap, subst, append_assoc, append-nil, length-append, arith}
 use Rattle.std.specs.List.{list_all}
-use Rattle.serde_json.specs.Data.{object}
+use Rattle.serde_json.specs.Data.{object, no_members}
 use Rattle.ovl_names.specs.Order.{ascends}
 use Rattle.ovl_names.proofs.Ascending.{both}
 use Rattle.ovl_inode.specs.Attributes.{Attributes, attribute_cmp, is_attribute, are_attributes, with_attribute}
+use Rattle.ovl_manifest.specs.AnyOrder.{IsReadAs}
+use Rattle.ovl_manifest.specs.Text.{attribute_members}
 use Rattle.ovl_manifest.specs.Compact.{attribute_text, attributes_text}
 use Rattle.ovl_manifest.proofs.CompactLemmas.{some-taken, none-taken, attributes-onto, attributes_object-stood}
-use Rattle.ovl_manifest.proofs.OrderLemmas.{put_attributes, put_attributes-behind, attributes-read}
+use Rattle.ovl_manifest.proofs.OrderLemmas.{put_attributes-behind, attributes-read}
 use Rattle.ovl_manifest.proofs.TextLemmas.{attributes_in_turn}
 use Rattle.ovl_manifest.proofs.compact_entries.read_attributes.Goals as goal
 
@@ -17,7 +19,9 @@ attributes-init c =
     record {
       stood = added.attr ∷ [];
       some = omega arith;
-      taken = c.in_ok-take.ensures ∙ ap (λ (t : List ℕ). 123 ∷ t) (added.first ∙ ap (λ (t : List ℕ). t ++ rest) (sym (append-nil (attribute_text added.attr))));
+      taken = sym (none-taken _ c.take.result c.take.ensures (sym c.is_some.ensures ∙ c.if-is_some.false))
+          ∙ c.in_ok-take.ensures
+          ∙ ap (λ (t : List ℕ). 123 ∷ t) (added.first ∙ ap (λ (t : List ℕ). t ++ rest) (sym (append-nil (attribute_text added.attr))));
       put = ap (λ (attrs : Attributes). with_attribute attrs added.attr.0 added.attr.1) (sym c.new-attrs.ensures) ∙ sym added.put;
     }
 
@@ -37,6 +41,13 @@ attributes-preserved c =
           ∙ attributes-onto stood added.attr rest before.some);
       put = put_attributes-behind stood [] added.attr ∙ (ap (λ (attrs : Attributes). with_attribute attrs added.attr.0 added.attr.1) before.put ∙ sym added.put);
     }
+
+pub returns-then-is_some : goal.returns-then-is_some
+returns-then-is_some c = record {
+  own = object no_members;
+  taken = some-taken _ c.take.result c.take.ensures (sym c.is_some.ensures ∙ c.if-is_some.true);
+  back = subst (λ (attrs : Attributes). IsReadAs 1 (object no_members) (object (attribute_members attrs))) (sym c.new-attrs.ensures) (attributes-read [] [] refl refl);
+}
 
 pub returns : goal.returns
 returns c =

@@ -55,7 +55,8 @@ returns-then-sound-clause-text c = λ path spelled.
     let pieced : in_turn c.args.version blob word device inode (signed_decimal seconds) text own.own rest ≡ pieces c.args.version path inode kind own.own rest =
     λ j. in_turn c.args.version (sym is.same_blob j) (sym is.same_word j) (sym is.same_device j) inode (sym (seconds_text seconds) j) (sym spelled j) own.own rest in
     let fits : SFits w64 seconds = search rules in
-    let sound : is_sound_inode inode ≡ true = ? in
+    let sound : is_sound_inode inode ≡ true =
+    subst (λ (mtime : ℤ). is_sound_inode (record inode { mtime = mtime }) ≡ true) (to_z-of_z w64 seconds fits) (sym c.sound.ensures ∙ c.if-sound.true) in
     subst (λ (mtime : ℤ). Spells 2 (entry_value c.args.version (path, record inode { mtime = mtime })) c.args.rest.now rest) (sym (to_z-of_z w64 seconds fits)) (record {
       own = object (with_kind kind (common_with c.args.version path inode own.own));
       taken = taken ∙ (pieced ∙ entry_text c.args.version path inode own.own rest);

@@ -1,4 +1,4 @@
-use Rattle.std.proofs.Common.{◌≡◌, ◌∙◌, ◌++◌, ◌∷◌, [], ℕ, List, true, false, sym, ap, append_assoc, length, arith}
+use Rattle.std.proofs.Common.{◌∙◌, ◌++◌, ◌∷◌, [], ℕ, List, false, sym, ap, append_assoc, arith}
 use Rattle.json.specs.Print.{quoted}
 use Rattle.serde_json.specs.Data.{Members, no_members, member}
 use Rattle.serde_json.specs.Written.{compact_text}
@@ -30,7 +30,7 @@ parts-preserved c =
     let rest : List ℕ = c.read_part-in-parts.new.rest in
     let added = c.in_ok-read_part-2.ensures in
     let text : List ℕ = quoted added.name ++ 58 ∷ compact_text added.own in
-    let comma = some-taken _ c.take-in-parts.result c.take-in-parts.ensures (sym c.is_some-in-parts.ensures ∙ c.parts-test.true) in
+    let comma = some-taken _ c.take-in-parts.result c.take-in-parts.ensures (sym c.is_some.ensures ∙ c.parts-test.true) in
     record {
       members = behind members added.name added.own;
       some = some-behind members added.name added.own;
@@ -46,7 +46,7 @@ pub returns : goal.returns
 returns c =
     let members : Members = c.parts.invariant.members in
     let rest : List ℕ = c.take-2.new.self in
-    let ended = sym (none-taken _ c.take-in-parts.result c.take-in-parts.ensures (sym c.is_some-in-parts.ensures ∙ c.parts-test.false)) ∙ c.in_ok-take-2.ensures in
+    let ended = sym (none-taken _ c.take-in-parts.result c.take-in-parts.ensures (sym c.is_some.ensures ∙ c.parts-test.false)) ∙ c.in_ok-take-2.ensures in
     record {
       members = members;
       taken = c.parts.invariant.taken
