@@ -14,11 +14,10 @@ ghost use Rattle.ovl_manifest.specs.Versions.{depth_of, is_stated_by, states_nse
 ghost use Rattle.ovl_layer.specs.TextPaths.{slashed, AreEnds};
 ghost use Rattle.ovl_layer.specs.SheetDrafts.{drafted, last_path, IsSheetDraft};
 
-use crate::compact_entries;
 use crate::compact_texts::Rest;
 use crate::text_paths::{go_on, place_beside};
-use crate::unordered_entries;
 use crate::versions::Version;
+use crate::{compact_entries, unordered_entries};
 use ovl_inode::{Inode, is_directory};
 use ovl_layer::{ENTRY_LIMIT, Sheet, SheetDraft, has_escaped_name};
 use ovl_names::{Name, TEXT_LIMIT};
@@ -84,7 +83,11 @@ fn take_number(version: Version, rest: &mut Rest<'_>) -> Option<()>
     ensures { IfSome result (λ _. rest.old ≡ decimal (version_number version) ++ rest.new) }
 {
     let number = rest.take_natural(u64::MAX)?;
-    if number == version.number() { Some(()) } else { None }
+    if number == version.number() {
+        Some(())
+    } else {
+        None
+    }
 }
 
 // The sheet of a list of at least one entry and at most `ENTRY_LIMIT`.
