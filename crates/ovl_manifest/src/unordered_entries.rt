@@ -163,7 +163,8 @@ fn take_target(alloc: Global, rest: &mut Rest<'_>) -> Option<Target>
 fn entry_of<'a>(version: Version, parts: Parts<'a>) -> Option<(CowStr<'a, Global>, Inode)>
     ensures members { IfSome result
         (λ entry. (path : PathNames) → path_text path ≡ cow_str_bytes entry.0
-        → filled (places parts.entry) ≡ with_kind entry.1.kind (common_members version (path, entry.1))) }
+        → filled (places parts.entry)
+        ≡ with_kind entry.1.kind (common_members version (path, entry.1))) }
     ensures stated { IfSome result (λ entry. states_nsec version entry.1.nsec ≡ true) }
     ensures sound { IfSome result (λ entry. is_sound_inode entry.1 ≡ true) }
 {
