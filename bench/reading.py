@@ -4,9 +4,10 @@
 Python 3.11, standard library, and `rt`, whose compiler builds refuse.c. A manifest as the commands and the converter write
 it, of either version, is read piece by piece, with no value of JSON in between. A program that made a value of each entry
 would give the same bytes, at several times the cost. So requests for memory are counted: of a manifest of 10,000 entries in
-each version, of the same with white space in it, and of the same with its two members in the other order, which is read the
-other way: the report must be the same, and the first two may take at most four fifths of the requests of the third; and of manifests that have one thing each that might be left to
-the other way, up to the second layer, which is none.
+each version, of the same with white space in it, of the same with the members of the manifest and of its entries in the
+other order, and of the same with an escape that needn't be, which is read the other way: the report must be the same, and
+the first three may take at most four fifths of the requests of the last; and of manifests that have one thing each that
+might be left to the other way, up to the second layer, which is none.
 
 Then come the requests of commands that make a layer and of lines, the bytes that are held at once, threads that start
 others, reads and opens of files, idle workers that yield their processor, and peaks of memory.
@@ -142,22 +143,32 @@ def of_manifests(bench: Bench) -> Iterator[Count]:
         yield at_most(f"requests for memory an entry, {what}", count / len(entries), 0.5)
 
 
+def backwards(members: dict[str, object]) -> dict[str, object]:
+    """A manifest or an entry with its members in the other order, and attributes as they are."""
+    return dict(reversed(members.items())) if {"entries", "path"} & members.keys() else members
+
+
 def of_versions(bench: Bench) -> Iterator[Count]:
     for version in MOST_NAMES:
-        written, spaced, other = (bench.room / f"{name}{version}.json" for name in ("written", "spaced", "other"))
+        written, spaced, turned, other = (bench.room / f"{name}{version}.json" for name in ("written", "spaced", "turned", "other"))
         with open(written, "wb") as out:
             Generator(ENTRIES, version=version).write(out)
-        value = json.loads(written.read_bytes())
+        text = written.read_text(encoding="utf-8")
+        value = json.loads(text)
         spaced.write_text(json.dumps(value, ensure_ascii=False, indent=1) + "\n", encoding="utf-8")
-        other.write_text(json.dumps(dict(reversed(value.items())), ensure_ascii=False, separators=(",", ":")), encoding="utf-8")
-        (report, count), (same, with_space), (again, more) = (
-            bench.met("memory", ["show", "--workers", "1", str(it)]) for it in (written, spaced, other))
-        if not report == same == again:
-            sys.exit(f"reading.py: version {version}: another report with white space or in another order")
-        print(f"version {version}, requests for memory an entry: {count / ENTRIES:.2f} as it is written, "
-              f"{with_space / ENTRIES:.2f} with white space, {more / ENTRIES:.2f} in another order")
-        yield at_most(f"version {version}, as it is written beside another order", count / more, MOST)
-        yield at_most(f"version {version}, with white space beside another order", with_space / more, MOST)
+        back = json.loads(text, object_hook=backwards)
+        turned.write_text(json.dumps(back, ensure_ascii=False, separators=(",", ":")), encoding="utf-8")
+        other.write_text(text.replace('"path":"/"', '"path":"\\/"', 1), encoding="utf-8")
+        (report, count), *others = (
+            bench.met("memory", ["show", "--workers", "1", str(it)]) for it in (written, spaced, turned, other))
+        if any(report != same for same, _ in others):
+            sys.exit(f"reading.py: version {version}: another report of the same entries")
+        with_space, in_order, more = (number for _, number in others)
+        print(f"version {version}, requests for memory an entry: {count / ENTRIES:.2f} as it is written, {with_space / ENTRIES:.2f} "
+              f"with white space, {in_order / ENTRIES:.2f} in another order, {more / ENTRIES:.2f} with an escape that needn't be")
+        yield at_most(f"version {version}, as it is written beside an escape", count / more, MOST)
+        yield at_most(f"version {version}, with white space beside an escape", with_space / more, MOST)
+        yield at_most(f"version {version}, in another order beside an escape", in_order / more, MOST)
 
 
 # ---- commands

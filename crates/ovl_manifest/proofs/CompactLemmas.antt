@@ -2,8 +2,6 @@
 use Rattle.std.proofs.Common.{◌≡◌, ◌∙◌, ℕ, ℤ, pos, negsuc, zero, suc, ◌+◌, ◌*◌, ◌/◌, ◌%◌, ◌≤◌, ◌<◌, ◌^◌, append-nil, List, [], ◌∷◌, ◌++◌, length, length-take, take, get_or, Bool, true, false, Option, Some, None, Result, Ok, Err, refl, sym, ap, ap₂, subst, append_assoc, arith, ltb-true, eqb-true, decimal}
 use Rattle.std.specs.Prelude.{◌==◌, not, ◌&&◌, ◌||◌, nat_eq, nat_lt, slice_index, codes, option_and_then, if◌then◌else◌, is_some, unwrap_or, MatchOption}
 use Rattle.std.specs.List.{list_all}
-use Rattle.std.specs.Ordering.{is_lt}
-use Rattle.std.specs.Cmp.Lexicographic.{nat_list_cmp_total}
 use Rattle.std.specs.Fmt.{signed_decimal}
 use Rattle.std.specs.Str.{IsUtf8}
 use Rattle.std.proofs.lemmas.Option.{option_and_then_some}
@@ -23,34 +21,34 @@ use Rattle.json.specs.Tree.{json_tokens, depth as tree_depth}
 use Rattle.json.proofs.Printed.Strings.{escape_byte_plain}
 use Rattle.json.proofs.Printed.Tokens.{tokens-print}
 use Rattle.json.proofs.Printed.Trees.{ArePrintable-json_tokens, value-json_tokens}
-use Rattle.serde_json.specs.Data.{Data, null, boolean, number, string, array, object, Members}
+use Rattle.serde_json.specs.Data.{Data, null, boolean, number, string, array, object, Members, no_members, member}
 use Rattle.serde_json.specs.Find.{as_str, of_integer}
 use Rattle.serde_json.specs.Read.{read, max_depth, of_json}
 use Rattle.serde_json.specs.Written.{outline, number_text, comma_if, compact_text, items_text, members_text}
 use Rattle.serde_json.proofs.Texts.{print-outline}
-use Rattle.ovl_names.specs.Names.{name_cmp}
 use Rattle.ovl_names.specs.Order.{ascends}
 use Rattle.ovl_names.specs.Paths.{PathNames, path_text}
-use Rattle.ovl_names.proofs.Ascending.{both, reversed, ascends-across, is_lt-Less}
+use Rattle.ovl_names.proofs.Ascending.{both}
 use Rattle.ovl_inode.specs.declared.digests.Digest.{Digest}
 use Rattle.ovl_inode.specs.declared.inodes.Inode.{Inode}
 use Rattle.ovl_inode.specs.declared.inodes.Kind.{Kind}
 use Rattle.ovl_inode.specs.declared.inodes.Kind.TheVariants.{Dir, File, Symlink, Char, Block, Fifo, Socket}
-use Rattle.ovl_inode.specs.Attributes.{Attributes, attribute_cmp, all_before, is_attribute_name, with_attribute}
+use Rattle.ovl_inode.specs.Attributes.{Attributes, attribute_cmp, is_attribute_name, with_attribute}
 use Rattle.ovl_inode.specs.Hexadecimal.{is_lower_digit, bytes_of_digits, digest_of_text}
 use Rattle.ovl_inode.specs.Kinds.{kind_word}
-use Rattle.ovl_layer.specs.Layers.{Entry, Entries, IsLayer}
+use Rattle.ovl_layer.specs.Layers.{Entries, IsLayer}
 use Rattle.ovl_manifest.specs.Manifest.{read_layer}
 use Rattle.ovl_manifest.specs.Versions.{version_number, is_stated_by}
 use Rattle.ovl_manifest.specs.declared.versions.Version.{Version}
 use Rattle.ovl_manifest.specs.declared.versions.Version.TheVariants.{One, Two}
-use Rattle.ovl_manifest.specs.Text.{attribute_members, entry_value, entry_items, layer_value}
+use Rattle.ovl_manifest.specs.AnyOrder.{IsReadAs}
+use Rattle.ovl_manifest.specs.Text.{whole, with_kind, attribute_members, entry_value, entry_items, layer_value}
 use Rattle.ovl_manifest.specs.Compact.{group_text, device_text, nsec_text, contents_text, blob_of_kind, device_of_kind, attribute_text, attributes_text, entries_text}
 use Rattle.ovl_manifest.specs.Fields.{attribute_after}
 use Rattle.ovl_manifest.proofs.ReadLemmas.{if-Some, text_read}
 use Rattle.ovl_manifest.proofs.TextLemmas.{attributes_in_turn, attribute_members-in_turn, layer-shallow}
 use Rattle.ovl_manifest.proofs.TailLemmas.{tokens-ended}
-use Rattle.ovl_manifest.proofs.WrittenBackLemmas.{layer_states, layer_numbers, outline-depth}
+use Rattle.ovl_manifest.proofs.WrittenBackLemmas.{common_with, layer_states, layer_numbers, outline-depth}
 use Rattle.ovl_manifest.proofs.StatedLemmas.{layer-back}
 
 -- ---- whether something was taken
@@ -201,40 +199,40 @@ digest-quoted digits blob is = ap quoted (digest-spelled digits blob is) ∙ ap 
 
 -- ---- an entry
 
--- the pieces of an entry's text, and what follows it
-abbrev pub in_turn : Version → Option Digest → List ℕ → Option (ℕ × ℕ) → Inode → List ℕ → List ℕ → List ℕ → List ℕ
-in_turn version blob word device inode seconds path rest =
+-- the pieces of an entry's text, with a value of its attributes, and what follows it
+abbrev pub in_turn : Version → Option Digest → List ℕ → Option (ℕ × ℕ) → Inode → List ℕ → List ℕ → Data → List ℕ → List ℕ
+in_turn version blob word device inode seconds path own rest =
     group_text blob inode.gid ++ (codes ",\"kind\":" ++ (quoted word ++ (device_text device ++ (codes ",\"mode\":" ++ (decimal inode.mode
     ++ (codes ",\"mtime\":" ++ (seconds ++ (nsec_text version inode.nsec ++ (codes ",\"path\":" ++ (quoted path ++ (contents_text inode.kind ++ (codes ",\"uid\":" ++ (decimal inode.uid
-    ++ (codes ",\"xattrs\":" ++ (compact_text (object (attribute_members inode.attrs)) ++ (codes "}" ++ rest))))))))))))))))
+    ++ (codes ",\"xattrs\":" ++ (compact_text own ++ (codes "}" ++ rest))))))))))))))))
 
 -- those of an entry of this kind
-abbrev pub pieces : Version → PathNames → Inode → Kind → List ℕ → List ℕ
-pieces version path inode kind rest =
-    in_turn version (blob_of_kind kind) (kind_word kind) (device_of_kind kind) (record inode { kind = kind }) (number_text (of_integer inode.mtime)) (path_text path) rest
+abbrev pub pieces : Version → PathNames → Inode → Kind → Data → List ℕ → List ℕ
+pieces version path inode kind own rest =
+    in_turn version (blob_of_kind kind) (kind_word kind) (device_of_kind kind) (record inode { kind = kind }) (number_text (of_integer inode.mtime)) (path_text path) own rest
 
-kind_text : (version : Version) (path : PathNames) (inode : Inode) (kind : Kind) (rest : List ℕ)
-    → pieces version path inode kind rest ≡ compact_text (entry_value version (path, record inode { kind = kind })) ++ rest
+kind_text : (version : Version) (path : PathNames) (inode : Inode) (kind : Kind) (own : Data) (rest : List ℕ)
+    → pieces version path inode kind own rest ≡ compact_text (object (with_kind kind (common_with version path (record inode { kind = kind }) own))) ++ rest
 unfolding escape_byte
-kind_text One path inode Dir rest = simp append_assoc
-kind_text One path inode (File size None) rest = simp append_assoc
-kind_text One path inode (File size (Some blob)) rest = simp append_assoc
-kind_text One path inode (Symlink target) rest = simp append_assoc
-kind_text One path inode (Char major minor) rest = simp append_assoc
-kind_text One path inode (Block major minor) rest = simp append_assoc
-kind_text One path inode Fifo rest = simp append_assoc
-kind_text One path inode Socket rest = simp append_assoc
-kind_text Two path inode Dir rest = simp append_assoc
-kind_text Two path inode (File size None) rest = simp append_assoc
-kind_text Two path inode (File size (Some blob)) rest = simp append_assoc
-kind_text Two path inode (Symlink target) rest = simp append_assoc
-kind_text Two path inode (Char major minor) rest = simp append_assoc
-kind_text Two path inode (Block major minor) rest = simp append_assoc
-kind_text Two path inode Fifo rest = simp append_assoc
-kind_text Two path inode Socket rest = simp append_assoc
+kind_text One path inode Dir own rest = simp append_assoc
+kind_text One path inode (File size None) own rest = simp append_assoc
+kind_text One path inode (File size (Some blob)) own rest = simp append_assoc
+kind_text One path inode (Symlink target) own rest = simp append_assoc
+kind_text One path inode (Char major minor) own rest = simp append_assoc
+kind_text One path inode (Block major minor) own rest = simp append_assoc
+kind_text One path inode Fifo own rest = simp append_assoc
+kind_text One path inode Socket own rest = simp append_assoc
+kind_text Two path inode Dir own rest = simp append_assoc
+kind_text Two path inode (File size None) own rest = simp append_assoc
+kind_text Two path inode (File size (Some blob)) own rest = simp append_assoc
+kind_text Two path inode (Symlink target) own rest = simp append_assoc
+kind_text Two path inode (Char major minor) own rest = simp append_assoc
+kind_text Two path inode (Block major minor) own rest = simp append_assoc
+kind_text Two path inode Fifo own rest = simp append_assoc
+kind_text Two path inode Socket own rest = simp append_assoc
 
-pub entry_text : (version : Version) (path : PathNames) (inode : Inode) (rest : List ℕ) → pieces version path inode inode.kind rest ≡ compact_text (entry_value version (path, inode)) ++ rest
-entry_text version path inode rest = kind_text version path inode inode.kind rest
+pub entry_text : (version : Version) (path : PathNames) (inode : Inode) (own : Data) (rest : List ℕ) → pieces version path inode inode.kind own rest ≡ compact_text (object (with_kind inode.kind (common_with version path inode own))) ++ rest
+entry_text version path inode own rest = kind_text version path inode inode.kind own rest
 
 -- ---- piece after piece
 
@@ -267,33 +265,18 @@ pub attributes-onto : (attrs : Attributes) (attr : List ℕ × List ℕ) (rest :
 attributes-onto attrs attr rest some =
     sym (append_assoc (attributes_text false attrs) (44 ∷ attribute_text attr) rest) ∙ ap (λ (t : List ℕ). t ++ rest) (sym (attributes-more attrs attr some))
 
--- where the last name comes before another, all do
-pub all_before-last : (front : Attributes) (last : List ℕ × List ℕ) (name : List ℕ) → ascends attribute_cmp (front ++ last ∷ []) ≡ true → is_lt (name_cmp last.0 name) ≡ true → all_before (front ++ last ∷ []) name ≡ true
-all_before-last front last name up before = through front (ascends-across attribute_cmp front last [] up)
-  where
-    through : (attrs : Attributes) → list_all (λ other. is_lt (attribute_cmp other last)) attrs ≡ true → all_before (attrs ++ last ∷ []) name ≡ true
-    through [] all = rw before refl
-    through (attr ∷ attrs) all =
-        let parts = both {a = is_lt (attribute_cmp attr last)} {b = list_all (λ other. is_lt (attribute_cmp other last)) attrs} all in
-        let less : is_lt (name_cmp attr.0 name) ≡ true = ap is_lt (nat_list_cmp_total.trans attr.0 last.0 name (is_lt-Less (name_cmp attr.0 last.0) parts.0) (is_lt-Less (name_cmp last.0 name) before)) in
-        rw less (through attrs parts.1)
-
-put-behind : (attrs : Attributes) (name value : List ℕ) → all_before attrs name ≡ true → with_attribute attrs name value ≡ attrs ++ (name, value) ∷ []
-put-behind [] name value before = refl
-put-behind (attr ∷ attrs) name value before =
-    let parts = both {a = is_lt (name_cmp attr.0 name)} {b = all_before attrs name} before in
-    rw (reversed nat_list_cmp_total attr.0 name parts.0) (ap (λ (rest : Attributes). attr ∷ rest) (put-behind attrs name value parts.1))
-
--- an attribute that is put after all others, with the digits of its value
-pub attribute-behind : (attrs more : Attributes) (name digits : List ℕ) → all_before attrs name ≡ true → attribute_after attrs name (string digits) ≡ Some more → (bytes : List ℕ) × (encode_lower bytes ≡ digits) × (more ≡ attrs ++ (name, bytes) ∷ [])
-attribute-behind attrs more name digits before is =
+-- an attribute that is put, with the digits of its value
+pub attribute-put : (attrs more : Attributes) (name digits : List ℕ) → attribute_after attrs name (string digits) ≡ Some more → (bytes : List ℕ) × (encode_lower bytes ≡ digits) × (more ≡ with_attribute attrs name bytes)
+attribute-put attrs more name digits is =
     option_and_then_some (λ bytes. if is_attribute_name name then Some (with_attribute attrs name bytes) else None) (bytes_of_digits digits) more is (λ bytes spelled made.
-    let same = (if-Some (is_attribute_name name) (with_attribute attrs name bytes) more made).1 in
-    (bytes, bytes-spelled digits bytes spelled, sym same ∙ put-behind attrs name bytes before))
+    (bytes, bytes-spelled digits bytes spelled, sym (if-Some (is_attribute_name name) (with_attribute attrs name bytes) more made).1))
 
--- the object of ascending attributes
+-- the object of attributes in some order, and of ascending ones
+pub attributes_object-stood : (stood : Attributes) → compact_text (object (attributes_in_turn stood)) ≡ 123 ∷ (attributes_text false stood ++ 125 ∷ [])
+attributes_object-stood stood = ap (λ (t : List ℕ). 123 ∷ t) (members-attributes false stood)
+
 pub attributes_object : (attrs : Attributes) → ascends attribute_cmp attrs ≡ true → compact_text (object (attribute_members attrs)) ≡ 123 ∷ (attributes_text false attrs ++ 125 ∷ [])
-attributes_object attrs up = ap (λ (ms : Members). compact_text (object ms)) (attribute_members-in_turn attrs up) ∙ ap (λ (t : List ℕ). 123 ∷ t) (members-attributes false attrs)
+attributes_object attrs up = ap (λ (ms : Members). compact_text (object ms)) (attribute_members-in_turn attrs up) ∙ attributes_object-stood attrs
 
 -- ---- the list of entries
 
@@ -303,26 +286,12 @@ items-entries version before (entry ∷ entries) =
     ap (λ (t : List ℕ). comma_if before ++ (compact_text (entry_value version entry) ++ t)) (items-entries version true entries)
     ∙ sym (append_assoc (comma_if before) (compact_text (entry_value version entry) ++ entries_text version true entries) (93 ∷ []) ∙ ap (λ (t : List ℕ). comma_if before ++ t) (append_assoc (compact_text (entry_value version entry)) (entries_text version true entries) (93 ∷ [])))
 
--- one entry more, behind others
-entries-more : (version : Version) (entries : Entries) (entry : Entry) → 0 < length entries → entries_text version false (entries ++ entry ∷ []) ≡ entries_text version false entries ++ 44 ∷ compact_text (entry_value version entry)
-entries-more version [] entry some = absurd (omega (arith, some))
-entries-more version (first ∷ entries) entry some = ap (λ (t : List ℕ). compact_text (entry_value version first) ++ t) (behind entries) ∙ sym (append_assoc (compact_text (entry_value version first)) (entries_text version true entries) (44 ∷ compact_text (entry_value version entry)))
-  where
-    behind : (entries : Entries) → entries_text version true (entries ++ entry ∷ []) ≡ entries_text version true entries ++ 44 ∷ compact_text (entry_value version entry)
-    behind [] = ap (λ (t : List ℕ). 44 ∷ t) (append-nil (compact_text (entry_value version entry)))
-    behind (next ∷ entries) = ap (λ (t : List ℕ). 44 ∷ (compact_text (entry_value version next) ++ t)) (behind entries) ∙ ap (λ (t : List ℕ). 44 ∷ t) (sym (append_assoc (compact_text (entry_value version next)) (entries_text version true entries) (44 ∷ compact_text (entry_value version entry))))
-
 -- entries behind others, all of them behind commas
 pub entries-append : (version : Version) (entries more : Entries) → entries_text version true (entries ++ more) ≡ entries_text version true entries ++ entries_text version true more
 entries-append version [] more = refl
 entries-append version (entry ∷ entries) more =
     ap (λ (t : List ℕ). 44 ∷ (compact_text (entry_value version entry) ++ t)) (entries-append version entries more)
     ∙ ap (λ (t : List ℕ). 44 ∷ t) (sym (append_assoc (compact_text (entry_value version entry)) (entries_text version true entries) (entries_text version true more)))
-
--- the same in front of what follows
-pub entries-onto : (version : Version) (entries : Entries) (entry : Entry) (rest : List ℕ) → 0 < length entries → entries_text version false entries ++ 44 ∷ (compact_text (entry_value version entry) ++ rest) ≡ entries_text version false (entries ++ entry ∷ []) ++ rest
-entries-onto version entries entry rest some =
-    sym (append_assoc (entries_text version false entries) (44 ∷ compact_text (entry_value version entry)) rest) ∙ ap (λ (t : List ℕ). t ++ rest) (sym (entries-more version entries entry some))
 
 -- ---- manifests
 
@@ -342,11 +311,21 @@ layer_text version layer rest =
     sym (ap (λ (t : List ℕ). t ++ rest) (in_brackets version layer)
     ∙ ap (λ (t : List ℕ). begin ++ t) (append_assoc items (named ++ (own ++ codes "}")) rest ∙ ap (λ (t : List ℕ). items ++ (named ++ t)) (append_assoc own (codes "}") rest)))
 
--- the text of a layer states it, with a newline and without
-module _ (version : Version) (layer : Entries) (is : IsLayer layer) (stated : list_all (is_stated_by version) layer ≡ true) where
-  abbrev value : Data
-  value = layer_value version layer
+-- the same with a list of the entries as it stands, and with the number first
+pub entries_first : (own : Data) (n : ℕ) (rest : List ℕ)
+    → codes "{\"entries\":" ++ (compact_text own ++ (codes ",\"overlay-layer\":" ++ (decimal n ++ (codes "}" ++ rest))))
+    ≡ compact_text (object (member (codes "entries") own (member (codes "overlay-layer") (whole n) no_members))) ++ rest
+unfolding escape_byte
+entries_first own n rest = simp append_assoc
 
+pub number_first : (own : Data) (n : ℕ) (rest : List ℕ)
+    → codes "{\"overlay-layer\":" ++ (decimal n ++ (codes ",\"entries\":" ++ (compact_text own ++ (codes "}" ++ rest))))
+    ≡ compact_text (object (member (codes "overlay-layer") (whole n) (member (codes "entries") own no_members))) ++ rest
+unfolding escape_byte
+number_first own n rest = simp append_assoc
+
+-- a text of a layer states it, with a newline and without
+module _ (version : Version) (layer : Entries) (value : Data) (back : IsReadAs 4 value (layer_value version layer)) (is : IsLayer layer) (stated : list_all (is_stated_by version) layer ≡ true) where
   abbrev text : List ℕ
   text = compact_text value
 
@@ -354,18 +333,22 @@ module _ (version : Version) (layer : Entries) (is : IsLayer layer) (stated : li
   printed = sym (print-outline value)
 
   own : tokens text ≡ json_tokens (outline value)
-  own = ap tokens printed ∙ tokens-print (json_tokens (outline value)) (ArePrintable-json_tokens (outline value) (layer_numbers version layer is))
+  own = ap tokens printed ∙ tokens-print (json_tokens (outline value)) (ArePrintable-json_tokens (outline value) back.numbers)
 
   told : (bytes : List ℕ) → IsUtf8 bytes → tokens bytes ≡ json_tokens (outline value) → read_layer bytes ≡ Ok layer
   told bytes utf8 spelled =
-      let shallow : tree_depth (outline value) ≤ 4 = omega (arith, outline-depth value, layer-shallow version layer) in
+      let shallow : tree_depth (outline value) ≤ 4 = omega (arith, outline-depth value, back.shallow) in
       let parsed : json.value max_depth (tokens bytes) ≡ Some (outline value, []) =
       ap (json.value max_depth) (spelled ∙ sym (append-nil (json_tokens (outline value)))) ∙ value-json_tokens (outline value) max_depth [] (omega (arith, shallow)) in
-      let reads : read bytes ≡ Some value = ap (λ o. option_and_then of_json (option_and_then (λ p. json.if_last p.0 p.1) o)) parsed ∙ layer_states version layer is in
-      text_read bytes value utf8 reads ∙ layer-back version layer is stated
+      let reads : read bytes ≡ Some (layer_value version layer) = ap (λ o. option_and_then of_json (option_and_then (λ p. json.if_last p.0 p.1) o)) parsed ∙ back.read in
+      text_read bytes (layer_value version layer) utf8 reads ∙ layer-back version layer is stated
 
   pub text-alone : IsUtf8 text → read_layer text ≡ Ok layer
   text-alone utf8 = told text utf8 own
 
   pub text-back : IsUtf8 (text ++ codes "\n") → read_layer (text ++ codes "\n") ≡ Ok layer
   text-back utf8 = told (text ++ codes "\n") utf8 (tokens-ended text value own (printed ∙ ap print (sym own)) ∙ own)
+
+-- the text that is written of a layer is one
+pub layer-itself : (version : Version) (layer : Entries) → IsLayer layer → IsReadAs 4 (layer_value version layer) (layer_value version layer)
+layer-itself version layer is = record { read = layer_states version layer is; numbers = layer_numbers version layer is; shallow = layer-shallow version layer }

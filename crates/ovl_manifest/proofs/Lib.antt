@@ -11,5 +11,6 @@ pub mod TailLemmas
 pub mod ValueLemmas
 pub mod StatedLemmas
 pub mod CompactLemmas
+pub mod OrderLemmas
 pub mod RunLemmas
 pub mod Utf8Lemmas

@@ -150,3 +150,9 @@ small =
 back : read_layer (manifest_text small) ≡ Ok small
 unfolding serde_json_on_literals inode_on_literals digits encode_with
 back = refl
+
+-- ---- members in another order
+
+turned : read_layer (codes "{\"overlay-layer\":2,\"entries\":[{\"path\":\"/\",\"kind\":\"dir\",\"mode\":493,\"uid\":0,\"gid\":0,\"mtime\":0,\"mtime-nsec\":0,\"xattrs\":{}}]}") ≡ Ok (([], dir) ∷ [])
+unfolding serde_json_on_literals inode_on_literals digits encode_with
+turned = refl

@@ -55,11 +55,11 @@ put-shallow n k d (member l e ms) own others = by (slice_cmp nat_cmp k l) (put-s
     by Equal later = omega (arith, own, others)
     by Greater later = omega (arith, later, others)
 
-attributes-shallow : (attrs : Attributes) → members_depth (attribute_members attrs) ≤ 0
+pub attributes-shallow : (attrs : Attributes) → members_depth (attribute_members attrs) ≤ 0
 attributes-shallow [] = omega arith
 attributes-shallow (attr ∷ attrs) = put-shallow 0 attr.0 (hexadecimal attr.1) (attribute_members attrs) (omega arith) (attributes-shallow attrs)
 
-kind-shallow : (kind : Kind) (ms : Members) → members_depth ms ≤ 1 → members_depth (with_kind kind ms) ≤ 1
+pub kind-shallow : (kind : Kind) (ms : Members) → members_depth ms ≤ 1 → members_depth (with_kind kind ms) ≤ 1
 kind-shallow Dir ms low = low
 kind-shallow (File size None) ms low = put-shallow 1 (codes "size") (whole size) ms (omega arith) low
 kind-shallow (File size (Some blob)) ms low = put-shallow 1 (codes "blob") (hexadecimal blob) (put (codes "size") (whole size) ms) (omega arith) (put-shallow 1 (codes "size") (whole size) ms (omega arith) low)
@@ -69,7 +69,7 @@ kind-shallow (Block major minor) ms low = put-shallow 1 (codes "minor") (whole m
 kind-shallow Fifo ms low = low
 kind-shallow Socket ms low = low
 
-entry-shallow : (version : Version) (entry : Entry) → depth (entry_value version entry) ≤ 2
+pub entry-shallow : (version : Version) (entry : Entry) → depth (entry_value version entry) ≤ 2
 entry-shallow One entry = omega (arith, kind-shallow entry.1.kind (common_members One entry) (omega (arith, attributes-shallow entry.1.attrs)))
 entry-shallow Two entry = omega (arith, kind-shallow entry.1.kind (common_members Two entry) (omega (arith, attributes-shallow entry.1.attrs)))
 

@@ -8,7 +8,7 @@ use Rattle.ovl_inode.specs.declared.digests.Digest.{Digest}
 use Rattle.ovl_inode.specs.declared.inodes.Inode.{Inode}
 use Rattle.ovl_inode.specs.declared.inodes.Kind.{Kind}
 use Rattle.ovl_inode.specs.declared.inodes.Kind.TheVariants.{File, Symlink, Char, Block}
-use Rattle.ovl_inode.specs.Attributes.{Attributes}
+use Rattle.ovl_inode.specs.Attributes.{Attributes, with_attribute}
 use Rattle.ovl_inode.specs.Kinds.{kind_word}
 use Rattle.ovl_layer.specs.Layers.{Entries}
 use Rattle.ovl_manifest.specs.Text.{entry_value}
@@ -98,12 +98,12 @@ attributes_text before [] = []
 attributes_text before (attr ∷ attrs) =
     comma_if before ++ (attribute_text attr ++ attributes_text true attrs)
 
--- the text begins with an attribute, which is put behind the others
+-- the text begins with an attribute, which is put to the others
 pub record TakesAttribute (text : List ℕ) (attrs : Attributes) (rest : List ℕ)
     (more : Attributes) : Type 0 where
   pub attr : List ℕ × List ℕ
   pub first : text ≡ attribute_text attr ++ rest
-  pub behind : more ≡ attrs ++ attr ∷ []
+  pub put : more ≡ with_attribute attrs attr.0 attr.1
 
 -- the same of entries
 abbrev pub entries_text : Version → Bool → Entries → List ℕ

@@ -5,3 +5,5 @@ pub mod Lists
 pub mod Text
 pub mod Compact
 pub mod PlainRuns
+pub mod AnyOrder
+pub mod Places

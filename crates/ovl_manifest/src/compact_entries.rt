@@ -1,12 +1,11 @@
-//! Entries as their texts are written: members in the order of their names, without space.
-ghost use Rattle.std.specs.Prelude.{◌≡◌, true, IsTrue, IfSome, ◌++◌};
+//! Entries whose members stand in the order in which they are written, without space.
+ghost use Rattle.std.specs.Prelude.{◌≡◌, true, IfSome, ◌++◌};
 ghost use Rattle.std.specs.Cow.{cow_str_bytes};
 ghost use Rattle.json.specs.Print.{quoted};
 ghost use Rattle.serde_json.specs.Data.{object};
-ghost use Rattle.serde_json.specs.Written.{compact_text};
 ghost use Rattle.ovl_names.specs.Paths.{PathNames, path_text};
-ghost use Rattle.ovl_inode.specs.Attributes.{all_before};
 ghost use Rattle.ovl_inode.specs.Sound.{is_sound_inode};
+ghost use Rattle.ovl_manifest.specs.AnyOrder.{Spells};
 ghost use Rattle.ovl_manifest.specs.Text.{attribute_members, entry_value};
 ghost use Rattle.ovl_manifest.specs.Versions.{states_nsec};
 ghost use Rattle.ovl_manifest.specs.Compact.{group_text, device_text, mtime_text, nsec_text, contents_text, IsKindOf, TakesAttribute};
@@ -26,7 +25,7 @@ pub(crate) fn read_entry<'a>(
 ) -> Option<(CowStr<'a, Global>, Inode)>
     ensures text { IfSome result
         (λ entry. (path : PathNames) → path_text path ≡ cow_str_bytes entry.0
-        → rest.old ≡ compact_text (entry_value version (path, entry.1)) ++ rest.new) }
+        → Spells 2 (entry_value version (path, entry.1)) rest.old rest.new) }
     ensures stated { IfSome result (λ entry. states_nsec version entry.1.nsec ≡ true) }
     ensures sound { IfSome result (λ entry. is_sound_inode entry.1 ≡ true) }
 {
@@ -76,9 +75,9 @@ fn read_group(rest: &mut Rest<'_>) -> Option<(Option<Digest>, u32)>
     Some((Some(digest), gid as u32))
 }
 
-// The word of a kind with its quotation marks; most entries are files or directories.
+/// The word of a kind with its quotation marks; most entries are files or directories.
 #[inline(always)]
-fn take_word<'a>(rest: &mut Rest<'a>) -> Option<&'a str>
+pub(crate) fn take_word<'a>(rest: &mut Rest<'a>) -> Option<&'a str>
     ensures { IfSome result (λ word. rest.old ≡ quoted word.now ++ rest.new) }
 {
     if rest.take("\"file\"").is_some() {
@@ -167,10 +166,10 @@ fn read_kind(
     }
 }
 
-// The attributes, in the order of their names.
-fn read_attributes(alloc: Global, rest: &mut Rest<'_>) -> Option<Attrs>
+/// The attributes, in any order.
+pub(crate) fn read_attributes(alloc: Global, rest: &mut Rest<'_>) -> Option<Attrs>
     ensures { IfSome result
-        (λ attrs. rest.old ≡ compact_text (object (attribute_members attrs)) ++ rest.new) }
+        (λ attrs. Spells 1 (object (attribute_members attrs)) rest.old rest.new) }
 {
     let mut attrs = Attrs::new(alloc);
     if rest.take("{}").is_some() {
@@ -185,29 +184,15 @@ fn read_attributes(alloc: Global, rest: &mut Rest<'_>) -> Option<Attrs>
     Some(attrs)
 }
 
-// Puts the attribute that comes next behind the others, if its name comes after theirs.
+// Puts the attribute that comes next to the others.
 fn read_attribute(alloc: Global, rest: &mut Rest<'_>, attrs: &mut Attrs) -> Option<()>
     ensures { IfSome result (λ _. TakesAttribute rest.old attrs.old rest.new attrs.new) }
 {
-    let text = rest.take_text(alloc)?;
-    let name = text.as_str();
-    if !are_before(attrs, name) {
-        return None;
-    }
+    let name = rest.take_text(alloc)?;
     rest.take(":")?;
     let digits = rest.take_string()?;
-    match put_digits(alloc, attrs, name, digits) {
+    match put_digits(alloc, attrs, name.as_str(), digits) {
         Ok(true) => Some(()),
         _ => None,
-    }
-}
-
-// Whether the names of all attributes come before this one.
-fn are_before(attrs: &Attrs, name: &str) -> bool
-    ensures { IsTrue result → IsTrue (all_before attrs.now name.now) }
-{
-    match attrs.pairs().next_back() {
-        Some((last, _)) => last.as_bytes().cmp(name.as_bytes()).is_lt(),
-        None => true,
     }
 }

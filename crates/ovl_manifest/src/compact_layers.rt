@@ -1,21 +1,23 @@
-//! Manifests as they are written, read by their texts without a value in between.
-ghost use Rattle.std.specs.Prelude.{◌≡◌, ◌<◌, ◌≤◌, Ok, IfSome, true, [], ◌∷◌, ◌++◌, false, length};
+//! Manifests without space, read by their texts without a value in between.
+ghost use Rattle.std.specs.Prelude.{◌≡◌, ◌<◌, ◌≤◌, Ok, IfSome, true, [], ◌∷◌, ◌++◌, decimal, length};
+ghost use Rattle.std.specs.Cow.{cow_str_bytes};
 ghost use Rattle.std.specs.List.{list_all};
 ghost use Rattle.std.specs.Str.{IsUtf8};
-ghost use Rattle.serde_json.specs.Written.{compact_text, items_text};
-ghost use Rattle.ovl_names.specs.Paths.{path_text};
+ghost use Rattle.serde_json.specs.Data.{array};
+ghost use Rattle.ovl_names.specs.Paths.{PathNames, path_text};
 ghost use Rattle.ovl_inode.specs.Sound.{is_sound_inode};
 ghost use Rattle.ovl_layer.specs.Layers.{IsLayer, entry_limit};
 ghost use Rattle.ovl_manifest.specs.Manifest.{read_layer as layer_stated};
-ghost use Rattle.ovl_manifest.specs.Text.{entry_items, layer_value};
-ghost use Rattle.ovl_manifest.specs.Versions.{depth_of, is_stated_by};
+ghost use Rattle.ovl_manifest.specs.AnyOrder.{Spells};
+ghost use Rattle.ovl_manifest.specs.Text.{entry_items, entry_value, layer_value};
+ghost use Rattle.ovl_manifest.specs.Versions.{depth_of, is_stated_by, states_nsec, version_number};
 ghost use Rattle.ovl_layer.specs.TextPaths.{slashed, AreEnds};
 ghost use Rattle.ovl_layer.specs.SheetDrafts.{drafted, last_path, IsSheetDraft};
 
-use crate::compact_entries::read_entry;
 use crate::compact_texts::Rest;
 use crate::text_paths::{go_on, place_beside};
 use crate::versions::Version;
+use crate::{compact_entries, unordered_entries};
 use ovl_inode::{Inode, is_directory};
 use ovl_layer::{ENTRY_LIMIT, Sheet, SheetDraft, has_escaped_name};
 use ovl_names::{Name, TEXT_LIMIT};
@@ -27,9 +29,9 @@ use std::borrow::CowStr;
 // bytes of the text seldom grows. Room that no entry takes is never touched.
 const ENTRY_TEXT: usize = 96;
 
-/// The sheet of the layer whose manifest these bytes are, byte for byte as
-/// [`write_layer`](crate::write_layer) writes it, or wrote it in the first version; the newline at
-/// its end may be missing. Gives none of manifests that are written in another way, of any fault
+/// The sheet of the layer whose manifest these bytes are, without white space but for a newline at
+/// its end, and with no more escapes than it needs; members may stand in any order, but for
+/// attributes none twice. Gives none of manifests that are written in another way, of any fault
 /// and where memory runs out.
 pub(crate) fn read_compact(alloc: Global, bytes: &[u8]) -> Option<Sheet>
     ensures { IfSome result (λ sheet. layer_stated bytes.now ≡ Ok sheet) }
@@ -57,29 +59,45 @@ fn read_written(alloc: Global, version: Version, text: &str) -> Option<Sheet>
 
 // The sheet of the layer whose manifest of this version comes next.
 fn read_manifest(alloc: Global, version: Version, rest: &mut Rest<'_>) -> Option<Sheet>
-    ensures text { IfSome result
-        (λ sheet. rest.old ≡ compact_text (layer_value version sheet) ++ rest.new) }
+    ensures text { IfSome result (λ sheet. Spells 4 (layer_value version sheet) rest.old rest.new) }
     ensures layer { IfSome result (λ sheet. IsLayer sheet) }
     ensures stated { IfSome result (λ sheet. list_all (is_stated_by version) sheet ≡ true) }
 {
-    rest.take("{\"entries\":[")?;
-    let sheet = read_entries(alloc, version, rest)?;
-    rest.take(",\"overlay-layer\":")?;
-    let number = rest.take_natural(u64::MAX)?;
-    if number != version.number() {
-        return None;
+    if rest.take("{\"entries\":").is_some() {
+        let sheet = read_entries(alloc, version, rest)?;
+        rest.take(",\"overlay-layer\":")?;
+        take_number(version, rest)?;
+        rest.take("}")?;
+        return Some(sheet);
     }
+    rest.take("{\"overlay-layer\":")?;
+    take_number(version, rest)?;
+    rest.take(",\"entries\":")?;
+    let sheet = read_entries(alloc, version, rest)?;
     rest.take("}")?;
     Some(sheet)
 }
 
-// The sheet of at least one entry and at most `ENTRY_LIMIT`.
+// Takes the number of the version.
+fn take_number(version: Version, rest: &mut Rest<'_>) -> Option<()>
+    ensures { IfSome result (λ _. rest.old ≡ decimal (version_number version) ++ rest.new) }
+{
+    let number = rest.take_natural(u64::MAX)?;
+    if number == version.number() {
+        Some(())
+    } else {
+        None
+    }
+}
+
+// The sheet of a list of at least one entry and at most `ENTRY_LIMIT`.
 fn read_entries(alloc: Global, version: Version, rest: &mut Rest<'_>) -> Option<Sheet>
     ensures text { IfSome result
-        (λ sheet. rest.old ≡ items_text false (entry_items version sheet) ++ rest.new) }
+        (λ sheet. Spells 3 (array (entry_items version sheet)) rest.old rest.new) }
     ensures layer { IfSome result (λ sheet. IsLayer sheet) }
     ensures stated { IfSome result (λ sheet. list_all (is_stated_by version) sheet ≡ true) }
 {
+    rest.take("[")?;
     let room = (rest.len() / ENTRY_TEXT).min(ENTRY_LIMIT);
     let (text, root) = read_entry(alloc, version, rest)?;
     let mut draft = start(alloc, text.as_str(), root, room)?;
@@ -114,6 +132,27 @@ fn read_entries(alloc: Global, version: Version, rest: &mut Rest<'_>) -> Option<
         Ok(sheet) => Some(sheet),
         Err(_) => None,
     }
+}
+
+// The text of the path and the inode of the entry that comes next. Its members are looked for in
+// the order in which they are written, and in any other where they don't stand in that.
+fn read_entry<'a>(
+    alloc: Global,
+    version: Version,
+    rest: &mut Rest<'a>,
+) -> Option<(CowStr<'a, Global>, Inode)>
+    ensures text { IfSome result
+        (λ entry. (path : PathNames) → path_text path ≡ cow_str_bytes entry.0
+        → Spells 2 (entry_value version (path, entry.1)) rest.old rest.new) }
+    ensures stated { IfSome result (λ entry. states_nsec version entry.1.nsec ≡ true) }
+    ensures sound { IfSome result (λ entry. is_sound_inode entry.1 ≡ true) }
+{
+    let mut own = rest.again();
+    if let Some(entry) = compact_entries::read_entry(alloc, version, &mut own) {
+        *rest = own;
+        return Some(entry);
+    }
+    unordered_entries::read_entry(alloc, version, rest)
 }
 
 // The draft of the entry of a sound inode, whose path a text spells, if it can be a layer's first;

@@ -40,6 +40,13 @@ impl<'a> Rest<'a> {
         Rest { text }
     }
 
+    /// The same text once more.
+    pub(crate) fn again(&self) -> Rest<'a>
+        ensures { result ≡ self.now }
+    {
+        Rest { text: self.text }
+    }
+
     /// The number of bytes.
     pub(crate) fn len(&self) -> usize
         ensures { result ≡ length self.now }

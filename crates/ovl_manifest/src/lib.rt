@@ -10,6 +10,7 @@ mod plain_runs;
 mod reading;
 mod short_texts;
 mod text_paths;
+mod unordered_entries;
 mod versions;
 mod writing;
 mod written_entries;

@@ -53,9 +53,10 @@ fn read_text(alloc: Global, text: &str) -> Result<Layer, LayerFault>
 }
 
 /// The sheet of the layer that the bytes of a manifest state, refused as [`read_layer`] refuses it.
-/// A manifest as [`write_layer`](crate::write_layer) writes it is read at once, and so is one with
-/// white space in it, some of it among the first 64 bytes, once what stands between tokens is left
-/// out; others by way of a value of each entry.
+/// A manifest with no more escapes than it needs, and no member twice, is read at once, soonest as
+/// [`write_layer`](crate::write_layer) writes it, and one with white space in it, some of it among
+/// the first 64 bytes, once what stands between tokens is left out; others by way of a value of
+/// each entry.
 pub fn read_sheet(alloc: Global, bytes: &[u8]) -> Result<Sheet, LayerFault>
     ensures { MatchResult result
         (λ sheet. manifest.read_layer bytes.now ≡ Ok sheet)

@@ -1,4 +1,4 @@
-use Rattle.std.proofs.Common.{◌≡◌, ◌∙◌, ◌++◌, List, ℕ, ℤ, w64, SFits, refl, sym, ap, subst, rules}
+use Rattle.std.proofs.Common.{◌≡◌, ◌∙◌, ◌++◌, true, List, ℕ, ℤ, w64, SFits, refl, sym, ap, subst, rules}
 use Rattle.std.proofs.lemmas.Int.{to_z-of_z}
 use Rattle.std.specs.Prelude.{codes, decimal}
 use Rattle.std.specs.Cow.{cow_str_bytes}
@@ -7,9 +7,12 @@ use Rattle.json.specs.Print.{quoted}
 use Rattle.serde_json.specs.Data.{object}
 use Rattle.serde_json.specs.Written.{compact_text}
 use Rattle.ovl_inode.specs.declared.inodes.Inode.{Inode}
-use Rattle.ovl_manifest.specs.Text.{attribute_members, entry_value}
+use Rattle.ovl_inode.specs.Sound.{is_sound_inode}
+use Rattle.ovl_manifest.specs.AnyOrder.{Spells}
+use Rattle.ovl_manifest.specs.Text.{with_kind, entry_value}
 use Rattle.ovl_manifest.specs.Compact.{group_text, device_text, mtime_text, nsec_text, contents_text}
 use Rattle.ovl_manifest.proofs.CompactLemmas.{in_turn, pieces, entry_text, seconds_text}
+use Rattle.ovl_manifest.proofs.WrittenBackLemmas.{common_with, entry-read}
 use Rattle.ovl_manifest.proofs.compact_entries.read_entry.Goals as goal
 
 -- piece after piece
@@ -31,7 +34,8 @@ returns-then-sound-clause-text c = λ path spelled.
     let attrs = c.in_ok-attrs.attrs in
     let rest : List ℕ = c.take-6.new.self in
     let inode : Inode = record { kind = kind; mode = mode; uid = uid; gid = gid; mtime = seconds; nsec = nsec; attrs = attrs } in
-    let taken : c.args.rest.now ≡ in_turn c.args.version blob word device inode (signed_decimal seconds) text rest =
+    let own = c.in_ok-attrs.ensures in
+    let taken : c.args.rest.now ≡ in_turn c.args.version blob word device inode (signed_decimal seconds) text own.own rest =
     behind (group_text blob gid) c.in_ok-blob.ensures
     (behind (codes ",\"kind\":") c.in_ok-take.ensures
     (behind (quoted word) c.in_ok-word.ensures
@@ -46,10 +50,15 @@ returns-then-sound-clause-text c = λ path spelled.
     (behind (codes ",\"uid\":") c.in_ok-take-4.ensures
     (behind (decimal uid) c.in_ok-uid.ensures.text
     (behind (codes ",\"xattrs\":") c.in_ok-take-5.ensures
-    (behind (compact_text (object (attribute_members attrs))) c.in_ok-attrs.ensures c.in_ok-take-6.ensures)))))))))))))) in
+    (behind (compact_text own.own) own.taken c.in_ok-take-6.ensures)))))))))))))) in
     let is = c.in_ok-kind.ensures.kind in
-    let own : in_turn c.args.version blob word device inode (signed_decimal seconds) text rest ≡ pieces c.args.version path inode kind rest =
-    λ j. in_turn c.args.version (sym is.same_blob j) (sym is.same_word j) (sym is.same_device j) inode (sym (seconds_text seconds) j) (sym spelled j) rest in
-    let whole = taken ∙ (own ∙ entry_text c.args.version path inode rest) in
+    let pieced : in_turn c.args.version blob word device inode (signed_decimal seconds) text own.own rest ≡ pieces c.args.version path inode kind own.own rest =
+    λ j. in_turn c.args.version (sym is.same_blob j) (sym is.same_word j) (sym is.same_device j) inode (sym (seconds_text seconds) j) (sym spelled j) own.own rest in
     let fits : SFits w64 seconds = search rules in
-    subst (λ (mtime : ℤ). c.args.rest.now ≡ compact_text (entry_value c.args.version (path, record inode { mtime = mtime })) ++ rest) (sym (to_z-of_z w64 seconds fits)) whole
+    let sound : is_sound_inode inode ≡ true =
+    subst (λ (mtime : ℤ). is_sound_inode (record inode { mtime = mtime }) ≡ true) (to_z-of_z w64 seconds fits) (sym c.sound.ensures ∙ c.if-sound.true) in
+    subst (λ (mtime : ℤ). Spells 2 (entry_value c.args.version (path, record inode { mtime = mtime })) c.args.rest.now rest) (sym (to_z-of_z w64 seconds fits)) (record {
+      own = object (with_kind kind (common_with c.args.version path inode own.own));
+      taken = taken ∙ (pieced ∙ entry_text c.args.version path inode own.own rest);
+      back = entry-read c.args.version path inode own.own own.back sound;
+    })

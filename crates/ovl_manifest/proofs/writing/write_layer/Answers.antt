@@ -5,7 +5,7 @@ use Rattle.ovl_manifest.specs.Manifest.{read_layer}
 use Rattle.ovl_manifest.specs.Text.{layer_value}
 use Rattle.ovl_manifest.specs.Versions.{written}
 use Rattle.ovl_manifest.proofs.StatedLemmas.{written-states}
-use Rattle.ovl_manifest.proofs.CompactLemmas.{text-back}
+use Rattle.ovl_manifest.proofs.CompactLemmas.{layer-itself, text-back}
 use Rattle.ovl_manifest.proofs.Utf8Lemmas.{manifest-utf8}
 use Rattle.ovl_manifest.proofs.writing.write_layer.Goals as goal
 
@@ -18,4 +18,4 @@ pub returns-clause-back : goal.returns-clause-back
 returns-clause-back c =
     let layer = c.args.layer.now in
     ap read_layer (returns-clause-text c)
-    ∙ text-back written layer c.root-root.ensures.layer (written-states layer c.root-root.ensures.layer.limited) (manifest-utf8 layer c.root-root.ensures.layer)
+    ∙ text-back written layer (layer_value written layer) (layer-itself written layer c.root-root.ensures.layer) c.root-root.ensures.layer (written-states layer c.root-root.ensures.layer.limited) (manifest-utf8 layer c.root-root.ensures.layer)
