@@ -10,6 +10,8 @@ mod cores;
 #[cfg(test)]
 mod emits;
 #[cfg(test)]
+mod examples;
+#[cfg(test)]
 mod gates;
 #[cfg(test)]
 mod inodes;
