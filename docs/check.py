@@ -10,6 +10,8 @@
   crates have one of that name.
 - No name of a type, or of a fact or record of specs/, stands twice, but for those that are known.
 - GLOSSARY.md or PROVED.md has every public type, and FORMATS.md every public limit, and none that isn't there.
+- Each block of code in the documentation of a crate's items is lines, one after another, of a file that the gate proves and
+  runs: one of `ovl_caller` or of a crate of tests.
 
 Prints what is missing; the status is 1 where something is. Says nothing of what the documents say.
 
@@ -329,9 +331,39 @@ def names():
             yield f"FORMATS.md names {name}, which {crate.name} hasn't"
 
 
+def code_blocks(path):
+    """The blocks of code in the documentation of a file's items: where each begins, and its lines without their indentation."""
+    first, block = 0, None
+    for number, line in enumerate(path.read_text(encoding="utf-8").splitlines(), 1):
+        told = re.match(r"\s*//[/!](.*)", line)
+        fence = told and told[1].strip().startswith("```")
+        if block is None and fence:
+            first, block = number, []
+        elif block is not None and (fence or not told):
+            yield first, block
+            block = None
+        elif block is not None:
+            block.append(told[1].strip())
+
+
+def blocks():
+    """Blocks of code in documentation that no file has which the gate proves and runs."""
+    tried = []
+    for crate in sorted({"ovl_caller"} | TESTS):
+        for path in sorted((TOP / "crates" / crate / "src").rglob("*.rt")):
+            lines = path.read_text(encoding="utf-8").splitlines()
+            tried.append("\n".join(["", *(line.strip() for line in lines), ""]))
+    for crate in crates():
+        for path in sorted((crate / "src").rglob("*.rt")):
+            for number, block in code_blocks(path):
+                text = "\n".join(["", *block, ""])
+                if not any(text in file for file in tried):
+                    yield f"{path.relative_to(TOP)}:{number}: ovl_caller and the crates of tests have no such lines as this block"
+
+
 if __name__ == "__main__":
     if sys.argv[1:] == ["--definitions"]:
         sys.exit(print(page(), end=""))
-    missing = [*headline(), *proved(), *made_faults(), *links(), *files(), *homonyms(), *names()]
+    missing = [*headline(), *proved(), *made_faults(), *links(), *files(), *homonyms(), *names(), *blocks()]
     print("\n".join(missing) or "nothing is missing")
     sys.exit(1 if missing else 0)

@@ -128,6 +128,15 @@ impl<'a> Work for BlobWork<'a> {
 /// The names of the blobs whose bytes have another SHA-256 digest, ascending, where the blobs'
 /// names ascend strictly. The parcels are the plain walk of the work from `/` of its space. Fails
 /// only when out of memory.
+///
+/// The names of the blobs that are wrong, by one thread:
+///
+/// ```
+/// let work = BlobWork::new(blobs);
+/// let root = Piece::root(alloc, BLOB_SPACE);
+/// let parcels = plain_walk(alloc, &work, root)?;
+/// Ok(finish_blobs(alloc, &work, parcels)?)
+/// ```
 pub fn finish_blobs(
     alloc: Global,
     _work: &BlobWork<'_>,

@@ -19,6 +19,15 @@ use std::collections::BTreeSet;
 /// All that is found in a stack and its blobs, by layer, then by path, then by code, each once. The
 /// lists of parcels are the plain walks of the work from the root of each layer, in order. Fails
 /// only when out of memory.
+///
+/// What is found in a stack of two layers without contents, where `walks_of` gives the plain walks
+/// as at [`CheckWork`]:
+///
+/// ```
+/// let work = CheckWork::new(stack, &[], &[]);
+/// let layers = walks_of(alloc, &work, 2)?;
+/// told(alloc, &finish_check(alloc, &work, layers)?)
+/// ```
 pub fn finish_check(
     alloc: Global,
     _work: &CheckWork<'_>,

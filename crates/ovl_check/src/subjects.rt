@@ -26,6 +26,16 @@ pub struct CheckOut<'a> {
 
 /// A stack and its blobs to be checked, as work: the pieces of space `i` are the directories of
 /// layer `i`, from its root down. See [`CheckOut`] for what comes of each.
+///
+/// The plain walks of the first `count` layers, by one thread:
+///
+/// ```
+/// let mut layers = Vec::new(alloc);
+/// for i in 0..count {
+///     layers.push(plain_walk(alloc, work, Piece::root(alloc, i))?)?;
+/// }
+/// Ok(layers)
+/// ```
 #[derive(Drop)]
 pub struct CheckWork<'a> {
     pub(crate) stack: &'a Stack,

@@ -19,6 +19,14 @@ use std::alloc::Global;
 /// The topmost layer without redirects and metacopy files. The parcels are the plain walk of the
 /// work from `/` of space 0. Over a sound stack it is refused, unless memory runs out, exactly
 /// where it passes a limit of manifests.
+///
+/// By one thread:
+///
+/// ```
+/// let work = DerefWork::new(stack);
+/// let parcels = plain_walk(alloc, &work, Piece::root(alloc, 0))?;
+/// Ok(finish_deref(alloc, &work, parcels)?)
+/// ```
 pub fn finish_deref(
     alloc: Global,
     work: &DerefWork<'_>,

@@ -56,6 +56,14 @@ use std::thread::Threads;
 /// its workers, and returns only where each question to the gate does. The merged tree, what is
 /// checked and the new layers are those of `docs/PROFILE.md`, the reports those of
 /// `docs/FORMATS.md`. overlayfs.rst: "Data-only lower layers".
+///
+/// All layers as one, by four workers, with these contents of files; no layer is data-only:
+///
+/// ```
+/// let blobs = named_blobs(alloc, contents)?;
+/// let what = Command::Flatten;
+/// command(rt, alloc, what, manifests, 0, &blobs, 4, &OpenGate)
+/// ```
 pub fn command<G: Gate + Sync, R: Threads + Wait + Sync, M: Manifests + Drop>(
     rt: &R,
     alloc: Global,

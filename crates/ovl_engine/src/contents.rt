@@ -11,6 +11,22 @@ use ovl_inode::Digest;
 use std::alloc::{AllocError, Global};
 
 /// Where the contents of blobs are had from, which needn't be held in memory.
+///
+/// No contents at all:
+///
+/// ```
+/// impl Contents for Nothing {
+///     type Fault = AllocError;
+///
+///     ghost may_be = { λ _ _ _. Unit {0} };
+///
+///     ghost may_fail = { λ _ _. Unit {0} };
+///
+///     fn tell(&self, alloc: Global, _names: &[Digest]) -> Result<Vec<Content>, AllocError> {
+///         Ok(Vec::new(alloc))
+///     }
+/// }
+/// ```
 pub trait Contents {
     /// Why contents can't be told.
     type Fault: Drop;

@@ -44,6 +44,15 @@ use std::thread::Threads;
 /// alone; one that is refused, as where its check finds a fault, ends all. Refused as a merge is
 /// before any work; else with `NoLower` where `left` is none, or not fewer than there are. The
 /// manifests with the new ones in place of all that were merged show the same merged tree.
+///
+/// All layers but the lowest as one, by four workers, with these contents of files; no layer is
+/// data-only:
+///
+/// ```
+/// let blobs = named_blobs(alloc, contents)?;
+/// let left = 2;
+/// merge_down(rt, alloc, manifests, 0, &blobs, left, 4, &OpenGate)
+/// ```
 pub fn merge_down<G: Gate + Sync, R: Threads + Wait + Sync>(
     rt: &R,
     alloc: Global,

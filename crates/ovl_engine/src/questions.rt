@@ -52,6 +52,13 @@ pub struct Question {
 /// names that no layer states, see [`findings_need_named`](ovl_check::laws::findings_need_named);
 /// the gate is asked for directories alone. Where contents can't be told, that fault is told. It is
 /// [`question_of`] and [`answer_told`], one after the other.
+///
+/// Whether a report ends so, with none of the contents, as [`Contents`] shows them:
+///
+/// ```
+/// let answer = command_over(rt, alloc, what, manifests, 0, &Nothing, workers, &OpenGate)?;
+/// Ok(answer.report.ends_with(end.as_bytes()))
+/// ```
 pub fn command_over<C: Contents, G: Gate + Sync, R: Threads + Wait + Sync>(
     rt: &R,
     alloc: Global,
@@ -116,6 +123,14 @@ pub fn question_of<R: Threads + Sync>(
 /// ascending, of each name that was asked for and is there. The answer is that with any blobs that
 /// have these contents; a name that isn't told has none. The gate is asked for directories alone.
 /// Fails as [`command`](crate::command) does in its work.
+///
+/// What a stack shows, for which no contents are asked for:
+///
+/// ```
+/// let question = question_of(rt, alloc, Command::Show, manifests, 0, 4)?;
+/// let told = Vec::new(alloc);
+/// answer_told(rt, alloc, question, told, 4, &OpenGate)
+/// ```
 pub fn answer_told<G: Gate + Sync, R: Threads + Wait + Sync>(
     rt: &R,
     alloc: Global,

@@ -158,8 +158,10 @@ fn shown_place(alloc: Global, redirect: &Redirect) -> Result<String, AllocError>
 
 // A path or a name, as reports show it, or what is told of a redirect's fault.
 fn redirect_told(alloc: Global, text: &str) -> Result<String, AllocError> {
-    match read_redirect(alloc, &bytes_of(alloc, text)?) {
-        Ok(redirect) => shown_place(alloc, &redirect),
+    let value = bytes_of(alloc, text)?;
+    match read_redirect(alloc, &value) {
+        Ok(Redirect::To(path)) => path.shown(alloc),
+        Ok(Redirect::Beside(name)) => name.shown(alloc),
         Err(fault) => fault.to_string(alloc),
     }
 }

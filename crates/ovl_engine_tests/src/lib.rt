@@ -4,11 +4,13 @@
 #![tactic(auto)]
 
 #[cfg(test)]
-mod checks;
-#[cfg(test)]
 mod commands;
 #[cfg(test)]
+mod cores;
+#[cfg(test)]
 mod emits;
+#[cfg(test)]
+mod examples;
 #[cfg(test)]
 mod gates;
 #[cfg(test)]

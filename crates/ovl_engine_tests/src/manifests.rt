@@ -37,6 +37,28 @@ fn written_told(alloc: Global, entries: &str) -> Result<String, Fail> {
     entries_told(alloc, &layer, &manifest)
 }
 
+// How a manifest is written again, without the newline at the end.
+fn rewritten_told(alloc: Global, manifest: &str) -> Result<String, Fail> {
+    let layer = read_layer(alloc, manifest.as_bytes())?;
+    let written = String::from_utf8(write_layer(alloc, &layer)?)?;
+    Ok(String::from_str(alloc, written.as_str().trim_end())?)
+}
+
+// What refuses bytes where a layer is read of them, or a sheet.
+fn fault_of(alloc: Global, bytes: &[u8], by_layer: bool) -> Option<LayerFault> {
+    if by_layer {
+        return read_layer(alloc, bytes).err();
+    }
+    read_sheet(alloc, bytes).err()
+}
+
+fn fault_told(alloc: Global, text: &str, by_layer: bool) -> Result<String, AllocError> {
+    match fault_of(alloc, text.as_bytes(), by_layer) {
+        Some(fault) => fault.to_string(alloc),
+        None => String::from_str(alloc, "none"),
+    }
+}
+
 // Names, each with `;` behind it.
 fn listed(alloc: Global, names: &[Name]) -> Result<String, AllocError> {
     let mut text = String::new(alloc);
@@ -115,10 +137,19 @@ mode /x/k -> 420
 mode /x/z -> none
 ";
 
+// A manifest of the earlier version, the same cut, and how its layer is written.
+const TEXTS: &str =
+    r#"fault {"entries":[{"gid":0,"kind":"dir","mode":493,"mtime":0,"path":"/","uid":0,"xattrs":{}}],"overlay-layer":1} -> none
+fault {"entries":[{"gid":0,"kind":"dir","mode":493,"mtime":0,"path":"/","uid":0,"xattrs":{}}],"overlay-layer":1 -> not JSON
+rewritten {"entries":[{"gid":0,"kind":"dir","mode":493,"mtime":0,"path":"/","uid":0,"xattrs":{}}],"overlay-layer":1} -> {"entries":[{"gid":0,"kind":"dir","mode":493,"mtime":0,"mtime-nsec":0,"path":"/","uid":0,"xattrs":{}}],"overlay-layer":2}
+"#;
+
 fn told(alloc: Global, call: &str, by_layer: bool) -> Result<String, Fail> {
     let (word, words) = call.split_once(' ').unwrap_or((call, ""));
     match word {
         "written" => written_told(alloc, words),
+        "rewritten" => rewritten_told(alloc, words),
+        "fault" => Ok(fault_told(alloc, words, by_layer)?),
         "children" => children_told(alloc, words),
         "entry" => row_told(alloc, words, by_layer),
         "mode" => mode_told(alloc, words),
@@ -135,6 +166,16 @@ fn told_alike(alloc: Global, row: &str) -> Result<(), Fail> {
 #[test]
 fn layers_and_sheets_have_what_their_manifests_state(rt: HostRuntime) -> Result<(), Fail> {
     for row in ROWS.lines() {
+        told_alike(rt.alloc(), row)?;
+    }
+    Ok(())
+}
+
+#[test]
+fn a_manifest_of_the_earlier_version_is_read_and_one_that_is_cut_is_not(
+    rt: HostRuntime,
+) -> Result<(), Fail> {
+    for row in TEXTS.lines() {
         told_alike(rt.alloc(), row)?;
     }
     Ok(())

@@ -6,19 +6,22 @@ use ovl_board::{Parcel, Piece, plain_walk};
 use ovl_check::{BLOB_SPACE, Blob, BlobWork, blobs_in_order, finish_blobs};
 use ovl_deref::{DerefWork, finish_deref};
 use ovl_engine::ShowWork;
-use ovl_flatten::FlattenWork;
+use ovl_flatten::{FlattenWork, finish_flatten};
 use ovl_inode::Digest;
 use ovl_layer::Layer;
 use ovl_lookup::Stack;
 use ovl_manifest::write_layer;
-use ovl_merge::{MergeFault, MergeWork, finish_merge};
+use ovl_merge::{MergeDone, MergeFault, MergeWork, finish_merge};
 use ovl_names::Name;
 use ovl_vacuum::{VacuumDone, VacuumWork, finish_vacuum};
 use std::alloc::{AllocError, Global};
 use std::test::Fail;
 
-// The pieces of parcels, each a space and a directory, with the names of what they put out.
-fn told<T: Drop>(alloc: Global, parcels: &[Parcel<Vec<(Name, T)>>]) -> Result<String, Fail> {
+/// The pieces of parcels, each a space and a directory, with the names of what they put out.
+pub(crate) fn told<T: Drop>(
+    alloc: Global,
+    parcels: &[Parcel<Vec<(Name, T)>>],
+) -> Result<String, Fail> {
     let mut text = String::new(alloc);
     for Parcel { piece, out, .. } in parcels {
         let dir = piece.dir.shown(alloc)?;
@@ -103,9 +106,10 @@ fn vacuumed(alloc: Global, stack: &Stack) -> Result<String, Fail> {
     Ok(text)
 }
 
-// Whether a layer is that of these entries.
-fn is_layer(alloc: Global, layer: &Layer, entries: &str) -> Result<bool, Fail> {
-    Ok(write_layer(alloc, layer)? == manifest_of(alloc, entries)?)
+// A failure where a layer isn't that of these entries.
+fn expect_layer(alloc: Global, layer: &Layer, entries: &str) -> Result<(), Fail> {
+    let written = write_layer(alloc, layer)?;
+    expect_so(written == manifest_of(alloc, entries)?)
 }
 
 const MOVED: &str =
@@ -129,6 +133,17 @@ fn a_moved_directory_is_filled_with_what_it_shows(rt: HostRuntime) -> Result<(),
     same(MOVED, walk.as_str(), "0/: p x; 0/p: q; 0/p/q: k; ")
 }
 
+#[test]
+fn a_filled_layer_has_no_redirect(rt: HostRuntime) -> Result<(), Fail> {
+    let stack = stack_of(rt.alloc(), MOVED)?;
+    let layer = dereferenced(rt.alloc(), &stack)?;
+    expect_layer(
+        rt.alloc(),
+        &layer,
+        "dir /p opaque=y, dir /p/q, file /p/q/k, whiteout /x",
+    )
+}
+
 fn flatten_walk(alloc: Global, stack: &Stack) -> Result<String, Fail> {
     let work = FlattenWork::new(stack);
     told(alloc, &plain_walk(alloc, &work, Piece::root(alloc, 0))?)
@@ -139,6 +154,19 @@ fn a_flatten_walks_the_merged_tree(rt: HostRuntime) -> Result<(), Fail> {
     let stack = stack_of(rt.alloc(), MOVED)?;
     let walk = flatten_walk(rt.alloc(), &stack)?;
     same(MOVED, walk.as_str(), "0/: p; 0/p: q; 0/p/q: k; ")
+}
+
+fn flattened(alloc: Global, stack: &Stack) -> Result<Layer, Fail> {
+    let work = FlattenWork::new(stack);
+    let parcels = plain_walk(alloc, &work, Piece::root(alloc, 0))?;
+    Ok(finish_flatten(alloc, &work, parcels)?)
+}
+
+#[test]
+fn a_flattened_layer_has_no_mark(rt: HostRuntime) -> Result<(), Fail> {
+    let stack = stack_of(rt.alloc(), MOVED)?;
+    let layer = flattened(rt.alloc(), &stack)?;
+    expect_layer(rt.alloc(), &layer, "dir /p, dir /p/q, file /p/q/k")
 }
 
 const PULLED: &str = "whiteout /a, dir /b redirect=/a | dir /a, file /a/k | dir /b, file /b/z";
@@ -155,6 +183,20 @@ fn a_merge_walks_the_directories_of_the_new_layer(rt: HostRuntime) -> Result<(),
     same(PULLED, walk.as_str(), "0/: b; 0/b: k; ")
 }
 
+fn merged(alloc: Global, stack: &Stack) -> Result<MergeDone, Fail> {
+    let work = MergeWork::new(stack)?;
+    let parcels = plain_walk(alloc, &work, Piece::root(alloc, 0))?;
+    Ok(finish_merge(alloc, &work, parcels)?)
+}
+
+#[test]
+fn a_merge_leaves_a_root_alone_over_the_new_layer(rt: HostRuntime) -> Result<(), Fail> {
+    let stack = stack_of(rt.alloc(), PULLED)?;
+    let MergeDone { top, lower } = merged(rt.alloc(), &stack)?;
+    expect_layer(rt.alloc(), &top, "root")?;
+    expect_layer(rt.alloc(), &lower, "dir /b opaque=y, file /b/k")
+}
+
 #[test]
 fn a_layer_alone_is_not_merged(rt: HostRuntime) -> Result<(), Fail> {
     let alone = stack_of(rt.alloc(), "root")?;
@@ -167,15 +209,11 @@ fn is_over_the_limits(alloc: Global, stack: &Stack) -> Result<bool, Fail> {
     Ok(finish_merge(alloc, &work, parcels).err() == Some(MergeFault::LimitOut))
 }
 
-fn stays(alloc: Global, stack: &Stack, top: &str) -> Result<bool, Fail> {
-    is_layer(alloc, &dereferenced(alloc, stack)?, top)
-}
-
 fn row_without_data(alloc: Global, row: &str) -> Result<(), Fail> {
     let stack = stack_of(alloc, row)?;
     expect_so(is_over_the_limits(alloc, &stack)?)?;
     let (top, _) = row.split_once(" | ").unwrap_or((row, ""));
-    expect_so(stays(alloc, &stack, top)?)
+    expect_layer(alloc, &dereferenced(alloc, &stack)?, top)
 }
 
 // A metacopy file without data, and one with a malformed redirect: the check finds a fault in each.

@@ -63,6 +63,14 @@ impl FlattenEnd {
 /// What the stack shows, as one layer. The parcels are the plain walk of the work from `/` of space
 /// 0. Over a sound stack it is refused, unless memory runs out, exactly where that layer passes a
 /// limit of manifests.
+///
+/// By one thread:
+///
+/// ```
+/// let work = FlattenWork::new(stack);
+/// let parcels = plain_walk(alloc, &work, Piece::root(alloc, 0))?;
+/// Ok(finish_flatten(alloc, &work, parcels)?)
+/// ```
 pub fn finish_flatten(
     alloc: Global,
     work: &FlattenWork<'_>,

@@ -40,6 +40,15 @@ impl Model for Digest {
 impl Digest {
     /// The digest that 64 lower-case hexadecimal digits spell, or the first fault in the order of
     /// [`DigestFault`].
+    ///
+    /// The digits again, or the text of the fault:
+    ///
+    /// ```
+    /// match Digest::parse(text) {
+    ///     Ok(digest) => String::from_str(alloc, digest.digits().as_str()),
+    ///     Err(fault) => fault.to_string(alloc),
+    /// }
+    /// ```
     pub fn parse(text: &str) -> Result<Digest, DigestFault>
         ensures { MatchResult result
             (λ digest. digest_of_text text.now ≡ Some digest)

@@ -78,6 +78,16 @@ pub enum Mark {
 /// [`RedirectFault`], each looked for in the whole value before the next. A path may have any
 /// number of names. overlayfs.rst: "renaming directories"; that a name lies beside the directory,
 /// and which values are malformed, is this profile's.
+///
+/// The path or the name as reports show it, or the text of the fault:
+///
+/// ```
+/// match read_redirect(alloc, &value) {
+///     Ok(Redirect::To(path)) => path.shown(alloc),
+///     Ok(Redirect::Beside(name)) => name.shown(alloc),
+///     Err(fault) => fault.to_string(alloc),
+/// }
+/// ```
 pub fn read_redirect(alloc: Global, value: &[u8]) -> Result<Redirect, RedirectFault>
     ensures { MatchResult result
         (λ redirect. (redirect ≡ redirect_of value.now) × (redirect_fault value.now ≡ None))
@@ -157,6 +167,16 @@ fn is_bad_part(part: &str) -> bool
 }
 
 /// What an inode means to the overlay, see [`Mark`]; fails only when out of memory.
+///
+/// The old place of a moved directory, or the word of another mark:
+///
+/// ```
+/// match mark_of(alloc, inode)? {
+///     Mark::DirMoved(Redirect::To(path)) => path.shown(alloc),
+///     Mark::DirMoved(Redirect::Beside(name)) => name.shown(alloc),
+///     mark => format!(in alloc; "{mark:?}"),
+/// }
+/// ```
 pub fn mark_of(alloc: Global, inode: &Inode) -> Result<Mark, AllocError>
     ensures { IfOk result (λ mark. mark ≡ marks.mark_of inode.now) }
 {

@@ -11,6 +11,15 @@ impl Stack {
     /// The names that a directory has in the merged tree of the layers with index `from` and up, in
     /// order; none where no directory is shown. `from` is at most the number of layers that aren't
     /// data-only. Fails only when out of memory. overlayfs.rst: "Directories", "readdir".
+    ///
+    /// The names that all layers show in a directory, each with a space behind it:
+    ///
+    /// ```
+    /// for name in &stack.names(alloc, 0, path)? {
+    ///     text.push_str(name.as_str())?;
+    ///     text.push_str(" ")?;
+    /// }
+    /// ```
     pub fn names(&self, alloc: Global, from: usize, path: &Path) -> Result<Vec<Name>, AllocError>
         requires { from ≤ length self.now.layers }
         ensures { IfOk result (λ names. AreKids (from_layer from self.now) path.now names.items) }
@@ -25,6 +34,17 @@ impl Stack {
 
     /// The whole merged tree in path order: each path at which something is shown once, with what
     /// is shown there. Fails only when out of memory.
+    ///
+    /// The directories that a stack shows, each with a space behind it:
+    ///
+    /// ```
+    /// for (path, look) in &stack.list(alloc)? {
+    ///     if look.is_shown_directory() {
+    ///         text.push_str(path.shown(alloc)?.as_str())?;
+    ///         text.push_str(" ")?;
+    ///     }
+    /// }
+    /// ```
     pub fn list(&self, alloc: Global) -> Result<Vec<(Path, Look)>, AllocError>
         ensures { IfOk result (λ looks. IsMerged self.now looks.items) }
     {

@@ -98,6 +98,16 @@ impl Stack {
     /// What the layers with index `from` and up show at a path, over the data-only ones; `from` is
     /// at most the number of the others. Fails only when out of memory. overlayfs.rst:
     /// "Directories", "Multiple lower layers", "Metadata only copy up", "Data-only lower layers".
+    ///
+    /// What all layers show at a path, in words:
+    ///
+    /// ```
+    /// match stack.look(alloc, 0, path)? {
+    ///     Look::Nothing => String::from_str(alloc, "nothing"),
+    ///     Look::Shown(inode) => format!(in alloc; "mode {}", inode.mode),
+    ///     Look::Broken(_) => String::from_str(alloc, "a file whose data is missing"),
+    /// }
+    /// ```
     pub fn look(&self, alloc: Global, from: usize, path: &Path) -> Result<Look, AllocError>
         requires { from ≤ length self.now.layers }
         ensures { IfOk result (λ shown. shown ≡ look (from_layer from self.now) path.now) }

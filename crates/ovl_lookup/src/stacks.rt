@@ -85,6 +85,16 @@ impl Stack {
     /// The stack of these layers, the topmost first, of which the last `bottom` are data-only;
     /// refused exactly where they are none or more than [`LAYER_LIMIT`], and where no other is
     /// left. When out of memory, the layers are dropped. overlayfs.rst: "Data-only lower layers".
+    ///
+    /// The stack of these manifests, the last `bottom` of them data-only:
+    ///
+    /// ```
+    /// let mut layers = Vec::new(alloc);
+    /// for manifest in &manifests {
+    ///     layers.push(read_layer(alloc, manifest)?)?;
+    /// }
+    /// Ok(Stack::with_data(alloc, layers, bottom)?)
+    /// ```
     pub fn with_data(alloc: Global, layers: Vec<Layer>, bottom: u16) -> Result<Stack, StackFault>
         ensures value { IfOk result (λ stack. stack ≡ stack_with layers.items bottom) }
         ensures refused { (result ≡ Err Layers)

@@ -29,6 +29,16 @@ pub struct Step {
 /// and whether it is closed. A path may have any number of names. Fails only when out of memory.
 /// overlayfs.rst: "whiteouts and opaque directories", "renaming directories", "Metadata only copy
 /// up", "Data-only lower layers"; a redirect of one name, beside the old one, is this profile's.
+///
+/// Where the layers below have what one layer lets through at a path:
+///
+/// ```
+/// let step = walk(alloc, sheet, path)?;
+/// if step.closed {
+///     return String::from_str(alloc, "nothing");
+/// }
+/// step.next.shown(alloc)
+/// ```
 pub fn walk(alloc: Global, sheet: &Sheet, path: &Path) -> Result<Step, AllocError>
     ensures { IfOk result (λ step. step ≡ walks.walk sheet.now path.now) }
 {

@@ -26,6 +26,17 @@ use std::alloc::Global;
 /// time. The text is JSON (RFC 8259) in UTF-8, nested at most 127 deep; of members with the same
 /// name the last counts. Memory is taken in proportion to the bytes, whatever they hold: no value
 /// but that of one entry is made at a time.
+///
+/// Each entry of a manifest, by its path and its inode:
+///
+/// ```
+/// let layer = read_layer(alloc, manifest)?;
+/// for (path, inode) in &layer.entries(alloc)? {
+///     let path = path.shown(alloc)?;
+///     let place = old_place(alloc, inode)?;
+///     text.push_str(format!(in alloc; "{path}: {place}; ")?.as_str())?;
+/// }
+/// ```
 pub fn read_layer(alloc: Global, bytes: &[u8]) -> Result<Layer, LayerFault>
     ensures { MatchResult result
         (λ layer. manifest.read_layer bytes.now ≡ Ok layer)
@@ -57,6 +68,16 @@ fn read_text(alloc: Global, text: &str) -> Result<Layer, LayerFault>
 /// [`write_layer`](crate::write_layer) writes it, and one with white space in it, some of it among
 /// the first 64 bytes, once what stands between tokens is left out; others by way of a value of
 /// each entry.
+///
+/// The stack of these manifests, the topmost layer first, none of them data-only:
+///
+/// ```
+/// let mut sheets = Vec::new(alloc);
+/// for manifest in manifests {
+///     sheets.push(read_sheet(alloc, manifest)?)?;
+/// }
+/// Ok(Stack::of_sheets(sheets, Vec::new(alloc))?)
+/// ```
 pub fn read_sheet(alloc: Global, bytes: &[u8]) -> Result<Sheet, LayerFault>
     ensures { MatchResult result
         (λ sheet. manifest.read_layer bytes.now ≡ Ok sheet)

@@ -18,6 +18,13 @@ use std::alloc::{AllocError, Global};
 /// The manifest of a layer: compact JSON whose objects have their members in the byte order of
 /// their names, and a newline. Reading it gives the layer back. Fails only when out of memory. The
 /// format is told in `docs/FORMATS.md`.
+///
+/// A manifest of any version as one of the last version:
+///
+/// ```
+/// let layer = read_layer(alloc, manifest.as_bytes())?;
+/// let written = String::from_utf8(write_layer(alloc, &layer)?)?;
+/// ```
 pub fn write_layer(alloc: Global, layer: &Layer) -> Result<Vec<u8>, AllocError>
     ensures text { IfOk result (λ bytes. bytes.items ≡ manifest_text layer.now) }
     ensures back { IfOk result (λ bytes. read_layer bytes.items ≡ Ok layer.now) }

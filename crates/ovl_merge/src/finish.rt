@@ -80,6 +80,14 @@ impl MergeEnd {
 /// The two topmost layers as one, below a topmost layer that has its root alone. The parcels are
 /// the plain walk of the work from `/` of space 0. Over a sound stack it is refused, unless memory
 /// runs out, exactly where the new lower layer passes a limit of manifests.
+///
+/// By one thread:
+///
+/// ```
+/// let work = MergeWork::new(stack)?;
+/// let parcels = plain_walk(alloc, &work, Piece::root(alloc, 0))?;
+/// Ok(finish_merge(alloc, &work, parcels)?)
+/// ```
 pub fn finish_merge(
     alloc: Global,
     work: &MergeWork<'_>,

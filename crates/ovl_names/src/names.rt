@@ -68,6 +68,15 @@ impl Model for Name {
 
 impl Name {
     /// The name that a text spells, or the first fault of the text in the order of [`NameFault`].
+    ///
+    /// The text of a fault, that the name holds `/`:
+    ///
+    /// ```
+    /// match Name::of(alloc, "a/b") {
+    ///     Ok(name) => name.shown(alloc),
+    ///     Err(fault) => fault.to_string(alloc),
+    /// }
+    /// ```
     pub fn of(alloc: Global, text: &str) -> Result<Name, NameFault>
         ensures { MatchResult result
             (λ name. (name ≡ text.now) × IsTrue (is_name text.now))

@@ -117,6 +117,14 @@ impl Path {
     /// The path that a text spells: `/`, or at most [`DEPTH_LIMIT`] names with `/` before each, in
     /// at most [`TEXT_LIMIT`] bytes. Otherwise the first fault in the order of [`PathFault`], each
     /// looked for in the whole text before the next.
+    ///
+    /// The text `/usr/bin/env`, of a path and a name:
+    ///
+    /// ```
+    /// let directory = Path::parse(alloc, "/usr/bin")?;
+    /// let path = directory.child(alloc, &Name::of(alloc, "env")?)?;
+    /// Ok(path.shown(alloc)?)
+    /// ```
     pub fn parse(alloc: Global, text: &str) -> Result<Path, PathFault>
         ensures { MatchResult result
             (λ path. (path ≡ text_parts text.now) × (path_fault depth_limit text.now ≡ None))

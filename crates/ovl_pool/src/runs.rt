@@ -95,6 +95,17 @@ impl From<AllocError> for RunFault {
 /// assemble the parcels is wanted. A run that wants memory otherwise gives `Memory`, or `Gate` if
 /// that came as well. It waits for locks, and returns only where each visit and each question to
 /// the gate does.
+///
+/// What holds of a work of 200 pieces, whatever the number of workers, and nothing is refused:
+///
+/// ```
+/// let (parcels, count) = run(rt, alloc, work, Piece::root(alloc, 0), workers, &OpenGate)?;
+/// let walk = plain_walk(alloc, work, Piece::root(alloc, 0))?;
+/// Ok(
+///     parcels == walk
+///         && (count.known, count.delivered, count.taken, count.left) == (200, 200, 200, 0),
+/// )
+/// ```
 pub fn run<W: Work + Sync, G: Gate + Sync, R: Threads + Wait + Sync>(
     rt: &R,
     alloc: Global,

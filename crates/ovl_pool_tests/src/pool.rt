@@ -123,51 +123,19 @@ struct Turn {
     in_turn: AtomicBool,
 }
 
-// A tree that is also the gate to its pieces, and lets all pass.
+// What is told of each visit as it begins.
+trait Witness {
+    fn see(&self, piece: &Piece);
+}
+
+// A tree, and who is told of the visits to its pieces.
 #[derive(Drop)]
-struct Watched {
+struct Watched<T: Drop> {
     tree: Tree,
-    turns: Vec<Turn>,
+    witness: T,
 }
 
-impl Watched {
-    fn of(alloc: Global, texts: &str) -> Result<Watched, Fail> {
-        let mut turns = Vec::new(alloc);
-        for text in texts.split_whitespace() {
-            turns.push(Turn {
-                piece: piece(alloc, text)?,
-                asked: AtomicU64::new(0),
-                in_turn: AtomicBool::new(false),
-            })?;
-        }
-        let tree = tree(alloc, texts)?;
-        Ok(Watched { tree, turns })
-    }
-
-    fn turn(&self, piece: &Piece) -> Option<&Turn> {
-        self.turns.iter().find(|turn| turn.piece == *piece)
-    }
-
-    // Whether the gate was asked for each piece once, before its visit.
-    fn was_in_turn(&self) -> bool {
-        self.turns.iter().all(|turn| {
-            turn.in_turn.load(Ordering::SeqCst) && turn.asked.load(Ordering::SeqCst) == 1
-        })
-    }
-}
-
-impl Gate for Watched {
-    ghost may_refuse = { λ _ _. ⊥ };
-
-    fn pass(&self, piece: &Piece) -> bool {
-        if let Some(turn) = self.turn(piece) {
-            turn.asked.fetch_add(1, Ordering::SeqCst);
-        }
-        true
-    }
-}
-
-impl Work for Watched {
+impl<T: Witness + Drop> Work for Watched<T> {
     type Out = ();
 
     ghost Seen = { Unit {0} };
@@ -183,10 +151,7 @@ impl Work for Watched {
     ghost deepest_of = { λ work. deepest_path work.tree };
 
     fn visit(&self, alloc: Global, piece: &Piece) -> Result<(Vec<Piece>, ()), AllocError> {
-        if let Some(turn) = self.turn(piece) {
-            let asked = turn.asked.load(Ordering::SeqCst);
-            turn.in_turn.store(asked == 1, Ordering::SeqCst);
-        }
+        self.witness.see(piece);
         self.tree.visit(alloc, piece)
     }
 
@@ -195,22 +160,74 @@ impl Work for Watched {
     }
 }
 
+// The turns of pieces, as the gate to these, which lets all pass.
+#[derive(Drop)]
+struct Turns(Vec<Turn>);
+
+impl Turns {
+    fn of(alloc: Global, texts: &str) -> Result<Turns, Fail> {
+        let mut turns = Vec::new(alloc);
+        for text in texts.split_whitespace() {
+            turns.push(Turn {
+                piece: piece(alloc, text)?,
+                asked: AtomicU64::new(0),
+                in_turn: AtomicBool::new(false),
+            })?;
+        }
+        Ok(Turns(turns))
+    }
+
+    fn turn(&self, piece: &Piece) -> Option<&Turn> {
+        self.0.iter().find(|turn| turn.piece == *piece)
+    }
+
+    // Whether the gate was asked for each piece once, before its visit.
+    fn were_kept(&self) -> bool {
+        self.0.iter().all(|turn| {
+            turn.in_turn.load(Ordering::SeqCst) && turn.asked.load(Ordering::SeqCst) == 1
+        })
+    }
+}
+
+impl Gate for Turns {
+    ghost may_refuse = { λ _ _. ⊥ };
+
+    fn pass(&self, piece: &Piece) -> bool {
+        if let Some(turn) = self.turn(piece) {
+            turn.asked.fetch_add(1, Ordering::SeqCst);
+        }
+        true
+    }
+}
+
+impl Witness for Turns {
+    fn see(&self, piece: &Piece) {
+        if let Some(turn) = self.turn(piece) {
+            let asked = turn.asked.load(Ordering::SeqCst);
+            turn.in_turn.store(asked == 1, Ordering::SeqCst);
+        }
+    }
+}
+
 fn is_in_turn<R: Threads + Wait + Sync>(
     rt: &R,
     alloc: Global,
-    watched: &Watched,
+    work: &Watched<Turns>,
     workers: usize,
 ) -> Result<bool, Fail> {
-    run(rt, alloc, watched, piece(alloc, "/")?, workers, watched)?;
-    Ok(watched.was_in_turn())
+    run(rt, alloc, work, piece(alloc, "/")?, workers, &work.witness)?;
+    Ok(work.witness.were_kept())
 }
 
 #[test]
 fn the_gate_is_asked_once_for_each_piece_before_its_visit(rt: HostRuntime) -> Result<(), Fail> {
     for workers in [1, 2, 7] {
-        let watched = Watched::of(rt.alloc(), DEEP)?;
+        let work = Watched {
+            tree: tree(rt.alloc(), DEEP)?,
+            witness: Turns::of(rt.alloc(), DEEP)?,
+        };
         assert!(rt;
-            is_in_turn(&rt, rt.alloc(), &watched, workers)?,
+            is_in_turn(&rt, rt.alloc(), &work, workers)?,
             "at {workers}"
         );
     }
@@ -315,70 +332,50 @@ impl Place {
     }
 }
 
-// The small tree, where the visits of `/a` and `/b` wait for each other for a while.
+// Two places whose visits wait for each other for a while.
 #[derive(Drop)]
-struct Meet {
-    tree: Tree,
+struct Meeting {
     a: Place,
     b: Place,
 }
 
-impl Work for Meet {
-    type Out = ();
-
-    ghost Seen = { Unit {0} };
-
-    ghost seen_set = { Prim.hlevel };
-
-    ghost seen = { λ _. tt };
-
-    ghost kids_of = { λ work. tree_kids work.tree };
-
-    ghost out_of = { λ _ _. tt };
-
-    ghost deepest_of = { λ work. deepest_path work.tree };
-
-    fn visit(&self, alloc: Global, piece: &Piece) -> Result<(Vec<Piece>, ()), AllocError> {
+impl Witness for Meeting {
+    fn see(&self, piece: &Piece) {
         if *piece == self.a.piece {
             self.a.meet(&self.b);
         } else if *piece == self.b.piece {
             self.b.meet(&self.a);
         }
-        self.tree.visit(alloc, piece)
-    }
-
-    fn deepest(&self) -> u32 {
-        self.tree.deepest()
     }
 }
 
-impl Meet {
-    fn of(alloc: Global) -> Result<Meet, Fail> {
-        let (a, b) = (piece(alloc, "/a")?, piece(alloc, "/b")?);
-        let tree = tree(alloc, SMALL)?;
-        Ok(Meet {
-            tree,
-            a: Place::new(a),
-            b: Place::new(b),
-        })
-    }
+// The small tree, where the visits of `/a` and `/b` meet.
+fn meeting_tree(alloc: Global) -> Result<Watched<Meeting>, Fail> {
+    let (a, b) = (piece(alloc, "/a")?, piece(alloc, "/b")?);
+    let tree = tree(alloc, SMALL)?;
+    let witness = Meeting {
+        a: Place::new(a),
+        b: Place::new(b),
+    };
+    Ok(Watched { tree, witness })
 }
 
 // Whether the visits of `/a` and of `/b` saw each other.
 fn visited<R: Threads + Wait + Sync>(
     rt: &R,
     alloc: Global,
-    work: &Meet,
+    work: &Watched<Meeting>,
     workers: usize,
 ) -> Result<(bool, bool), Fail> {
     run(rt, alloc, work, piece(alloc, "/")?, workers, &OpenGate)?;
-    Ok((work.a.has_seen(), work.b.has_seen()))
+    let Meeting { a, b } = &work.witness;
+    Ok((a.has_seen(), b.has_seen()))
 }
 
 #[test]
 fn several_workers_visit_at_the_same_time(rt: HostRuntime) -> Result<(), Fail> {
     for workers in [1, 2, 4] {
-        let work = Meet::of(rt.alloc())?;
+        let work = meeting_tree(rt.alloc())?;
         let seen = visited(&rt, rt.alloc(), &work, workers)?;
         assert!(rt; seen == (workers > 1, true), "at {workers}");
     }

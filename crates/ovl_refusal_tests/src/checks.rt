@@ -5,11 +5,11 @@ ghost use Rattle.ovl_check.specs.Checks.{check_seen};
 ghost use Rattle.ovl_check.specs.CheckViews.{check_view};
 ghost use Rattle.ovl_check.specs.Walks.{AreLayerWalks};
 
-use crate::samples::{expect_so, moved_stack};
+use crate::samples::{DOUBLE, MOVED, expect_so, stack_of};
 use ovl_board::{Parcel, Piece, plain_walk};
 use ovl_check::{
-    BLOB_SPACE, Blob, BlobWork, CheckOut, CheckWork, blobs_in_order, finish_blobs, finish_check,
-    stated_names,
+    BLOB_SPACE, Blob, BlobWork, CheckOut, CheckWork, Finding, blobs_in_order, finish_blobs,
+    finish_check, stated_names,
 };
 use ovl_inode::Digest;
 use ovl_lookup::Stack;
@@ -34,16 +34,33 @@ fn walks_of<'a>(
     Ok(layers)
 }
 
-// The blob of three files isn't there.
-fn is_checked(alloc: Global, stack: &Stack) -> Result<bool, AllocError> {
-    if stack.layers() != 2 {
-        return Ok(false);
+// Findings, each with its layer and its path.
+fn told(alloc: Global, findings: &[Finding]) -> Result<String, AllocError> {
+    let mut text = String::new(alloc);
+    for Finding { layer, path, code } in findings {
+        let path = path.shown(alloc)?;
+        let line = format!(in alloc; "{code:?} {layer} {path}; ")?;
+        text.push_str(line.as_str())?;
     }
-    let names = stated_names(alloc, stack)?;
+    Ok(text)
+}
+
+// What is found in a stack of two layers, of which no blob is there.
+fn found(alloc: Global, stack: &Stack) -> Result<String, AllocError> {
+    if stack.layers() != 2 {
+        return String::from_str(alloc, "not two layers");
+    }
     let work = CheckWork::new(stack, &[], &[]);
     let layers = walks_of(alloc, &work, 2)?;
-    let found = finish_check(alloc, &work, layers)?;
-    Ok(names.len() == 1 && found.len() == 3)
+    told(alloc, &finish_check(alloc, &work, layers)?)
+}
+
+fn is_found(alloc: Global, stack: &Stack, wanted: &str) -> Result<bool, AllocError> {
+    Ok(found(alloc, stack)?.as_str() == wanted)
+}
+
+fn is_named(alloc: Global, stack: &Stack) -> Result<bool, AllocError> {
+    Ok(stated_names(alloc, stack)?.len() == 1)
 }
 
 // Of blobs that all have other bytes than their names say.
@@ -73,8 +90,22 @@ fn blobs_of(alloc: Global) -> Result<Vec<Blob>, AllocError> {
 
 #[test]
 fn a_stack_is_checked(rt: HostRuntime) -> Result<(), Fail> {
-    let stack = moved_stack(rt.alloc())?;
-    expect_so(again!(is_checked(rt.alloc(), &stack), AllocError)?)
+    let stack = stack_of(rt.alloc(), MOVED)?;
+    let wanted = "BlobMissing 1 /m; BlobMissing 1 /n/z; BlobMissing 1 /x/k; ";
+    expect_so(again!(is_found(rt.alloc(), &stack, wanted), AllocError)?)
+}
+
+#[test]
+fn the_blob_of_three_files_is_named_once(rt: HostRuntime) -> Result<(), Fail> {
+    let stack = stack_of(rt.alloc(), MOVED)?;
+    expect_so(again!(is_named(rt.alloc(), &stack), AllocError)?)
+}
+
+#[test]
+fn the_second_of_two_moves_from_one_place_is_a_double(rt: HostRuntime) -> Result<(), Fail> {
+    let stack = stack_of(rt.alloc(), DOUBLE)?;
+    let wanted = "RedirectOpen 0 /a; RedirectDouble 0 /b; RedirectOpen 0 /b; ";
+    expect_so(again!(is_found(rt.alloc(), &stack, wanted), AllocError)?)
 }
 
 #[test]

@@ -1,6 +1,6 @@
 //! Commands by one worker and by two.
 
-use crate::samples::{MOVED, ONE, OPAQUE, OVER, ROOT, Sample, TWICE, WRONG, expect_so};
+use crate::samples::{MOVED, ROOT, SAMPLES, Sample, expect_so};
 use ovl_check::{Blob, Content};
 use ovl_engine::{
     Answer, Command, CommandFault, Contents, EngineFault, Question, command, command_over,
@@ -291,52 +291,23 @@ fn all_end<R: Threads + Wait + Sync>(
     Ok(())
 }
 
-#[test]
-fn a_root_alone_by_one_worker(rt: HostRuntime) -> Result<(), Fail> {
-    all_end(&rt, rt.alloc(), ONE, 1)
+fn samples_end<R: Threads + Wait + Sync>(
+    rt: &R,
+    alloc: Global,
+    workers: usize,
+) -> Result<(), Fail> {
+    for sample in SAMPLES {
+        all_end(rt, alloc, sample, workers)?;
+    }
+    Ok(())
 }
 
 #[test]
-fn a_root_alone_by_two_workers(rt: HostRuntime) -> Result<(), Fail> {
-    all_end(&rt, rt.alloc(), ONE, 2)
+fn commands_of_samples_end_as_they_say_by_one_worker(rt: HostRuntime) -> Result<(), Fail> {
+    samples_end(&rt, rt.alloc(), 1)
 }
 
 #[test]
-fn a_directory_moved_under_an_opaque_one_by_one_worker(rt: HostRuntime) -> Result<(), Fail> {
-    all_end(&rt, rt.alloc(), OPAQUE, 1)
-}
-
-#[test]
-fn a_directory_moved_under_an_opaque_one_by_two_workers(rt: HostRuntime) -> Result<(), Fail> {
-    all_end(&rt, rt.alloc(), OPAQUE, 2)
-}
-
-#[test]
-fn the_same_layer_twice_by_one_worker(rt: HostRuntime) -> Result<(), Fail> {
-    all_end(&rt, rt.alloc(), TWICE, 1)
-}
-
-#[test]
-fn the_same_layer_twice_by_two_workers(rt: HostRuntime) -> Result<(), Fail> {
-    all_end(&rt, rt.alloc(), TWICE, 2)
-}
-
-#[test]
-fn a_directory_moved_over_another_by_one_worker(rt: HostRuntime) -> Result<(), Fail> {
-    all_end(&rt, rt.alloc(), OVER, 1)
-}
-
-#[test]
-fn a_directory_moved_over_another_by_two_workers(rt: HostRuntime) -> Result<(), Fail> {
-    all_end(&rt, rt.alloc(), OVER, 2)
-}
-
-#[test]
-fn wrong_contents_by_one_worker(rt: HostRuntime) -> Result<(), Fail> {
-    all_end(&rt, rt.alloc(), WRONG, 1)
-}
-
-#[test]
-fn wrong_contents_by_two_workers(rt: HostRuntime) -> Result<(), Fail> {
-    all_end(&rt, rt.alloc(), WRONG, 2)
+fn commands_of_samples_end_as_they_say_by_two_workers(rt: HostRuntime) -> Result<(), Fail> {
+    samples_end(&rt, rt.alloc(), 2)
 }

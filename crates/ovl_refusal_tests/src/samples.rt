@@ -5,8 +5,8 @@ use ovl_manifest::read_layer;
 use std::alloc::{AllocError, Global};
 use std::test::Fail;
 
-/// The stack of these manifests; what refuses it but out of memory is told as that too.
-fn stack_of(alloc: Global, manifests: &str) -> Result<Stack, AllocError> {
+// The stack of these manifests; what refuses it but out of memory is told as that too.
+fn read_stack(alloc: Global, manifests: &str) -> Result<Stack, AllocError> {
     let mut layers = Vec::new(alloc);
     for manifest in manifests.lines() {
         let Ok(layer) = read_layer(alloc, manifest.as_bytes()) else {
@@ -20,9 +20,14 @@ fn stack_of(alloc: Global, manifests: &str) -> Result<Stack, AllocError> {
     }
 }
 
+/// The stack of these manifests, made again where memory ran out.
+pub(crate) fn stack_of(alloc: Global, manifests: &str) -> Result<Stack, AllocError> {
+    again!(read_stack(alloc, manifests), AllocError)
+}
+
 /// The stack of [`MOVED`].
 pub(crate) fn moved_stack(alloc: Global) -> Result<Stack, AllocError> {
-    again!(stack_of(alloc, MOVED), AllocError)
+    stack_of(alloc, MOVED)
 }
 
 /// A failure where this isn't so.
@@ -45,6 +50,12 @@ pub(crate) const MOVED: &str =
 {"entries":[{"gid":0,"kind":"dir","mode":493,"mtime":0,"mtime-nsec":0,"path":"/","uid":0,"xattrs":{}},{"blob":"ca978112ca1bbdcafac231b39a23dc4da786eff8147c4e72b9807785afee48bb","gid":0,"kind":"file","mode":420,"mtime":0,"mtime-nsec":0,"path":"/m","size":1,"uid":0,"xattrs":{}},{"gid":0,"kind":"dir","mode":493,"mtime":0,"mtime-nsec":0,"path":"/n","uid":0,"xattrs":{}},{"blob":"ca978112ca1bbdcafac231b39a23dc4da786eff8147c4e72b9807785afee48bb","gid":0,"kind":"file","mode":420,"mtime":0,"mtime-nsec":0,"path":"/n/z","size":1,"uid":0,"xattrs":{}},{"gid":0,"kind":"dir","mode":493,"mtime":0,"mtime-nsec":0,"path":"/x","uid":0,"xattrs":{}},{"blob":"ca978112ca1bbdcafac231b39a23dc4da786eff8147c4e72b9807785afee48bb","gid":0,"kind":"file","mode":420,"mtime":0,"mtime-nsec":0,"path":"/x/k","size":1,"uid":0,"xattrs":{}}],"overlay-layer":2}
 "#;
 
+/// `dir /a redirect=/x, dir /b redirect=/x` over `dir /x`.
+pub(crate) const DOUBLE: &str =
+    r#"{"entries":[{"gid":0,"kind":"dir","mode":493,"mtime":0,"mtime-nsec":0,"path":"/","uid":0,"xattrs":{}},{"gid":0,"kind":"dir","mode":493,"mtime":0,"mtime-nsec":0,"path":"/a","uid":0,"xattrs":{"trusted.overlay.redirect":"2f78"}},{"gid":0,"kind":"dir","mode":493,"mtime":0,"mtime-nsec":0,"path":"/b","uid":0,"xattrs":{"trusted.overlay.redirect":"2f78"}}],"overlay-layer":2}
+{"entries":[{"gid":0,"kind":"dir","mode":493,"mtime":0,"mtime-nsec":0,"path":"/","uid":0,"xattrs":{}},{"gid":0,"kind":"dir","mode":493,"mtime":0,"mtime-nsec":0,"path":"/x","uid":0,"xattrs":{}}],"overlay-layer":2}
+"#;
+
 /// A stack, the contents of its blobs, each behind `=` where they have the name of others, and a
 /// line for each command: the end of its report, or behind `!` what refuses it.
 #[derive(Clone, Copy, Debug)]
@@ -54,8 +65,11 @@ pub(crate) struct Sample {
     pub(crate) ends: &'static str,
 }
 
-/// `root`.
-pub(crate) const ONE: Sample = Sample {
+/// All samples.
+pub(crate) const SAMPLES: [Sample; 5] = [ONE, OPAQUE, TWICE, OVER, WRONG];
+
+// `root`.
+const ONE: Sample = Sample {
     manifests: r#"{"entries":[{"gid":0,"kind":"dir","mode":493,"mtime":0,"mtime-nsec":0,"path":"/","uid":0,"xattrs":{}}],"overlay-layer":2}
 "#,
     blobs: "",
@@ -69,9 +83,9 @@ flatten: entries 1
 ",
 };
 
-/// `dir /n opaque=y, dir /n/d redirect=/x, whiteout /x` over `dir /n, file /n/z, dir /x, file
-/// /x/k`.
-pub(crate) const OPAQUE: Sample = Sample {
+// `dir /n opaque=y, dir /n/d redirect=/x, whiteout /x` over `dir /n, file /n/z, dir /x, file
+// /x/k`.
+const OPAQUE: Sample = Sample {
     manifests: r#"{"entries":[{"gid":0,"kind":"dir","mode":493,"mtime":0,"mtime-nsec":0,"path":"/","uid":0,"xattrs":{}},{"gid":0,"kind":"dir","mode":493,"mtime":0,"mtime-nsec":0,"path":"/n","uid":0,"xattrs":{"trusted.overlay.opaque":"79"}},{"gid":0,"kind":"dir","mode":493,"mtime":0,"mtime-nsec":0,"path":"/n/d","uid":0,"xattrs":{"trusted.overlay.redirect":"2f78"}},{"gid":0,"kind":"char","major":0,"minor":0,"mode":0,"mtime":0,"mtime-nsec":0,"path":"/x","uid":0,"xattrs":{}}],"overlay-layer":2}
 {"entries":[{"gid":0,"kind":"dir","mode":493,"mtime":0,"mtime-nsec":0,"path":"/","uid":0,"xattrs":{}},{"gid":0,"kind":"dir","mode":493,"mtime":0,"mtime-nsec":0,"path":"/n","uid":0,"xattrs":{}},{"blob":"ca978112ca1bbdcafac231b39a23dc4da786eff8147c4e72b9807785afee48bb","gid":0,"kind":"file","mode":420,"mtime":0,"mtime-nsec":0,"path":"/n/z","size":1,"uid":0,"xattrs":{}},{"gid":0,"kind":"dir","mode":493,"mtime":0,"mtime-nsec":0,"path":"/x","uid":0,"xattrs":{}},{"blob":"ca978112ca1bbdcafac231b39a23dc4da786eff8147c4e72b9807785afee48bb","gid":0,"kind":"file","mode":420,"mtime":0,"mtime-nsec":0,"path":"/x/k","size":1,"uid":0,"xattrs":{}}],"overlay-layer":2}
 "#,
@@ -86,8 +100,8 @@ flatten: entries 4
 ",
 };
 
-/// `dir /d, file /d/k`, twice.
-pub(crate) const TWICE: Sample = Sample {
+// `dir /d, file /d/k`, twice.
+const TWICE: Sample = Sample {
     manifests: r#"{"entries":[{"gid":0,"kind":"dir","mode":493,"mtime":0,"mtime-nsec":0,"path":"/","uid":0,"xattrs":{}},{"gid":0,"kind":"dir","mode":493,"mtime":0,"mtime-nsec":0,"path":"/d","uid":0,"xattrs":{}},{"blob":"ca978112ca1bbdcafac231b39a23dc4da786eff8147c4e72b9807785afee48bb","gid":0,"kind":"file","mode":420,"mtime":0,"mtime-nsec":0,"path":"/d/k","size":1,"uid":0,"xattrs":{}}],"overlay-layer":2}
 {"entries":[{"gid":0,"kind":"dir","mode":493,"mtime":0,"mtime-nsec":0,"path":"/","uid":0,"xattrs":{}},{"gid":0,"kind":"dir","mode":493,"mtime":0,"mtime-nsec":0,"path":"/d","uid":0,"xattrs":{}},{"blob":"ca978112ca1bbdcafac231b39a23dc4da786eff8147c4e72b9807785afee48bb","gid":0,"kind":"file","mode":420,"mtime":0,"mtime-nsec":0,"path":"/d/k","size":1,"uid":0,"xattrs":{}}],"overlay-layer":2}
 "#,
@@ -102,8 +116,8 @@ flatten: entries 3
 ",
 };
 
-/// `whiteout /a, dir /b redirect=/a` over `dir /a, file /a/k` over `dir /b, file /b/z`.
-pub(crate) const OVER: Sample = Sample {
+// `whiteout /a, dir /b redirect=/a` over `dir /a, file /a/k` over `dir /b, file /b/z`.
+const OVER: Sample = Sample {
     manifests: r#"{"entries":[{"gid":0,"kind":"dir","mode":493,"mtime":0,"mtime-nsec":0,"path":"/","uid":0,"xattrs":{}},{"gid":0,"kind":"char","major":0,"minor":0,"mode":0,"mtime":0,"mtime-nsec":0,"path":"/a","uid":0,"xattrs":{}},{"gid":0,"kind":"dir","mode":493,"mtime":0,"mtime-nsec":0,"path":"/b","uid":0,"xattrs":{"trusted.overlay.redirect":"2f61"}}],"overlay-layer":2}
 {"entries":[{"gid":0,"kind":"dir","mode":493,"mtime":0,"mtime-nsec":0,"path":"/","uid":0,"xattrs":{}},{"gid":0,"kind":"dir","mode":493,"mtime":0,"mtime-nsec":0,"path":"/a","uid":0,"xattrs":{}},{"blob":"ca978112ca1bbdcafac231b39a23dc4da786eff8147c4e72b9807785afee48bb","gid":0,"kind":"file","mode":420,"mtime":0,"mtime-nsec":0,"path":"/a/k","size":1,"uid":0,"xattrs":{}}],"overlay-layer":2}
 {"entries":[{"gid":0,"kind":"dir","mode":493,"mtime":0,"mtime-nsec":0,"path":"/","uid":0,"xattrs":{}},{"gid":0,"kind":"dir","mode":493,"mtime":0,"mtime-nsec":0,"path":"/b","uid":0,"xattrs":{}},{"blob":"ca978112ca1bbdcafac231b39a23dc4da786eff8147c4e72b9807785afee48bb","gid":0,"kind":"file","mode":420,"mtime":0,"mtime-nsec":0,"path":"/b/z","size":1,"uid":0,"xattrs":{}}],"overlay-layer":2}
@@ -119,9 +133,9 @@ flatten: entries 3
 ",
 };
 
-/// `empty /e`, and `/k`, `/m` and `/s` with the contents `abc`, `a` and `ab`, of which the last is
-/// stated as longer.
-pub(crate) const WRONG: Sample = Sample {
+// `empty /e`, and `/k`, `/m` and `/s` with the contents `abc`, `a` and `ab`, of which the last is
+// stated as longer.
+const WRONG: Sample = Sample {
     manifests: r#"{"entries":[{"gid":0,"kind":"dir","mode":493,"mtime":0,"mtime-nsec":0,"path":"/","uid":0,"xattrs":{}},{"gid":0,"kind":"file","mode":420,"mtime":0,"mtime-nsec":0,"path":"/e","size":0,"uid":0,"xattrs":{}},{"blob":"ba7816bf8f01cfea414140de5dae2223b00361a396177a9cb410ff61f20015ad","gid":0,"kind":"file","mode":420,"mtime":0,"mtime-nsec":0,"path":"/k","size":3,"uid":0,"xattrs":{}},{"blob":"ca978112ca1bbdcafac231b39a23dc4da786eff8147c4e72b9807785afee48bb","gid":0,"kind":"file","mode":420,"mtime":0,"mtime-nsec":0,"path":"/m","size":1,"uid":0,"xattrs":{}},{"blob":"fb8e20fc2e4c3f248c60c39bd652f3c1347298bb977b8b4d5903b85055620603","gid":0,"kind":"file","mode":420,"mtime":0,"mtime-nsec":0,"path":"/s","size":3,"uid":0,"xattrs":{}}],"overlay-layer":2}
 "#,
     blobs: "abc=abd ab",

@@ -29,6 +29,14 @@ pub struct VacuumDone {
 
 /// The topmost layer without each entry at and under which all are idle, and the paths of those.
 /// The parcels are the plain walk of the work from `/` of space 0. Fails only when out of memory.
+///
+/// By one thread:
+///
+/// ```
+/// let work = VacuumWork::new(stack);
+/// let parcels = plain_walk(alloc, &work, Piece::root(alloc, 0))?;
+/// Ok(finish_vacuum(alloc, &work, parcels)?)
+/// ```
 pub fn finish_vacuum(
     alloc: Global,
     work: &VacuumWork<'_>,
