@@ -1,4 +1,4 @@
-use Rattle.std.proofs.Common.{◌≡◌, ◌+◌, Bool, length, filter, refl, arith}
+use Rattle.std.proofs.Common.{◌≡◌, ◌+◌, Bool, length, filter, refl, ap, arith}
 use Rattle.std.specs.Prelude.{not}
 use Rattle.std.proofs.lemmas.List.{length-map}
 use Rattle.std.proofs.lemmas.List.Filters.{length-filter_both}
@@ -19,3 +19,17 @@ parted stack =
       length-filter_both goes (λ entry. not (goes entry)) (λ entry. refl) (top_layer stack),
       length-map {B = PathNames} (filter goes (top_layer stack)) (λ entry. entry.0),
     )
+
+pub overflow_sub-result : goal.overflow_sub-result
+overflow_sub-result c =
+    let all = parted c.args.stack.now in
+    let gone = ap length c.requires in
+    let rows = ap length c.top.ensures.value in
+    grind (arith, all, gone, rows)
+
+pub returns : goal.returns
+returns c =
+    let all = parted c.args.stack.now in
+    let gone = ap length c.requires in
+    let rows = ap length c.top.ensures.value in
+    grind (arith, all, gone, rows)
