@@ -30,7 +30,7 @@ from dataclasses import dataclass, replace
 import ample
 from generate import MOST_NAMES
 from entries import METACOPY, NSEC, REDIRECT, Entry, entry
-from growth import First, Layer, chain, write
+from small_layers import First, Layer, chain, write
 
 COMMANDS = ("show", "fsck", "vacuum", "deref", "merge", "flatten")
 WORKERS = (1, 2, 3, 4, 7, 64)

@@ -24,7 +24,7 @@ from dataclasses import replace
 import ample
 import beside
 from beside import Answer, Case, Difference
-from growth import Layer, write
+from small_layers import Layer, write
 
 # How many layers aren't data-only, and the share of the stacks as overlays leave them.
 FEWEST, MOST, MADE = 3, 6, 0.8
