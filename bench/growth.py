@@ -160,9 +160,9 @@ CASES = [
     Case("3,000 metacopy files whose data lie in the last of N data-only layers", "fsck", shapes.data_only_layers, (1, 8, 64),
          data_only=lambda size: size),
     Case("20,000 metacopy files over N data-only layers, of which the last alone has anything", "fsck", shapes.empty_data_only_layers,
-         (1, 10, 100), data_only=lambda size: size),
+         (1, 10, 100), LAYERED, data_only=lambda size: size),
     Case("3,000 metacopy files in a moved directory over N data-only layers, of which the last alone has anything", "fsck",
-         shapes.moved_into_data, (1, 8, 64), data_only=lambda size: size),
+         shapes.moved_into_data, (1, 8, 64), LAYERED, data_only=lambda size: size),
     Case("3,000 metacopy files with redirects through N layers into a data-only one", "fsck",
          shapes.chains_into_data, (1, 8, 32, 64), LAYERED, data_only=lambda size: 1),
     # Contents.
