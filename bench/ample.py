@@ -32,7 +32,7 @@ from collections.abc import Callable, Iterator, Sequence
 from dataclasses import dataclass, replace
 
 from entries import METACOPY, NSEC, REDIRECT, Entry, entry
-from growth import First, Layer, Sources, manifest_of, write
+from small_layers import First, Layer, Sources, manifest_of, write
 
 OPAQUE, WHITEOUT = "trusted.overlay.opaque", "trusted.overlay.whiteout"
 CONTENTS = ("", "a", "b", "abc")

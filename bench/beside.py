@@ -29,7 +29,7 @@ import ample
 from cases import add_oracle, oracle_of, show_sorts, words_of
 from generate import MOST_NAMES
 from entries import METACOPY, NSEC, REDIRECT, Entry, entry
-from growth import First, Layer, chain, write
+from small_layers import First, Layer, chain, write
 
 COMMANDS = ("show", "fsck", "vacuum", "deref", "merge", "flatten")
 WORKERS = (1, 2, 3, 4, 7, 64)

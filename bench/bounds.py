@@ -20,8 +20,8 @@ import tempfile
 from dataclasses import dataclass
 
 from entries import METACOPY, NSEC, REDIRECT, Entry, entry
-from growth import Layer, write
 from instructions import instructions, locked
+from small_layers import Layer, write
 
 CONTENTS = b"x" * 65_536
 NAME = hashlib.sha256(CONTENTS).hexdigest()

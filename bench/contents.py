@@ -23,7 +23,7 @@ from typing import BinaryIO
 
 import run
 from entries import entry
-from growth import write
+from small_layers import write
 
 KIB, MIB, GIB = 1 << 10, 1 << 20, 1 << 30
 # What a run may take beyond `show`: for itself, and for each file.

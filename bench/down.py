@@ -24,7 +24,7 @@ import ample
 import beside
 from beside import Answer, Case, Difference
 from cases import show_sorts, words_of
-from growth import Layer, write
+from small_layers import Layer, write
 
 # How many layers aren't data-only, and the share of the stacks as overlays leave them.
 FEWEST, MOST, MADE = 3, 6, 0.8

@@ -27,8 +27,8 @@ from pathlib import Path
 
 from generate import MOST_NAMES, Generator
 from entries import REDIRECT, Entry, entry
-from growth import Layer, manifest_of
 from refusals import build
+from small_layers import Layer, manifest_of
 
 ENTRIES, MOST = 10_000, 0.8
 OPAQUE = "trusted.overlay.opaque"

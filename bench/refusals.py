@@ -33,7 +33,7 @@ from dataclasses import dataclass
 from pathlib import Path
 
 from entries import REDIRECT, Entry, entry
-from growth import First, Layer, write
+from small_layers import First, Layer, write
 
 SOURCE = Path(__file__).resolve().parent / "refuse.c"
 COMMANDS = ("show", "fsck", "vacuum", "deref", "merge", "flatten", "fsck --any-size", "merge --any-size", "merge --down-to 1")
