@@ -71,9 +71,9 @@ def build(options: BuildOptions) -> None:
 
 def entry_problem(entry: Entry, userxattr: bool) -> str | None:
     """Why Linux can't have this entry."""
-    problem = only_in_manifests(entry)
-    if problem:
-        return problem
+    stated_alone = only_in_manifests(entry)
+    if stated_alone:
+        return stated_alone
     if rules.MAX_NUMBER in (entry.uid, entry.gid):
         return f"an owner or group {rules.MAX_NUMBER}: Linux has none of this number"
     if entry.kind in (CHAR, BLOCK) and (entry.major > _MAX_MAJOR or entry.minor > _MAX_MINOR):
