@@ -50,11 +50,12 @@ impl FlattenEnd {
             → IsFlattenWalk stack (parcel_views inodes_seen parcels.items)
             → IsFlattened layer stack) }
         ensures kept { IfOk result (λ _. (stack : StackView) → IsFlattenEnd stack self
-            → IsFlattenWalk stack (parcel_views inodes_seen parcels.items) → PassesFlattenLimit stack
-            → ⊥) }
+            → IsFlattenWalk stack (parcel_views inodes_seen parcels.items)
+            → PassesFlattenLimit stack → ⊥) }
         ensures limit { result ≡ Err LimitOut → (stack : StackView) → IsFlattenEnd stack self
             → IsSoundStack stack
-            → IsFlattenWalk stack (parcel_views inodes_seen parcels.items) → PassesFlattenLimit stack }
+            → IsFlattenWalk stack (parcel_views inodes_seen parcels.items)
+            → PassesFlattenLimit stack }
     {
         layer_within(alloc, self.root, parcels)
     }

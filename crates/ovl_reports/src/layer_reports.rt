@@ -31,8 +31,8 @@ pub fn layer_report_of(alloc: Global, layer: &Layer) -> Result<Vec<u8>, AllocErr
     Ok(report.into_bytes())
 }
 
-// Appends the lines of the entries at and under a node, and counts these; `above` is the text of the
-// path up to its name.
+// Appends the lines of the entries at and under a node, and counts these; `above` is the text of
+// the path up to its name.
 fn push_under(
     alloc: Global,
     report: &mut String,
