@@ -36,10 +36,27 @@ fn is_sheet(alloc: Global, manifest: &str) -> Result<bool, LayerFault> {
     Ok(sheet.len() == 6 && sheet.children(alloc, &Path::root(alloc))?.len() == 3)
 }
 
-// A manifest as it is written is read at once, and one with a space before it item by item.
+// The same with one text in place of another.
+fn is_sheet_with(
+    alloc: Global,
+    manifest: &str,
+    one: &str,
+    other: &str,
+) -> Result<bool, LayerFault> {
+    let changed = manifest.replace(alloc, one, other)?;
+    is_sheet(alloc, changed.as_str())
+}
+
+// A manifest is read at once as it is written, with a space before it and with members in another
+// order, and item by item with an escape that needn't be.
 fn is_sheet_told(alloc: Global, manifest: &str) -> Result<bool, LayerFault> {
-    let spaced = format!(in alloc; " {manifest}")?;
-    Ok(is_sheet(alloc, manifest)? && is_sheet(alloc, spaced.as_str())?)
+    let (written, turned) = ("\"mode\":493,\"mtime\":0", "\"mtime\":0,\"mode\":493");
+    Ok(
+        is_sheet(alloc, manifest)?
+            && is_sheet_with(alloc, manifest, "{\"entries", " {\"entries")?
+            && is_sheet_with(alloc, manifest, written, turned)?
+            && is_sheet_with(alloc, manifest, "\"/\"", "\"\\/\"")?,
+    )
 }
 
 // A layer that can't be made a sheet comes back as it was.

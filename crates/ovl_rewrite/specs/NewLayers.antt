@@ -70,7 +70,8 @@ pub record IsToldBy (new : NewLayer) (root : Inode) (views : List InodesParcel) 
   pub deepest : ℕ
   pub told : AreNamesOf new names deepest
   pub rooted : new [] ≡ Some root
-  pub walk : IsPlain (tree_kids (tree_by new names)) (tree_out (tree_by new names)) (space_root 0) views
+  pub walk : IsPlain (tree_kids (tree_by new names)) (tree_out (tree_by new names)) (space_root 0)
+      views
 
 -- parcels are the plain walk over those directories of a new layer that a manifest can hold
 abbrev pub IsWalkWithin : (Piece → List Piece) → (Piece → List NamedInode) → List InodesParcel
