@@ -355,20 +355,26 @@ def _done(*words: str) -> str:
 KINDS = {"plain": Stack, "data-only": StackOverData}
 
 
-def main(kind: str, folder: str, seed: int, count: int, program: list[str]) -> int:
-    """Makes and compares so many stacks of a kind; the status is 1 where one differs."""
+def count_different(made: Callable[[str, int], Stack], folder: str, numbers: range, program: list[str]) -> int:
+    """Makes and compares the stacks of these numbers in a folder of memory, and tells how many differ."""
     mount("tmpfs", folder, "mode=700,size=1g")
     different = 0
-    for number in range(seed, seed + count):
+    for number in numbers:
         place = f"{folder}/{number}"
         os.mkdir(place)
-        stack = KINDS[kind](place, number)
+        stack = made(place, number)
         stack.make()
         difference = stack.compare(program)
         if difference:
             different += 1
             print(f"stack {number}:", *difference, sep="\n")
         shutil.rmtree(place)
+    return different
+
+
+def main(kind: str, folder: str, seed: int, count: int, program: list[str]) -> int:
+    """Makes and compares so many stacks of a kind; the status is 1 where one differs."""
+    different = count_different(KINDS[kind], folder, range(seed, seed + count), program)
     print(f"{count} stacks, {different} different, {'with' if program else 'without'} the program")
     return 1 if different else 0
 

@@ -11,13 +11,12 @@ stands for two layers or more, `--layers 2` makes two that show the same.
 
 import contextlib
 import os
-import shutil
 import subprocess
 import sys
 from collections.abc import Iterator
 from difflib import unified_diff
 
-from kernel_stacks import Stack, linked_names, mount, mounted_overlay
+from kernel_stacks import Stack, count_different, linked_names, mounted_overlay
 from support import call
 
 _LOOKING = "redirect_dir=follow,metacopy=on"
@@ -106,18 +105,7 @@ def difference(one: _Tree, other: _Tree) -> Iterator[str]:
 
 def main(folder: str, seed: int, count: int, program: list[str]) -> int:
     """Makes and compares so many stacks; the status is 1 where one differs."""
-    mount("tmpfs", folder, "mode=700,size=1g")
-    different = 0
-    for number in range(seed, seed + count):
-        place = f"{folder}/{number}"
-        os.mkdir(place)
-        stack = StackOfFiles(place, number)
-        stack.make()
-        lines = stack.compare(program)
-        if lines:
-            different += 1
-            print(f"stack {number}:", *lines, sep="\n")
-        shutil.rmtree(place)
+    different = count_different(StackOfFiles, folder, range(seed, seed + count), program)
     print(f"{count} stacks, {different} different")
     return 1 if different else 0
 
