@@ -123,14 +123,6 @@ pub fn question_of<R: Threads + Sync>(
 /// ascending, of each name that was asked for and is there. The answer is that with any blobs that
 /// have these contents; a name that isn't told has none. The gate is asked for directories alone.
 /// Fails as [`command`](crate::command) does in its work.
-///
-/// What a stack shows, for which no contents are asked for:
-///
-/// ```
-/// let question = question_of(rt, alloc, Command::Show, manifests, 0, 4)?;
-/// let told = Vec::new(alloc);
-/// answer_told(rt, alloc, question, told, 4, &OpenGate)
-/// ```
 pub fn answer_told<G: Gate + Sync, R: Threads + Wait + Sync>(
     rt: &R,
     alloc: Global,

@@ -3,9 +3,7 @@
 
 use crate::samples::{manifest_of, manifests_of};
 use crate::tables::{expect_so, parts_of, same};
-use ovl_engine::{
-    Answer, Command, EngineFault, answer_told, command, merge_down, named_blobs, question_of,
-};
+use ovl_engine::{Answer, Command, EngineFault, command, merge_down, named_blobs};
 use ovl_inode::{Inode, Mark, Redirect, mark_of};
 use ovl_layer::Sheet;
 use ovl_lookup::{Look, Stack, walk};
@@ -176,16 +174,6 @@ fn merged_down<R: Threads + Wait + Sync>(
     merge_down(rt, alloc, manifests, 0, &blobs, left, 4, &OpenGate)
 }
 
-fn shown_in_parts<R: Threads + Wait + Sync>(
-    rt: &R,
-    alloc: Global,
-    manifests: Vec<Vec<u8>>,
-) -> Result<Answer, EngineFault> {
-    let question = question_of(rt, alloc, Command::Show, manifests, 0, 4)?;
-    let told = Vec::new(alloc);
-    answer_told(rt, alloc, question, told, 4, &OpenGate)
-}
-
 // The contents of one file, `a`.
 fn contents(alloc: Global) -> Result<[Vec<u8>; 1], AllocError> {
     Ok([String::from_str(alloc, "a")?.into_bytes()])
@@ -205,12 +193,4 @@ fn three_layers_are_merged_down_to_two(rt: HostRuntime) -> Result<(), Fail> {
     let answer = merged_down(&rt, rt.alloc(), manifests, &contents(rt.alloc())?)?;
     let (wanted, _) = manifests_of(rt.alloc(), "root | dir /a, file /a/k, dir /b")?;
     expect_so(answer.layers == wanted)
-}
-
-#[test]
-fn a_stack_is_shown_in_parts(rt: HostRuntime) -> Result<(), Fail> {
-    let (manifests, _) = manifests_of(rt.alloc(), "dir /a | root")?;
-    let answer = shown_in_parts(&rt, rt.alloc(), manifests)?;
-    let wanted = "dir 0755 0 0 0 - - /\ndir 0755 0 0 0 - - /a\nentries 2\n";
-    expect_so(answer.report.as_slice() == wanted.as_bytes())
 }
