@@ -17,6 +17,9 @@ use ovl_inode::{Attrs, Digest, Inode, Kind, MODE_LIMIT, NSEC_LIMIT, SIZE_LIMIT, 
 use std::alloc::Global;
 use std::borrow::CowStr;
 
+// From so many attributes on each has to come after the others.
+const MANY: usize = 16;
+
 /// The text of the path and the inode of the entry that comes next, in a version.
 pub(crate) fn read_entry<'a>(
     alloc: Global,
@@ -166,7 +169,7 @@ fn read_kind(
     }
 }
 
-/// The attributes, in any order.
+/// The attributes, in the order of their names, or in any order where they are few.
 pub(crate) fn read_attributes(alloc: Global, rest: &mut Rest<'_>) -> Option<Attrs>
     ensures { IfSome result
         (λ attrs. Spells 1 (object (attribute_members attrs)) rest.old rest.new) }
@@ -184,15 +187,41 @@ pub(crate) fn read_attributes(alloc: Global, rest: &mut Rest<'_>) -> Option<Attr
     Some(attrs)
 }
 
-// Puts the attribute that comes next to the others.
+// Puts the attribute that comes next to the others. Gives none where that would go through many
+// others, or be a second value of one name.
 fn read_attribute(alloc: Global, rest: &mut Rest<'_>, attrs: &mut Attrs) -> Option<()>
     ensures { IfSome result (λ _. TakesAttribute rest.old attrs.old rest.new attrs.new) }
 {
     let name = rest.take_text(alloc)?;
+    let own = name.as_str();
+    if !are_before(attrs, own) && !are_few_others(attrs, own) {
+        return None;
+    }
     rest.take(":")?;
     let digits = rest.take_string()?;
-    match put_digits(alloc, attrs, name.as_str(), digits) {
+    match put_digits(alloc, attrs, own, digits) {
         Ok(true) => Some(()),
         _ => None,
     }
+}
+
+// Whether the last of the attributes' names comes before this one.
+fn are_before(attrs: &Attrs, name: &str) -> bool {
+    match attrs.pairs().next_back() {
+        Some((last, _)) => last.as_bytes().cmp(name.as_bytes()).is_lt(),
+        None => true,
+    }
+}
+
+// Whether there are fewer attributes than `MANY`, none of them of this name.
+fn are_few_others(attrs: &Attrs, name: &str) -> bool {
+    let mut pairs = attrs.pairs();
+    for _ in 0..MANY {
+        match pairs.next() {
+            Some((own, _)) if own == name => return false,
+            Some(_) => {}
+            None => return true,
+        }
+    }
+    false
 }
