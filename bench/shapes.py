@@ -4,9 +4,10 @@ from __future__ import annotations
 import functools
 import hashlib
 import json
-from collections.abc import Mapping
+from collections.abc import Iterable, Mapping
 
 from entries import METACOPY, OPAQUE, REDIRECT, Entry, entry
+from generate import LAST
 from small_layers import Layer, Source, Sources, chain, directories, file, files, manifest_of, whiteout
 
 CONTENTS = b"x"
@@ -359,6 +360,21 @@ def many_members(size: int) -> Sources:
 
 def wrong_attributes(size: int) -> Sources:
     return manifest('{"xattrs":{' + ",".join(f'"{n:x}":0' for n in range(size)) + "}}")
+
+
+def attributes_of_root(members: Iterable[str]) -> Sources:
+    """A root with these attributes, as they stand in its manifest."""
+    root = json.dumps({"entries": [entry("/")], "overlay-layer": LAST}, separators=(",", ":"), sort_keys=True)
+    return [root.replace('"xattrs":{}', '"xattrs":{' + ",".join(members) + "}")]
+
+
+def attributes_backwards(size: int) -> Sources:
+    return attributes_of_root(f'"{n:07x}":""' for n in range(size, 0, -1))
+
+
+def attribute_again(size: int) -> Sources:
+    """One attribute of many bytes, and another again and again."""
+    return attributes_of_root([f'"b":"{"00" * (5 * size)}"', *['"a":""'] * size])
 
 
 def many_lists(size: int) -> Sources:
