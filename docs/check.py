@@ -30,8 +30,6 @@ MADE = {
     "want of memory": r"\bAllocError\b(?!\s*[>{;])|\bAllocFailed\b(?!\s*[<>{;])|Fault::Memory\b|\bOutOfMemory\b|\bUnread\b(?!\s*[>{;(])|\bstarved (?:=|: true)|\.fail\(\)",
     "a fault of reading or writing": r"\bReadFault::(?:Device|TooLong)\b|\bProgramFault::(?:Input|Unread|Unwritten|Output)\b|\bErr\(\w*PartFault::",
 }
-# Types, and facts and records of specs/, whose names stand twice with two meanings. Each is to go; none is to come.
-TWICE = {"Reached"}
 TESTS = {"ovl_pool_tests", "ovl_engine_tests", "ovl_program_tests", "ovl_refusal_tests"}
 
 
@@ -302,16 +300,14 @@ def facts(crate):
 
 
 def homonyms():
-    """Names that stand in several files, and those that are known to and don't any more."""
+    """Types, and facts and records of specs/, whose names stand in several files."""
     places = collections.defaultdict(set)
     for crate in crates():
         for name, path, *_ in [*types(crate), *facts(crate)]:
             places[name].add(str(path.relative_to(TOP / "crates")))
-    found = {name for name, own in places.items() if len(own) > 1}
-    for name in sorted(found - TWICE):
-        yield f"{name} is a name of {' and '.join(sorted(places[name]))}: one name, one meaning"
-    for name in sorted(TWICE - found):
-        yield f"{name} doesn't stand twice any more: take it out of docs/check.py"
+    for name, own in sorted(places.items()):
+        if len(own) > 1:
+            yield f"{name} is a name of {' and '.join(sorted(own))}: one name, one meaning"
 
 
 def names():

@@ -21,7 +21,7 @@ use Rattle.ovl_lookup.specs.declared.views.PlaceEntry.{PlaceEntry}
 use Rattle.ovl_lookup.specs.Walk.{turn, is_shut, mark_at}
 use Rattle.ovl_lookup.specs.Passes.{IsArrivalAt}
 use Rattle.ovl_lookup.specs.Stacks.{StackView}
-use Rattle.ovl_lookup.specs.Views.{Reached, reached, is_reached, entry_in, entered, below_entry, reached_below}
+use Rattle.ovl_lookup.specs.Views.{ReachedDirectory, reached, is_reached, entry_in, entered, below_entry, reached_below}
 use Rattle.ovl_lookup.specs.Onwards.{path_on, name_on}
 use Rattle.ovl_lookup.specs.DirViews.{IsEntryIn, place_below, place_in, places_in, IsPlaceOver}
 use Rattle.ovl_lookup.proofs.ViewLemmas.{views-go_on}
@@ -43,7 +43,7 @@ places_of layer None = []
 places_of layer (Some row) = (record { layer = layer; row = row }) ∷ []
 
 -- a place, by what there is of its layer
-abbrev placed_by : DirPlace → Option Entries → Reached
+abbrev placed_by : DirPlace → Option Entries → ReachedDirectory
 placed_by place layer = record {
   layer = place.layer;
   path = elim layer as (λ _. PathNames) [ Some entries ↦ path_at entries place.row | None ↦ [] ];
@@ -56,10 +56,10 @@ module _ (stack : StackView) where
   places-push places own = map_push (place_in stack) places own
 
   -- one more place, and then the rest
-  pub pushed : (old so_far new : List DirPlace) (own : DirPlace) (rest more : List Reached) → new ≡ so_far ++ own ∷ [] → places_in stack so_far ++ place_in stack own ∷ rest ≡ places_in stack old ++ more → places_in stack new ++ rest ≡ places_in stack old ++ more
+  pub pushed : (old so_far new : List DirPlace) (own : DirPlace) (rest more : List ReachedDirectory) → new ≡ so_far ++ own ∷ [] → places_in stack so_far ++ place_in stack own ∷ rest ≡ places_in stack old ++ more → places_in stack new ++ rest ≡ places_in stack old ++ more
   pushed old so_far new own rest more is same =
       ap (λ (ps : List DirPlace). places_in stack ps ++ rest) is
-      ∙ (ap (λ (ps : List Reached). ps ++ rest) (places-push so_far own)
+      ∙ (ap (λ (ps : List ReachedDirectory). ps ++ rest) (places-push so_far own)
       ∙ (append_assoc (places_in stack so_far) (place_in stack own ∷ []) rest ∙ same))
 
   -- a row of a layer is a place
@@ -73,36 +73,36 @@ module _ (stack : StackView) where
 
   -- a layer that has the directory, or doesn't, and then the layers below it
   directory-step : (i : ℕ) (layer : Entries) (path : PathNames) (row : ℕ) (next : PathNames) (closed : Bool) → slice_get stack.layers i ≡ Some layer → IsArrivalAt layer path (Some row) next closed
-      → (old so_far new : List DirPlace) (more : List Reached) → new ≡ so_far ++ (record { layer = i; row = row }) ∷ [] → places_in stack so_far ++ reached (drop i stack.layers) i path ≡ places_in stack old ++ more
+      → (old so_far new : List DirPlace) (more : List ReachedDirectory) → new ≡ so_far ++ (record { layer = i; row = row }) ∷ [] → places_in stack so_far ++ reached (drop i stack.layers) i path ≡ places_in stack old ++ more
       → places_in stack new ++ cond closed [] (reached (drop (i + 1) stack.layers) (i + 1) next) ≡ places_in stack old ++ more
   directory-step i layer path row next closed at arrival old so_far new more is same =
       let own : DirPlace = record { layer = i; row = row } in
-      let rest : List Reached = cond closed [] (reached (drop (i + 1) stack.layers) (i + 1) next) in
+      let rest : List ReachedDirectory = cond closed [] (reached (drop (i + 1) stack.layers) (i + 1) next) in
       let step = walk-whole layer path arrival.directory in
       let turned : turn layer path ≡ next = sym (arrival.next ∙ ap (λ (s : Step). s.next) step) in
       let shut : is_shut layer path ≡ closed = sym (arrival.closed ∙ ap (λ (s : Step). s.closed) step) in
       pushed old so_far new own rest more is
       ((λ j. places_in stack so_far ++ place-is own layer path at arrival.here j ∷ rest)
       ∙ ((λ j. places_in stack so_far ++ (record { layer = i; path = path; next = turned j; closed = shut j }) ∷ rest)
-      ∙ (ap (λ (ps : List Reached). places_in stack so_far ++ ps) (sym (arrives-directory stack.layers i layer at path next closed arrival.directory arrival.next arrival.closed))
+      ∙ (ap (λ (ps : List ReachedDirectory). places_in stack so_far ++ ps) (sym (arrives-directory stack.layers i layer at path next closed arrival.directory arrival.next arrival.closed))
       ∙ same)))
 
   past-step : (i : ℕ) (layer : Entries) (path : PathNames) (next : PathNames) (closed : Bool) → slice_get stack.layers i ≡ Some layer → IsArrivalAt layer path None next closed
-      → (old so_far : List DirPlace) (more : List Reached) → places_in stack so_far ++ reached (drop i stack.layers) i path ≡ places_in stack old ++ more
+      → (old so_far : List DirPlace) (more : List ReachedDirectory) → places_in stack so_far ++ reached (drop i stack.layers) i path ≡ places_in stack old ++ more
       → places_in stack so_far ++ cond closed [] (reached (drop (i + 1) stack.layers) (i + 1) next) ≡ places_in stack old ++ more
   past-step i layer path next closed at arrival old so_far more same =
-      ap (λ (ps : List Reached). places_in stack so_far ++ ps) (sym (arrives-past stack.layers i layer at path next closed arrival)) ∙ same
+      ap (λ (ps : List ReachedDirectory). places_in stack so_far ++ ps) (sym (arrives-past stack.layers i layer at path next closed arrival)) ∙ same
 
   over-push : (old so_far new : List DirPlace) (own : DirPlace) (layer : Entries) → slice_get stack.layers own.layer ≡ Some layer → own.row < length layer → new ≡ so_far ++ own ∷ [] → (All (IsPlaceOver stack) old → All (IsPlaceOver stack) so_far) → All (IsPlaceOver stack) old → All (IsPlaceOver stack) new
   over-push old so_far new own layer at inside is over all =
       subst (λ (ps : List DirPlace). All (IsPlaceOver stack) ps) (sym is) (All-push (IsPlaceOver stack) so_far own (over all) (row-over own layer at inside))
 
   -- the walk of a layer has arrived: its place is added where it has the directory, and the layers below go on where it isn't closed
-  pub arrival-step : (i : ℕ) (layer : Entries) (path : PathNames) (row : Option ℕ) (next : PathNames) (closed shut : Bool) → slice_get stack.layers i ≡ Some layer → IsArrivalAt layer path row next closed → closed ≡ shut → (old so_far new : List DirPlace) (more : List Reached)
+  pub arrival-step : (i : ℕ) (layer : Entries) (path : PathNames) (row : Option ℕ) (next : PathNames) (closed shut : Bool) → slice_get stack.layers i ≡ Some layer → IsArrivalAt layer path row next closed → closed ≡ shut → (old so_far new : List DirPlace) (more : List ReachedDirectory)
       → new ≡ so_far ++ places_of i row → (All (IsPlaceOver stack) old → All (IsPlaceOver stack) so_far) → places_in stack so_far ++ reached (drop i stack.layers) i path ≡ places_in stack old ++ more
       → (places_in stack new ++ cond shut [] (reached (drop (i + 1) stack.layers) (i + 1) next) ≡ places_in stack old ++ more) × (All (IsPlaceOver stack) old → All (IsPlaceOver stack) new)
   arrival-step i layer path row next closed shut at arrival is_shut old so_far new more is over same =
-      let rest : List Reached = reached (drop (i + 1) stack.layers) (i + 1) next in
+      let rest : List ReachedDirectory = reached (drop (i + 1) stack.layers) (i + 1) next in
       let step = by row arrival is in
       (ap (λ b. places_in stack new ++ cond b [] rest) (sym is_shut) ∙ step.0, step.1)
     where
@@ -174,7 +174,7 @@ module _ (stack : StackView) (name : PathName) (places : List DirPlace) (k : ℕ
   abbrev own : DirPlace
   own = place_read places k
 
-  abbrev left : ℕ → List Reached
+  abbrev left : ℕ → List ReachedDirectory
   left n = drop n (places_in stack places)
 
   -- the directory of the name there
@@ -203,20 +203,20 @@ module _ (stack : StackView) (name : PathName) (places : List DirPlace) (k : ℕ
       subst (λ (ps : List DirPlace). All (IsPlaceOver stack) ps) (sym pushes) (All-push (IsPlaceOver stack) so_far (place_below own entry) (over all) (over-there entry is))
 
   below-step : (entry : PlaceEntry) → IsEntryIn stack name own entry → is_directory entry.inode.now ≡ true
-      → (old so_far new : List DirPlace) (rest more : List Reached) → new ≡ so_far ++ place_below own entry ∷ []
+      → (old so_far new : List DirPlace) (rest more : List ReachedDirectory) → new ≡ so_far ++ place_below own entry ∷ []
       → below_entry entry.mark.now name (reached (drop (own.layer + 1) stack.layers) (own.layer + 1)) (λ other. reached_below stack.layers other (left (k + 1))) ≡ rest
       → places_in stack so_far ++ reached_below stack.layers name (left k) ≡ places_in stack old ++ more
       → places_in stack new ++ rest ≡ places_in stack old ++ more
   below-step entry is holds old so_far new rest more pushes onward same =
       pushed stack old so_far new (place_below own entry) rest more pushes
       ((λ j. places_in stack so_far ++ entered-there entry is j ∷ sym onward j)
-      ∙ (ap (λ (ps : List Reached). places_in stack so_far ++ ps) (sym (below-directory stack.layers name (places_in stack places) k (place_in stack own) (place-read stack places k inside) entry.inode.now entry.mark.now is.inode holds (sym is.mark)))
+      ∙ (ap (λ (ps : List ReachedDirectory). places_in stack so_far ++ ps) (sym (below-directory stack.layers name (places_in stack places) k (place_in stack own) (place-read stack places k inside) entry.inode.now entry.mark.now is.inode holds (sym is.mark)))
       ∙ same))
 
   -- the place that was pushed is over the stack, and what its mark leads to comes after it
-  pub below-pushed : (entry : PlaceEntry) → IsEntryIn stack name own entry → is_directory entry.inode.now ≡ true → (old so_far new : List DirPlace) (more : List Reached) → new ≡ so_far ++ place_below own entry ∷ []
+  pub below-pushed : (entry : PlaceEntry) → IsEntryIn stack name own entry → is_directory entry.inode.now ≡ true → (old so_far new : List DirPlace) (more : List ReachedDirectory) → new ≡ so_far ++ place_below own entry ∷ []
       → (All (IsPlaceOver stack) old → All (IsPlaceOver stack) so_far) → places_in stack so_far ++ reached_below stack.layers name (left k) ≡ places_in stack old ++ more
-      → ((rest : List Reached) → below_entry entry.mark.now name (reached (drop (own.layer + 1) stack.layers) (own.layer + 1)) (λ other. reached_below stack.layers other (left (k + 1))) ≡ rest → places_in stack new ++ rest ≡ places_in stack old ++ more)
+      → ((rest : List ReachedDirectory) → below_entry entry.mark.now name (reached (drop (own.layer + 1) stack.layers) (own.layer + 1)) (λ other. reached_below stack.layers other (left (k + 1))) ≡ rest → places_in stack new ++ rest ≡ places_in stack old ++ more)
       × (All (IsPlaceOver stack) old → All (IsPlaceOver stack) new)
   below-pushed entry is holds old so_far new more pushes over same = (
     λ rest onward. below-step entry is holds old so_far new rest more pushes onward same,
@@ -244,10 +244,10 @@ child-places stack from path name none places items each empty below adds =
     adds ∙ ((λ j. places_in stack (empty j) ++ reached_below stack.layers name (below j)) ∙ sym (views-go_on stack each from path name))
 
 -- a view has a place exactly where a directory is shown
-pub no-places : (stack : StackView) (places : List DirPlace) (more : List Reached) → places_in stack places ≡ more → length places ≡ 0 → is_reached more ≡ false
+pub no-places : (stack : StackView) (places : List DirPlace) (more : List ReachedDirectory) → places_in stack places ≡ more → length places ≡ 0 → is_reached more ≡ false
 no-places stack [] more same none = ap is_reached (sym same)
 no-places stack (place ∷ places) more same none = absurd (omega (arith, none))
 
-pub some-places : (stack : StackView) (places : List DirPlace) (more : List Reached) → places_in stack places ≡ more → 0 < length places → is_reached more ≡ true
+pub some-places : (stack : StackView) (places : List DirPlace) (more : List ReachedDirectory) → places_in stack places ≡ more → 0 < length places → is_reached more ≡ true
 some-places stack [] more same some = absurd (omega (arith, some))
 some-places stack (place ∷ places) more same some = ap is_reached (sym same)

@@ -9,12 +9,12 @@ use Rattle.ovl_layer.specs.Layers.{Entries, entry_at, is_directory_at}
 use Rattle.ovl_lookup.specs.declared.steps.Step.{Step}
 use Rattle.ovl_lookup.specs.Walk.{walk, turn, is_shut}
 use Rattle.ovl_lookup.specs.Laws.{ViewsStand}
-use Rattle.ovl_lookup.specs.Views.{Reached, reached, IsPlace, EndsWhereClosed}
+use Rattle.ovl_lookup.specs.Views.{ReachedDirectory, reached, IsPlace, EndsWhereClosed}
 use Rattle.ovl_lookup.proofs.LawsOfWalks.{walk-whole}
 use Rattle.ovl_lookup.proofs.ViewLemmas.{layer-here}
 
 -- a place of a view is what the walk of its path in its layer says
-abbrev place_at : Entries → ℕ → PathNames → Reached
+abbrev place_at : Entries → ℕ → PathNames → ReachedDirectory
 place_at layer i path = record { layer = i; path = path; next = (walk layer path).next; closed = (walk layer path).closed }
 
 is-place : (all : List Entries) (from i : ℕ) (layer : Entries) (path : PathNames) → from ≤ i → slice_get all i ≡ Some layer → is_directory_at layer path ≡ true → IsPlace all from (place_at layer i path)

@@ -13,7 +13,7 @@ use Rattle.ovl_lookup.specs.Trace.{things_found}
 use Rattle.ovl_lookup.specs.Merged.{shown_of, place_of_data}
 use Rattle.ovl_lookup.specs.Sights.{sight_of, sight_of_kind}
 use Rattle.ovl_lookup.specs.Passes.{data_below}
-use Rattle.ovl_lookup.specs.Views.{Reached, entry_in, below_entry, found_below, reached_below}
+use Rattle.ovl_lookup.specs.Views.{ReachedDirectory, entry_in, below_entry, found_below, reached_below}
 use Rattle.ovl_lookup.specs.Onwards.{path_on, name_on}
 use Rattle.ovl_lookup.specs.DirViews.{IsEntryIn, place_in, places_in}
 use Rattle.ovl_lookup.proofs.ViewSteps.{below-none, below-file, found-none}
@@ -30,7 +30,7 @@ module _ (stack : StackView) (name : PathName) (places : List DirPlace) (k : ℕ
   abbrev found_from : ℕ → List Inode
   found_from n = found_below stack.layers name (drop n (places_in stack places))
 
-  abbrev reached_from : ℕ → List Reached
+  abbrev reached_from : ℕ → List ReachedDirectory
   reached_from n = reached_below stack.layers name (drop n (places_in stack places))
 
   -- nothing stands there

@@ -20,7 +20,7 @@ use Rattle.ovl_lookup.specs.Stacks.{StackView, from_layer}
 use Rattle.ovl_lookup.specs.Merged.{look, shown_of, is_nothing}
 use Rattle.ovl_lookup.specs.NamedLists.{AreInOrder, both_joined, names_of}
 use Rattle.ovl_lookup.specs.Laws.{ViewsLook}
-use Rattle.ovl_lookup.specs.Views.{Reached, reached, entry_in, found_below}
+use Rattle.ovl_lookup.specs.Views.{ReachedDirectory, reached, entry_in, found_below}
 use Rattle.ovl_lookup.specs.ViewPasses.{First, first_in, AreTops, upper_place, looks_from_tops, AreLooks}
 use Rattle.ovl_lookup.proofs.LawsOfFound.{any_found, shown-any}
 use Rattle.ovl_lookup.proofs.LawsOfWalks.{names_below-has}
@@ -30,11 +30,11 @@ use Rattle.ovl_lookup.proofs.ViewLemmas.{found_below_by, views-find}
 
 -- ---- the first place that has a name
 
-abbrev first_by : List Entries → ℕ → List Reached → PathName → Option Inode → Option First
+abbrev first_by : List Entries → ℕ → List ReachedDirectory → PathName → Option Inode → Option First
 first_by layers i rest name found = elim found as (λ _. Option First) [ Some inode ↦ Some (record { place = i; inode = inode }) | None ↦ first_in layers (suc i) rest name ]
 
 -- of places and those after them
-pub first-append : (layers : List Entries) (i : ℕ) (front rest : List Reached) (name : PathName) → first_in layers i (front ++ rest) name ≡ option_or (first_in layers i front name) (first_in layers (i + length front) rest name)
+pub first-append : (layers : List Entries) (i : ℕ) (front rest : List ReachedDirectory) (name : PathName) → first_in layers i (front ++ rest) name ≡ option_or (first_in layers i front name) (first_in layers (i + length front) rest name)
 first-append layers i [] rest name =
     let none : i ≡ i + 0 = omega arith in
     ap (λ n. first_in layers n rest name) none
@@ -48,18 +48,18 @@ first-append layers i (place ∷ front) rest name = by (first-append layers (suc
     by later (Some inode) = refl
 
 -- a place without the name doesn't matter
-pub found-skip : (layers : List Entries) (name : PathName) (place : Reached) (rest : List Reached) → entry_in layers name place ≡ None → found_below layers name (place ∷ rest) ≡ found_below layers name rest
+pub found-skip : (layers : List Entries) (name : PathName) (place : ReachedDirectory) (rest : List ReachedDirectory) → entry_in layers name place ≡ None → found_below layers name (place ∷ rest) ≡ found_below layers name rest
 found-skip layers name place rest none = ap (found_below_by layers name place rest) none
 
 -- the number of the first place that has the name, from which on all of it is found
-pub record IsFirst (layers : List Entries) (name : PathName) (first : First) (i : ℕ) (places : List Reached) : Type 0 where
+pub record IsFirst (layers : List Entries) (name : PathName) (first : First) (i : ℕ) (places : List ReachedDirectory) : Type 0 where
   pub past : ℕ
   pub number : first.place ≡ i + past
   pub inside : past < length places
   pub found : found_below layers name (drop past places) ≡ found_below layers name places
   pub here : IsSomeAnd (slice_get (drop past places) zero) (λ place. entry_in layers name place ≡ Some first.inode)
 
-is-first : (layers : List Entries) (name : PathName) (first : First) (i : ℕ) (places : List Reached) → first_in layers i places name ≡ Some first → IsFirst layers name first i places
+is-first : (layers : List Entries) (name : PathName) (first : First) (i : ℕ) (places : List ReachedDirectory) → first_in layers i places name ≡ Some first → IsFirst layers name first i places
 is-first layers name first i [] is = let bad : None ≡ Some first = is in cc
 is-first layers name first i (place ∷ rest) is = by (is-first layers name first (suc i) rest) (entry_in layers name place) refl is
   where
@@ -84,7 +84,7 @@ is-first layers name first i (place ∷ rest) is = by (is-first layers name firs
         }
 
 -- where something is found, some place has the name
-first-found : (layers : List Entries) (name : PathName) (i : ℕ) (places : List Reached) → any_found (found_below layers name places) ≡ true → is_some (first_in layers i places name) ≡ true
+first-found : (layers : List Entries) (name : PathName) (i : ℕ) (places : List ReachedDirectory) → any_found (found_below layers name places) ≡ true → is_some (first_in layers i places name) ≡ true
 first-found layers name i [] found = let bad : false ≡ true = found in cc
 first-found layers name i (place ∷ rest) found = by (first-found layers name (suc i) rest) (entry_in layers name place) refl
   where
@@ -98,7 +98,7 @@ each-with : {X : Type 0} (P Q : X → Type 0) → ((x : X) → P x → Q x) → 
 each-with P Q holds [] all = tt
 each-with P Q holds (x ∷ xs) all = (holds x all.0, each-with P Q holds xs all.1)
 
-module _ (layers : List Entries) (i : ℕ) (places : List Reached) (tops : List (PathName × First)) (are : AreTops layers i places tops) where
+module _ (layers : List Entries) (i : ℕ) (places : List ReachedDirectory) (tops : List (PathName × First)) (are : AreTops layers i places tops) where
   -- each has the first place of its name
   each-first : AllByRecursion (λ top. IsFirst layers top.0 top.1 i places) tops
   each-first = each-with (λ top. at top.0 tops ≡ Some top.1) (λ top. IsFirst layers top.0 top.1 i places) (λ top own. is-first layers top.0 top.1 i places (sym (are.each top.0) ∙ own)) tops (each-own tops are.in_order)
@@ -110,7 +110,7 @@ module _ (layers : List Entries) (i : ℕ) (places : List Reached) (tops : List 
   named name = sym (is_some-lookup (name_eq name) tops) ∙ ap is_some (are.each name)
 
 -- those of places and of the places after them are those of all
-pub merged-tops : (layers : List Entries) (i : ℕ) (front rest : List Reached) (upper lower : List (PathName × First)) → AreTops layers i front upper → AreTops layers (i + length front) rest lower → AreTops layers i (front ++ rest) (both_joined upper_place upper lower)
+pub merged-tops : (layers : List Entries) (i : ℕ) (front rest : List ReachedDirectory) (upper lower : List (PathName × First)) → AreTops layers i front upper → AreTops layers (i + length front) rest lower → AreTops layers i (front ++ rest) (both_joined upper_place upper lower)
 merged-tops layers i front rest upper lower above below = record {
   in_order = both-ascend upper_place upper lower above.in_order;
   each = λ name.
@@ -130,18 +130,18 @@ no-tops layers i = record { in_order = refl; each = λ name. refl }
 -- ---- the tops of one place
 
 -- the names in a directory that is reached, by all layers of the stack
-abbrev pub names_in : List Entries → Reached → List PathName
+abbrev pub names_in : List Entries → ReachedDirectory → List PathName
 names_in layers place = elim (slice_get layers place.layer) as (λ _. List PathName) [ Some layer ↦ names_below layer place.path | None ↦ [] ]
 
 -- what stands at a name has it among the names
-pub entry-named : (layers : List Entries) (name : PathName) (place : Reached) (inode : Inode) → entry_in layers name place ≡ Some inode → list_any (name_eq name) (names_in layers place) ≡ true
+pub entry-named : (layers : List Entries) (name : PathName) (place : ReachedDirectory) (inode : Inode) → entry_in layers name place ≡ Some inode → list_any (name_eq name) (names_in layers place) ≡ true
 entry-named layers name place inode here = by (slice_get layers place.layer) here
   where
     by : (o : Option Entries) → elim o as (λ _. Option Inode) [ Some layer ↦ entry_at layer (child_path place.path name) | None ↦ None ] ≡ Some inode → list_any (name_eq name) (elim o as (λ _. List PathName) [ Some layer ↦ names_below layer place.path | None ↦ [] ]) ≡ true
     by None h = let bad : None ≡ Some inode = h in cc
     by (Some layer) h = names_below-has layer place.path name inode h
 
-names_in-ascend : (layers : List Entries) → All IsLayer layers → (place : Reached) → ascends name_cmp (names_in layers place) ≡ true
+names_in-ascend : (layers : List Entries) → All IsLayer layers → (place : ReachedDirectory) → ascends name_cmp (names_in layers place) ≡ true
 names_in-ascend layers each place = by (slice_get layers place.layer) refl
   where
     by : (o : Option Entries) → slice_get layers place.layer ≡ o → ascends name_cmp (elim o as (λ _. List PathName) [ Some layer ↦ names_below layer place.path | None ↦ [] ]) ≡ true
@@ -151,7 +151,7 @@ names_in-ascend layers each place = by (slice_get layers place.layer) refl
         is : IsLayer layer
         is = subst IsLayer (get_or_from_slice_get layers place.layer layer layer e) (each place.layer layer (slice_get_within layers place.layer layer e))
 
-module _ (layers : List Entries) (i : ℕ) (place : Reached) where
+module _ (layers : List Entries) (i : ℕ) (place : ReachedDirectory) where
   abbrev first_here : PathName → Option First
   first_here name = first_in layers i (place ∷ []) name
 
@@ -243,7 +243,7 @@ module _ (layers : List Entries) (i : ℕ) (place : Reached) where
   }
 
 -- there are such tops of all places
-tops-exist : (layers : List Entries) → All IsLayer layers → (i : ℕ) (places : List Reached) → (tops : List (PathName × First)) × AreTops layers i places tops
+tops-exist : (layers : List Entries) → All IsLayer layers → (i : ℕ) (places : List ReachedDirectory) → (tops : List (PathName × First)) × AreTops layers i places tops
 tops-exist layers each i [] = ([], no-tops layers i)
 tops-exist layers each i (place ∷ rest) = by (tops-exist layers each (suc i) rest)
   where
@@ -259,7 +259,7 @@ tops-exist layers each i (place ∷ rest) = by (tops-exist layers each (suc i) r
 
 -- ---- what is shown at each name
 
-module _ (stack : StackView) (places : List Reached) where
+module _ (stack : StackView) (places : List ReachedDirectory) where
   -- what is shown at a name, and whether something is
   abbrev shown_at : PathName → Look
   shown_at name = shown_of stack.data_only (found_below stack.layers name places)
@@ -306,7 +306,7 @@ module _ (stack : StackView) (each : All IsLayer stack.layers) (from : ℕ) (pat
       layers : List Entries
       layers = stack.layers
 
-      places : List Reached
+      places : List ReachedDirectory
       places = reached (drop from stack.layers) from path
 
       kept : List PathName

@@ -17,7 +17,7 @@ use Rattle.ovl_lookup.specs.Merged.{shown_of, is_shown_directory}
 use Rattle.ovl_lookup.specs.Laws.{ViewsGoOn, ViewsFind, ViewsShow}
 use Rattle.ovl_lookup.specs.Onwards.{next_on, closed_on}
 use Rattle.ovl_lookup.specs.Passes.{IsPast, entered_path, entered_closed}
-use Rattle.ovl_lookup.specs.Views.{Reached, reached, is_reached, entry_in, entered, below_entry, reached_below, found_below}
+use Rattle.ovl_lookup.specs.Views.{ReachedDirectory, reached, is_reached, entry_in, entered, below_entry, reached_below, found_below}
 use Rattle.ovl_lookup.proofs.LawsOfPaths.{all-first, all-rest}
 use Rattle.ovl_lookup.proofs.LawsOfInodes.{directory-kind, directory-marked}
 use Rattle.ovl_lookup.proofs.LawsOfWalks.{Beyond, directory-entry, directory_found, entered-on, hides-alike, marked-whiteout, nothing-below, past-beyond, walk-child, walk-child_directory, walk-child_end, walk-end, walk-finds, walk-whole}
@@ -34,7 +34,7 @@ layer-here (y ∷ all) (suc i) x xs e = layer-here all i x xs e
 
 -- ---- below an entry, by its mark: `f` goes on in the layers below, `h` in the view
 
-module _ {X : Type 0} (f : PathNames → List X) (h : PathName → List Reached → List X) (r : PathNames → List Reached) (none : (name : PathName) → h name [] ≡ []) (later : (path : PathNames) (name : PathName) → f (child_path path name) ≡ h name (r path)) where
+module _ {X : Type 0} (f : PathNames → List X) (h : PathName → List ReachedDirectory → List X) (r : PathNames → List ReachedDirectory) (none : (name : PathName) → h name [] ≡ []) (later : (path : PathNames) (name : PathName) → f (child_path path name) ≡ h name (r path)) where
   goes-on : (shut : Bool) (next : PathNames) (name : PathName) → cond shut [] (f (child_path next name)) ≡ h name (cond shut [] (r next))
   goes-on true next name = sym (none name)
   goes-on false next name = later next name
@@ -55,7 +55,7 @@ module _ {X : Type 0} (f : PathNames → List X) (h : PathName → List Reached 
 -- ---- a view, and what is found, layer by layer
 
 -- a view from a layer on, by what stands at the path there and how its walk goes on
-abbrev pub reached_by : List Entries → ℕ → PathNames → Option Inode → Step → List Reached
+abbrev pub reached_by : List Entries → ℕ → PathNames → Option Inode → Step → List ReachedDirectory
 reached_by layers i path entry step =
     cond (directory_found entry) (record { layer = i; path = path; next = step.next; closed = step.closed } ∷ cond step.closed [] (reached layers (suc i) step.next))
     (cond (is_some entry || step.closed) [] (reached layers (suc i) step.next))
@@ -77,14 +77,14 @@ reached-past layer layers i path next hidden past =
     by false on = ap (reached layers (suc i)) (sym (on refl))
 
 -- a view with one more name, and what is found, by what stands at the name in the first place
-abbrev pub reached_below_by : List Entries → PathName → Reached → List Reached → Option Inode → List Reached
+abbrev pub reached_below_by : List Entries → PathName → ReachedDirectory → List ReachedDirectory → Option Inode → List ReachedDirectory
 reached_below_by all name place rest found =
-    elim found as (λ _. List Reached) [
+    elim found as (λ _. List ReachedDirectory) [
       | Some inode ↦ cond (is_directory inode) (entered name (mark_of inode) place ∷ below_entry (mark_of inode) name (reached (drop (suc place.layer) all) (suc place.layer)) (λ other. reached_below all other rest)) []
       | None ↦ reached_below all name rest
     ]
 
-abbrev pub found_below_by : List Entries → PathName → Reached → List Reached → Option Inode → List Inode
+abbrev pub found_below_by : List Entries → PathName → ReachedDirectory → List ReachedDirectory → Option Inode → List Inode
 found_below_by all name place rest found =
     elim found as (λ _. List Inode) [
       | Some inode ↦ cond (is_whiteout inode) [] (inode ∷ below_entry (mark_of inode) name (things_found (drop (suc place.layer) all)) (λ other. found_below all other rest))
@@ -93,10 +93,10 @@ found_below_by all name place rest found =
 
 -- the layers of a stack from `layer`, of number `i`, on
 module _ (all : List Entries) (layer : Entries) (layers : List Entries) (i : ℕ) (path : PathNames) (name : PathName) (is : IsLayer layer) (here : slice_get all i ≡ Some layer) (rest : layers ≡ drop (suc i) all) where
-  abbrev place : Reached
+  abbrev place : ReachedDirectory
   place = record { layer = i; path = path; next = (walk layer path).next; closed = (walk layer path).closed }
 
-  abbrev rest_of : List Reached
+  abbrev rest_of : List ReachedDirectory
   rest_of = cond (walk layer path).closed [] (reached layers (suc i) (walk layer path).next)
 
   entry-in : entry_in all name place ≡ entry_at layer (child_path path name)

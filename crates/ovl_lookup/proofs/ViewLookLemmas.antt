@@ -24,7 +24,7 @@ use Rattle.ovl_lookup.specs.Trace.{things_found}
 use Rattle.ovl_lookup.specs.Merged.{data_of, shown_of, is_nothing, without_blob, place_of_data}
 use Rattle.ovl_lookup.specs.Passes.{data_below, shown_with}
 use Rattle.ovl_lookup.specs.Sights.{sight_of, sight_of_kind}
-use Rattle.ovl_lookup.specs.Views.{Reached, entry_in, below_entry, found_below}
+use Rattle.ovl_lookup.specs.Views.{ReachedDirectory, entry_in, below_entry, found_below}
 use Rattle.ovl_lookup.specs.ViewPasses.{First, AreTops, top_told, tops_told, look_from_top, looks_from_tops}
 use Rattle.ovl_lookup.specs.Onwards.{path_on}
 use Rattle.ovl_lookup.specs.DirViews.{place_in, places_in}
@@ -64,7 +64,7 @@ shown-lacking data_only inode below lacks = ap (λ b. cond b (by_data inode (dat
 pub slice-places : (stack : StackView) (places : List DirPlace) (i : ℕ) → places_in stack (take (length places - i) (drop i places)) ≡ drop i (places_in stack places)
 slice-places stack places i = ap (places_in stack) (take-rest places i) ∙ sym (drop-map (λ own. place_in stack own) i places)
 
-module _ (data_only layers : List Entries) (name : PathName) (places : List Reached) (k : ℕ) (place : Reached) (at : slice_get places k ≡ Some place) (inode : Inode) (mark : Mark) (here : entry_in layers name place ≡ Some inode) (marked : mark ≡ mark_of inode) where
+module _ (data_only layers : List Entries) (name : PathName) (places : List ReachedDirectory) (k : ℕ) (place : ReachedDirectory) (at : slice_get places k ≡ Some place) (inode : Inode) (mark : Mark) (here : entry_in layers name place ≡ Some inode) (marked : mark ≡ mark_of inode) where
   abbrev onward : List Inode
   onward = below_entry mark name (things_found (drop (place.layer + 1) layers)) (λ other. found_below layers other (drop (k + 1) places))
 
@@ -124,13 +124,13 @@ pub onward-placed : (data_only : List Entries) (mark : Mark) (place : Option Pat
 onward-placed data_only mark place one other meta on same = λ j. data_below data_only ((place-on mark meta ∙ on) j) (same j)
 
 -- the place that is first, which has something at a name
-pub first-entry : (layers : List Entries) (name : PathName) (places : List Reached) (inode : Inode) → IsSomeAnd (slice_get places zero) (λ place. entry_in layers name place ≡ Some inode) → (place : Reached) × (slice_get places zero ≡ Some place) × (entry_in layers name place ≡ Some inode)
+pub first-entry : (layers : List Entries) (name : PathName) (places : List ReachedDirectory) (inode : Inode) → IsSomeAnd (slice_get places zero) (λ place. entry_in layers name place ≡ Some inode) → (place : ReachedDirectory) × (slice_get places zero ≡ Some place) × (entry_in layers name place ≡ Some inode)
 first-entry layers name [] inode is = absurd is
 first-entry layers name (place ∷ rest) inode is = (place, refl, is)
 
 -- ---- the names at which something is shown
 
-pub names-next : (stack : StackView) (places : List Reached) (tops : List (PathName × First)) (top : PathName × First) (shown : Bool) → shown ≡ not (is_nothing (look_from_top stack places top).1) → map (λ e. e.0) (looks_from_tops stack places (tops ++ top ∷ [])) ≡ map (λ e. e.0) (looks_from_tops stack places tops) ++ cond shown (top.0 ∷ []) []
+pub names-next : (stack : StackView) (places : List ReachedDirectory) (tops : List (PathName × First)) (top : PathName × First) (shown : Bool) → shown ≡ not (is_nothing (look_from_top stack places top).1) → map (λ e. e.0) (looks_from_tops stack places (tops ++ top ∷ [])) ≡ map (λ e. e.0) (looks_from_tops stack places tops) ++ cond shown (top.0 ∷ []) []
 names-next stack places tops top shown is =
     ap (map (λ e. e.0)) (looks-next stack places tops top)
     ∙ (map-append (λ e. e.0) (looks_from_tops stack places tops) (cond (not (is_nothing (look_from_top stack places top).1)) (look_from_top stack places top ∷ []) [])
@@ -236,7 +236,7 @@ module _ (stack : StackView) (places : List DirPlace) (tops : List Top) (are : A
 
     -- which has its inode
     pub top-stands : IsSomeAnd (slice_get (places_in stack behind) zero) (λ place. entry_in stack.layers top.name.now place ≡ Some top.inode.now)
-    top-stands = subst (λ (ps : List Reached). IsSomeAnd (slice_get ps zero) (λ place. entry_in stack.layers top.name.now place ≡ Some top.inode.now)) (sym (behind-is ∙ ap (λ n. drop n (places_in stack places)) number)) first.here
+    top-stands = subst (λ (ps : List ReachedDirectory). IsSomeAnd (slice_get ps zero) (λ place. entry_in stack.layers top.name.now place ≡ Some top.inode.now)) (sym (behind-is ∙ ap (λ n. drop n (places_in stack places)) number)) first.here
 
   told-more : tops_told (take (j + 1) tops) ≡ told ++ top_told top ∷ []
   told-more = ap tops_told (take_more tops j top inside ∙ ap (λ (t : Top). take j tops ++ t ∷ []) (sym here)) ∙ map-append top_told (take j tops) (top ∷ [])
@@ -247,7 +247,7 @@ module _ (stack : StackView) (places : List DirPlace) (tops : List Top) (are : A
   pub looks-more : (behind : List DirPlace) → behind ≡ drop top.place places → (look : Look) → look ≡ shown_of stack.data_only (found_below stack.layers top.name.now (places_in stack behind))
       → looks_from_tops stack (places_in stack places) told ++ cond (is_nothing look) [] ((top.name.now, look) ∷ []) ≡ looks_from_tops stack (places_in stack places) (tops_told (take (j + 1) tops))
   looks-more behind rest look is =
-      let same : look ≡ shown = is ∙ ap (λ (ps : List Reached). shown_of stack.data_only (found_below stack.layers top.name.now ps)) (behind-is behind rest) in
+      let same : look ≡ shown = is ∙ ap (λ (ps : List ReachedDirectory). shown_of stack.data_only (found_below stack.layers top.name.now ps)) (behind-is behind rest) in
       ap (λ (last : List (PathName × Look)). looks_from_tops stack (places_in stack places) told ++ last) (ap (λ (l : Look). cond (is_nothing l) [] ((top.name.now, l) ∷ [])) same ∙ not-cond (is_nothing shown) [] ((top.name.now, shown) ∷ []))
       ∙ sym (ap (looks_from_tops stack (places_in stack places)) told-more ∙ looks-next stack (places_in stack places) told (top_told top))
 
@@ -256,9 +256,9 @@ module _ (stack : StackView) (places : List DirPlace) (tops : List Top) (are : A
   is-shown b e = by b e (first-entry stack.layers top.name.now (drop top.place (places_in stack places)) top.inode.now stands)
     where
       stands : IsSomeAnd (slice_get (drop top.place (places_in stack places)) zero) (λ place. entry_in stack.layers top.name.now place ≡ Some top.inode.now)
-      stands = subst (λ (ps : List Reached). IsSomeAnd (slice_get ps zero) (λ place. entry_in stack.layers top.name.now place ≡ Some top.inode.now)) (behind-is (drop top.place places) refl) (top-stands (drop top.place places) refl)
+      stands = subst (λ (ps : List ReachedDirectory). IsSomeAnd (slice_get ps zero) (λ place. entry_in stack.layers top.name.now place ≡ Some top.inode.now)) (behind-is (drop top.place places) refl) (top-stands (drop top.place places) refl)
 
-      by : (b : Bool) → is_whiteout top.inode.now ≡ b → (place : Reached) × (slice_get (drop top.place (places_in stack places)) zero ≡ Some place) × (entry_in stack.layers top.name.now place ≡ Some top.inode.now) → not b ≡ not (is_nothing shown)
+      by : (b : Bool) → is_whiteout top.inode.now ≡ b → (place : ReachedDirectory) × (slice_get (drop top.place (places_in stack places)) zero ≡ Some place) × (entry_in stack.layers top.name.now place ≡ Some top.inode.now) → not b ≡ not (is_nothing shown)
       by true w own = sym (ap (λ (look : Look). not (is_nothing look)) (whiteout-shows stack.data_only stack.layers top.name.now (drop top.place (places_in stack places)) zero own.0 own.1 top.inode.now (mark_of top.inode.now) own.2 refl w))
       by false w own = sym (entry-shows stack.data_only stack.layers top.name.now (drop top.place (places_in stack places)) zero own.0 own.1 top.inode.now (mark_of top.inode.now) own.2 refl w)
 

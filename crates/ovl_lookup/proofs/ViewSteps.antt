@@ -13,7 +13,7 @@ use Rattle.ovl_lookup.specs.Stacks.{StackView}
 use Rattle.ovl_lookup.specs.Walk.{walk}
 use Rattle.ovl_lookup.specs.Passes.{IsPast}
 use Rattle.ovl_lookup.specs.Trace.{things_found}
-use Rattle.ovl_lookup.specs.Views.{Reached, reached, entry_in, entered, below_entry, reached_below, found_below}
+use Rattle.ovl_lookup.specs.Views.{ReachedDirectory, reached, entry_in, entered, below_entry, reached_below, found_below}
 use Rattle.ovl_lookup.specs.Merged.{is_nothing}
 use Rattle.ovl_lookup.specs.ViewPasses.{First, look_from_top, looks_from_tops}
 use Rattle.ovl_lookup.proofs.ViewLemmas.{reached-past, reached_below_by, found_below_by}
@@ -43,7 +43,7 @@ module _ (layers : List Entries) (i : ℕ) (layer : Entries) (here : slice_get l
       ∙ (reached-past layer (drop (i + 1) layers) i path next hidden past ∙ rw add-one refl)
 
 -- ---- the places from `k` on, of which the first is `place`
-module _ (all : List Entries) (name : PathName) (places : List Reached) (k : ℕ) (place : Reached) (here : slice_get places k ≡ Some place) where
+module _ (all : List Entries) (name : PathName) (places : List ReachedDirectory) (k : ℕ) (place : ReachedDirectory) (here : slice_get places k ≡ Some place) where
   below-by : (found : Option Inode) → entry_in all name place ≡ found → reached_below all name (drop k places) ≡ reached_below_by all name place (drop (k + 1) places) found
   below-by found e = ap (reached_below all name) (drop-here places k place here) ∙ ap (reached_below_by all name place (drop (k + 1) places)) e
 
@@ -81,7 +81,7 @@ module _ (all : List Entries) (name : PathName) (places : List Reached) (k : ℕ
       ∙ ap (λ n. inode ∷ below_entry mark name (things_found (drop n all)) (λ other. found_below all other (drop (k + 1) places))) next)
 
 -- the looks at one more name
-pub looks-next : (stack : StackView) (places : List Reached) (tops : List (PathName × First)) (top : PathName × First) → looks_from_tops stack places (tops ++ top ∷ []) ≡ looks_from_tops stack places tops ++ cond (not (is_nothing (look_from_top stack places top).1)) (look_from_top stack places top ∷ []) []
+pub looks-next : (stack : StackView) (places : List ReachedDirectory) (tops : List (PathName × First)) (top : PathName × First) → looks_from_tops stack places (tops ++ top ∷ []) ≡ looks_from_tops stack places tops ++ cond (not (is_nothing (look_from_top stack places top).1)) (look_from_top stack places top ∷ []) []
 looks-next stack places tops top =
     ap (filter (λ e. not (is_nothing e.1))) (map-append (look_from_top stack places) tops (top ∷ []))
     ∙ filter-append (λ e. not (is_nothing e.1)) (map (look_from_top stack places) tops) (look_from_top stack places top ∷ [])

@@ -11,7 +11,7 @@ use Rattle.ovl_lookup.specs.declared.views.DirView.{DirView}
 use Rattle.ovl_lookup.specs.Stacks.{StackView, from_layer}
 use Rattle.ovl_lookup.specs.Walk.{turn, is_shut}
 use Rattle.ovl_lookup.specs.Merged.{shows_directory}
-use Rattle.ovl_lookup.specs.Views.{Reached, reached, entry_in}
+use Rattle.ovl_lookup.specs.Views.{ReachedDirectory, reached, entry_in}
 
 -- a place in a stack: its row is one of its layer
 abbrev pub IsPlaceOver : StackView → DirPlace → Type 0
@@ -36,7 +36,7 @@ closed_in stack layer row =
     [ Some entries ↦ is_shut entries (path_at entries row) | None ↦ false ]
 
 -- the place as the laws of views have it
-abbrev pub place_in : StackView → DirPlace → Reached
+abbrev pub place_in : StackView → DirPlace → ReachedDirectory
 place_in stack place = record {
   layer = place.layer;
   path = path_in stack place.layer place.row;
@@ -44,7 +44,7 @@ place_in stack place = record {
   closed = closed_in stack place.layer place.row;
 }
 
-abbrev pub places_in : StackView → List DirPlace → List Reached
+abbrev pub places_in : StackView → List DirPlace → List ReachedDirectory
 places_in stack places = map (place_in stack) places
 
 -- a view was made over the stack
@@ -64,7 +64,7 @@ pub record IsViewOf (stack : StackView) (from : ℕ) (path : PathNames)
 
 -- more places were added
 pub record AddsPlaces (stack : StackView) (old new : List DirPlace)
-    (more : List Reached) : Type 0 where
+    (more : List ReachedDirectory) : Type 0 where
   pub places : places_in stack new ≡ places_in stack old ++ more
   pub over : All (IsPlaceOver stack) old → All (IsPlaceOver stack) new
 

@@ -11,7 +11,7 @@ use Rattle.ovl_lookup.specs.declared.tops.Top.{Top}
 use Rattle.ovl_lookup.specs.Stacks.{StackView}
 use Rattle.ovl_lookup.specs.Merged.{AreKids, look, shown_of, is_nothing}
 use Rattle.ovl_lookup.specs.NamedLists.{AreInOrder}
-use Rattle.ovl_lookup.specs.Views.{Reached, entry_in, found_below}
+use Rattle.ovl_lookup.specs.Views.{ReachedDirectory, entry_in, found_below}
 
 -- the first place that has a name, by its number, and the inode there
 pub record First : Type 0 where
@@ -20,7 +20,7 @@ pub record First : Type 0 where
 
 -- the first of these places that has a name, by all layers of the stack; the first place has the
 -- number `i`
-abbrev pub first_in : List Entries → ℕ → List Reached → PathName → Option First
+abbrev pub first_in : List Entries → ℕ → List ReachedDirectory → PathName → Option First
 first_in layers i [] name = None
 first_in layers i (place ∷ rest) name =
     elim (entry_in layers name place) [
@@ -29,7 +29,7 @@ first_in layers i (place ∷ rest) name =
     ]
 
 -- all names in the directories of these places in order, each with the first place that has it
-pub record AreTops (layers : List Entries) (i : ℕ) (places : List Reached)
+pub record AreTops (layers : List Entries) (i : ℕ) (places : List ReachedDirectory)
     (tops : List (PathName × First)) : Type 0 where
   pub in_order : AreInOrder tops
   pub each : (name : PathName) → lookup (name_eq name) tops ≡ first_in layers i places name
@@ -46,12 +46,12 @@ abbrev pub tops_told : List Top → List (PathName × First)
 tops_told tops = map top_told tops
 
 -- what is shown at a name, from its first place on
-abbrev pub look_from_top : StackView → List Reached → PathName × First → PathName × Look
+abbrev pub look_from_top : StackView → List ReachedDirectory → PathName × First → PathName × Look
 look_from_top stack places top =
     (top.0, shown_of stack.data_only (found_below stack.layers top.0 (drop top.1.place places)))
 
 -- the names at which something is shown, with what is shown there
-abbrev pub looks_from_tops : StackView → List Reached → List (PathName × First)
+abbrev pub looks_from_tops : StackView → List ReachedDirectory → List (PathName × First)
     → List (PathName × Look)
 looks_from_tops stack places tops =
     filter (λ e. not (is_nothing e.1)) (map (look_from_top stack places) tops)

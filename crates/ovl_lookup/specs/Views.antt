@@ -14,7 +14,7 @@ use Rattle.ovl_lookup.specs.Trace.{things_found}
 use Rattle.ovl_lookup.specs.Passes.{entered_path, entered_closed}
 
 -- a layer that has a directory where the walks of a path come to it
-pub record Reached : Type 0 where
+pub record ReachedDirectory : Type 0 where
   pub layer : ℕ  -- its number in the stack
   pub path : PathNames  -- the directory's path in it
   pub next : PathNames  -- how its walk goes on
@@ -22,7 +22,7 @@ pub record Reached : Type 0 where
 
 -- the view of a path over these layers, of which the first has this number: a layer that has
 -- nothing there is passed over; a whiteout, a file and a walk that is closed end it
-abbrev pub reached : List Entries → ℕ → PathNames → List Reached
+abbrev pub reached : List Entries → ℕ → PathNames → List ReachedDirectory
 reached [] i path = []
 reached (layer ∷ layers) i path =
     let step = walk layer path in
@@ -33,13 +33,13 @@ reached (layer ∷ layers) i path =
     else reached layers (suc i) step.next
 
 -- some layer has a directory there
-abbrev pub is_reached : List Reached → Bool
+abbrev pub is_reached : List ReachedDirectory → Bool
 is_reached [] = false
 is_reached (place ∷ places) = true
 
 -- a place of such a view, by all layers of the stack: the layer has that directory, whose walk goes
 -- on so
-pub record IsPlace (layers : List Entries) (from : ℕ) (place : Reached) : Type 0 where
+pub record IsPlace (layers : List Entries) (from : ℕ) (place : ReachedDirectory) : Type 0 where
   pub not_above : from ≤ place.layer
   pub inside : place.layer < length layers
   pub directory : IfSome (slice_get layers place.layer)
@@ -49,18 +49,18 @@ pub record IsPlace (layers : List Entries) (from : ℕ) (place : Reached) : Type
       (λ layer. place.closed ≡ is_shut layer place.path)
 
 -- after a place whose walk is closed there is none
-abbrev pub EndsWhereClosed : List Reached → Type 0
+abbrev pub EndsWhereClosed : List ReachedDirectory → Type 0
 EndsWhereClosed [] = ⊤
 EndsWhereClosed (place ∷ rest) = (place.closed ≡ true → rest ≡ []) × EndsWhereClosed rest
 
 -- what stands at a name in a directory that is reached, by all layers of the stack
-abbrev pub entry_in : List Entries → PathName → Reached → Option Inode
+abbrev pub entry_in : List Entries → PathName → ReachedDirectory → Option Inode
 entry_in layers name place =
     elim (slice_get layers place.layer)
     [ Some layer ↦ entry_at layer (child_path place.path name) | None ↦ None ]
 
 -- the directory of that name and mark in it
-abbrev pub entered : PathName → Mark → Reached → Reached
+abbrev pub entered : PathName → Mark → ReachedDirectory → ReachedDirectory
 entered name mark place = record {
   layer = place.layer;
   path = child_path place.path name;
@@ -81,7 +81,7 @@ below_entry (Meta (Some (To origin))) name from_root beside = from_root origin
 below_entry _ name from_root beside = []
 
 -- the view with one more name, by all layers of the stack and the view
-abbrev pub reached_below : List Entries → PathName → List Reached → List Reached
+abbrev pub reached_below : List Entries → PathName → List ReachedDirectory → List ReachedDirectory
 reached_below layers name [] = []
 reached_below layers name (place ∷ rest) =
     elim (entry_in layers name place) [
@@ -96,7 +96,7 @@ reached_below layers name (place ∷ rest) =
     ]
 
 -- what is found with one more name
-abbrev pub found_below : List Entries → PathName → List Reached → List Inode
+abbrev pub found_below : List Entries → PathName → List ReachedDirectory → List Inode
 found_below layers name [] = []
 found_below layers name (place ∷ rest) =
     elim (entry_in layers name place) [

@@ -4,7 +4,7 @@ use Rattle.std.proofs.lemmas.Result.{IfOk-weaker}
 use Rattle.ovl_lookup.specs.declared.tops.Top.{Top}
 use Rattle.ovl_lookup.specs.declared.views.DirPlace.{DirPlace}
 use Rattle.ovl_lookup.specs.Stacks.{StackView}
-use Rattle.ovl_lookup.specs.Views.{Reached}
+use Rattle.ovl_lookup.specs.Views.{ReachedDirectory}
 use Rattle.ovl_lookup.specs.NamedLists.{both_joined}
 use Rattle.ovl_lookup.specs.ViewPasses.{AreTops, tops_told, upper_place}
 use Rattle.ovl_lookup.specs.DirViews.{place_in, places_in}
@@ -23,7 +23,7 @@ returns-in_ok-lower-in_default t c =
     let behind : AreTops stack.layers (c.args.first + length (places_in stack above)) (places_in stack below) (tops_told lower) =
     subst (λ n. AreTops stack.layers (c.args.first + n) (places_in stack below) (tops_told lower)) (sym (length-map above (place_in stack))) c.in_ok-lower-in_default.ensures in
     let both : AreTops stack.layers c.args.first (places_in stack c.args.places.now) (both_joined upper_place (tops_told upper) (tops_told lower)) =
-    subst (λ (ps : List Reached). AreTops stack.layers c.args.first ps (both_joined upper_place (tops_told upper) (tops_told lower))) whole
+    subst (λ (ps : List ReachedDirectory). AreTops stack.layers c.args.first ps (both_joined upper_place (tops_told upper) (tops_told lower))) whole
     (merged-tops stack.layers c.args.first (places_in stack above) (places_in stack below) (tops_told upper) (tops_told lower) c.in_ok-upper-in_default.ensures behind) in
     IfOk-weaker c.join_lists.result _ _ (λ tops are.
     subst (AreTops stack.layers c.args.first (places_in stack c.args.places.now))

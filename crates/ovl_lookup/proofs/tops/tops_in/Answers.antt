@@ -3,7 +3,7 @@ use Rattle.std.specs.List.{All}
 use Rattle.ovl_layer.specs.Layers.{IsLayer}
 use Rattle.ovl_lookup.specs.declared.tops.Top.{Top}
 use Rattle.ovl_lookup.specs.Stacks.{StackView}
-use Rattle.ovl_lookup.specs.Views.{Reached}
+use Rattle.ovl_lookup.specs.Views.{ReachedDirectory}
 use Rattle.ovl_lookup.specs.ViewPasses.{tops_told}
 use Rattle.ovl_lookup.specs.DirViews.{place_in}
 use Rattle.ovl_lookup.specs.NamedLists.{names_of}
@@ -15,7 +15,7 @@ use Rattle.ovl_lookup.proofs.tops.tops_in.Goals.{in-Some+in_ok-push, in_default}
 pub loop-kid-preserved : goal.loop-kid-preserved
 loop-kid-preserved c =
     let stack : StackView = c.args.stack.now in
-    let place : Reached = place_in stack c.args.place.now in
+    let place : ReachedDirectory = place_in stack c.args.place.now in
     let j = c.loop-kid.kid-index in
     elim c.match-name.branch [
       | in-Some+in_ok-push w ↦

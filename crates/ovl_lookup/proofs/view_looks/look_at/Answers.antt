@@ -5,7 +5,7 @@ use Rattle.ovl_lookup.specs.declared.looks.Look.{Look}
 use Rattle.ovl_lookup.specs.declared.looks.Look.TheVariants.{Shown}
 use Rattle.ovl_lookup.specs.Stacks.{StackView}
 use Rattle.ovl_lookup.specs.Passes.{shown_with}
-use Rattle.ovl_lookup.specs.Views.{Reached}
+use Rattle.ovl_lookup.specs.Views.{ReachedDirectory}
 use Rattle.ovl_lookup.specs.DirViews.{places_in}
 use Rattle.ovl_lookup.proofs.ViewLookLemmas.{first-entry, whiteout-shows, full-shows, lacking-shows}
 use Rattle.ovl_lookup.proofs.view_looks.look_at.Goals as goal
@@ -13,7 +13,7 @@ use Rattle.ovl_lookup.proofs.view_looks.look_at.Goals as goal
 pub returns-then-is_whiteout : goal.returns-then-is_whiteout
 returns-then-is_whiteout c =
     let stack : StackView = c.args.stack.now in
-    let places : List Reached = places_in stack c.args.places.now in
+    let places : List ReachedDirectory = places_in stack c.args.places.now in
     let inode : Inode = c.args.inode.now in
     let first = first-entry stack.layers c.args.name.now places inode c.requires.first in
     sym (whiteout-shows stack.data_only stack.layers c.args.name.now places zero first.0 first.1 inode (mark_of inode) first.2 refl (sym c.is_whiteout.ensures ∙ c.if-is_whiteout.true))
@@ -21,7 +21,7 @@ returns-then-is_whiteout c =
 pub returns-then-not-lacks_contents : goal.returns-then-not-lacks_contents
 returns-then-not-lacks_contents c =
     let stack : StackView = c.args.stack.now in
-    let places : List Reached = places_in stack c.args.places.now in
+    let places : List ReachedDirectory = places_in stack c.args.places.now in
     let inode : Inode = c.args.inode.now in
     let first = first-entry stack.layers c.args.name.now places inode c.requires.first in
     ap Shown c.in_ok-visible.ensures
@@ -30,7 +30,7 @@ returns-then-not-lacks_contents c =
 pub returns : goal.returns
 returns c =
     let stack : StackView = c.args.stack.now in
-    let places : List Reached = places_in stack c.args.places.now in
+    let places : List ReachedDirectory = places_in stack c.args.places.now in
     let inode : Inode = c.args.inode.now in
     let first = first-entry stack.layers c.args.name.now places inode c.requires.first in
     let same = ap (shown_with inode) c.in_ok-contents.ensures

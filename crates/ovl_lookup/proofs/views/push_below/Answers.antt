@@ -5,7 +5,7 @@ use Rattle.ovl_names.specs.Names.{PathName}
 use Rattle.ovl_lookup.specs.declared.views.DirPlace.{DirPlace}
 use Rattle.ovl_lookup.specs.Stacks.{StackView}
 use Rattle.std.proofs.lemmas.Result.{on_ok_weaker}
-use Rattle.ovl_lookup.specs.Views.{Reached, reached, reached_below}
+use Rattle.ovl_lookup.specs.Views.{ReachedDirectory, reached, reached_below}
 use Rattle.ovl_lookup.specs.DirViews.{places_in}
 use Rattle.ovl_lookup.proofs.PlaceReads.{none-reached, file-reached}
 use Rattle.ovl_lookup.proofs.DirViewLemmas.{place_read, layer-read, below-pushed, on-path, on-name, on-none}
@@ -16,7 +16,7 @@ loop-place-preserved-in_default c =
     let stack : StackView = c.args.stack.now in
     record {
       places =
-          ap (λ (ps : List Reached). places_in stack c.loop-place.below.items ++ ps) (sym (none-reached stack c.loop-place.own.now c.args.places.now c.loop-place.place-index c.loop-place-test.true c.in_default.ensures))
+          ap (λ (ps : List ReachedDirectory). places_in stack c.loop-place.below.items ++ ps) (sym (none-reached stack c.loop-place.own.now c.args.places.now c.loop-place.place-index c.loop-place-test.true c.in_default.ensures))
           ∙ c.loop-place.invariant.places;
       over = c.loop-place.invariant.over;
     }
@@ -27,7 +27,7 @@ returns-then-not-is_directory c =
     record {
       places =
           sym (append-nil (places_in stack c.loop-place.below.items))
-          ∙ (ap (λ (ps : List Reached). places_in stack c.loop-place.below.items ++ ps) (sym (file-reached stack c.loop-place.own.now c.args.places.now c.loop-place.place-index c.loop-place-test.true c.in-Some.entry c.in-Some.ensures (sym c.is_directory.ensures ∙ c.if-not-is_directory.true)))
+          ∙ (ap (λ (ps : List ReachedDirectory). places_in stack c.loop-place.below.items ++ ps) (sym (file-reached stack c.loop-place.own.now c.args.places.now c.loop-place.place-index c.loop-place-test.true c.in-Some.entry c.in-Some.ensures (sym c.is_directory.ensures ∙ c.if-not-is_directory.true)))
           ∙ c.loop-place.invariant.places);
       over = c.loop-place.invariant.over;
     }
@@ -49,7 +49,7 @@ returns-in-At c =
     let pushed = below-pushed c.args.stack.now c.loop-place.own.now places c.loop-place.place-index c.loop-place-test.true c.in-Some.entry c.in-Some.ensures (sym c.is_directory.ensures ∙ c.if-not-is_directory.false) c.args.below.now.items c.loop-place.below.items c.push.new.self.items (reached_below c.args.stack.now.layers c.args.name.now (places_in c.args.stack.now places)) c.in_ok-push.ensures.items held.over held.places in
     let stack : StackView = c.args.stack.now in
     let origin : PathNames = c.in-At.origin.now in
-    let from_root : PathNames → List Reached = λ path. let own : DirPlace = place_read places c.loop-place.place-index in reached (drop (own.layer + 1) stack.layers) (own.layer + 1) path in
+    let from_root : PathNames → List ReachedDirectory = λ path. let own : DirPlace = place_read places c.loop-place.place-index in reached (drop (own.layer + 1) stack.layers) (own.layer + 1) path in
     on_ok_weaker c.push_reached.result
     (λ adds. record {
       places = adds.places ∙ ap (λ (path : PathNames). places_in stack c.push.new.self.items ++ from_root path) (c.in_ok-trail-in-At.ensures ∙ c.names.ensures.value) ∙ pushed.0 (from_root origin) (on-path c.loop-place.own.now _ _ c.in-Some.entry.mark.now origin (sym c.in-At.ensures.at));
@@ -73,7 +73,7 @@ loop-place-preserved c =
     let pushed = below-pushed c.args.stack.now c.loop-place.own.now places c.loop-place.place-index c.loop-place-test.true c.in-Some.entry c.in-Some.ensures (sym c.is_directory.ensures ∙ c.if-not-is_directory.false) c.args.below.now.items c.loop-place.below.items c.push.new.self.items (reached_below c.args.stack.now.layers c.args.name.now (places_in c.args.stack.now places)) c.in_ok-push.ensures.items held.over held.places in
     let stack : StackView = c.args.stack.now in
     let other : PathName = c.in-Beside.other.now in
-    let rest : List Reached = reached_below stack.layers other (drop (c.loop-place.place-index + 1) (places_in stack places)) in
+    let rest : List ReachedDirectory = reached_below stack.layers other (drop (c.loop-place.place-index + 1) (places_in stack places)) in
     record {
       places = pushed.0 rest (on-name c.loop-place.own.now _ _ c.in-Some.entry.mark.now other (sym c.in-Beside.ensures.by));
       over = pushed.1;

@@ -8,7 +8,7 @@ use Rattle.ovl_lookup.specs.declared.tops.Top.{Top}
 use Rattle.ovl_lookup.specs.declared.views.DirPlace.{DirPlace}
 use Rattle.ovl_lookup.specs.Stacks.{StackView, from_layer}
 use Rattle.ovl_lookup.specs.Merged.{is_nothing}
-use Rattle.ovl_lookup.specs.Views.{Reached}
+use Rattle.ovl_lookup.specs.Views.{ReachedDirectory}
 use Rattle.ovl_lookup.specs.ViewPasses.{AreTops, AreLooks, tops_told, looks_from_tops}
 use Rattle.ovl_lookup.proofs.TopLemmas.{looks-of-tops}
 use Rattle.ovl_lookup.proofs.ViewLookLemmas.{tops-lent, top-inside, top-stands, looks-more}
@@ -46,4 +46,4 @@ returns c =
     let all : take c.loop-top.top-index tops ≡ tops = take_all c.loop-top.top-index tops c.loop-top-test.false in
     subst (λ (looks : List (PathName × Look)). AreLooks (from_layer c.args.self.now.from stack) c.args.self.now.path looks)
     (sym (c.loop-top.invariant ∙ (λ j. looks_from_tops stack (c.requires.reached j) (tops_told (all j)))))
-    (looks-of-tops stack each c.args.self.now.from c.args.self.now.path (tops_told tops) (subst (λ (ps : List Reached). AreTops stack.layers 0 ps (tops_told tops)) c.requires.reached are))
+    (looks-of-tops stack each c.args.self.now.from c.args.self.now.path (tops_told tops) (subst (λ (ps : List ReachedDirectory). AreTops stack.layers 0 ps (tops_told tops)) c.requires.reached are))

@@ -8,7 +8,7 @@ use Rattle.ovl_lookup.specs.declared.tops.Top.{Top}
 use Rattle.ovl_lookup.specs.declared.views.DirPlace.{DirPlace}
 use Rattle.ovl_lookup.specs.Stacks.{StackView, from_layer}
 use Rattle.ovl_lookup.specs.Merged.{AreKids}
-use Rattle.ovl_lookup.specs.Views.{Reached}
+use Rattle.ovl_lookup.specs.Views.{ReachedDirectory}
 use Rattle.ovl_lookup.specs.ViewPasses.{AreTops, tops_told, looks_from_tops}
 use Rattle.ovl_lookup.specs.DirViews.{places_in}
 use Rattle.ovl_lookup.proofs.TopLemmas.{looks-of-tops}
@@ -47,4 +47,4 @@ returns c =
     let all : take c.loop-top.top-index tops ≡ tops = take_all c.loop-top.top-index tops c.loop-top-test.false in
     subst (λ (names : List PathName). AreKids (from_layer c.args.self.now.from stack) c.args.self.now.path names)
     (sym (c.loop-top.invariant ∙ (λ j. map (λ e. e.0) (looks_from_tops stack (c.requires.reached j) (tops_told (all j))))))
-    (looks-of-tops stack each c.args.self.now.from c.args.self.now.path (tops_told tops) (subst (λ (ps : List Reached). AreTops stack.layers 0 ps (tops_told tops)) c.requires.reached are)).names
+    (looks-of-tops stack each c.args.self.now.from c.args.self.now.path (tops_told tops) (subst (λ (ps : List ReachedDirectory). AreTops stack.layers 0 ps (tops_told tops)) c.requires.reached are)).names
