@@ -8,7 +8,7 @@
   with how often, and no other.
 - Links of all documents lead somewhere. Files that ARCHITECTURE.md names are there, each with its crate where several
   crates have one of that name.
-- No name of a type, or of a fact or record of specs/, stands twice, but for those that are known.
+- No name of a type, or of a fact or record of specs/, stands twice.
 - GLOSSARY.md or PROVED.md has every public type, and FORMATS.md every public limit, and none that isn't there.
 - Each block of code in the documentation of a crate's items is lines, one after another, of a file that the gate proves and
   runs: one of `ovl_caller` or of a crate of tests.
