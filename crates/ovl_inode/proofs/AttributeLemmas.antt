@@ -37,7 +37,7 @@ are_attributes-visible attrs are =
     rw (list_all-filter is_attribute (λ attr. not (is_overlay_name attr.0)) attrs parts.0) (ascends-filter attribute_cmp (λ attr. not (is_overlay_name attr.0)) attrs parts.1)
 
 -- attributes are ordered as their names are
-attribute_order : IsTotalOrder attribute_cmp
+pub attribute_order : IsTotalOrder attribute_cmp
 attribute_order = record {
   antisymm = λ x y. nat_list_cmp_total.antisymm x.0 y.0;
   trans = λ x y z. nat_list_cmp_total.trans x.0 y.0 z.0;
@@ -49,7 +49,7 @@ after-Greater : (name own : List ℕ) → name_cmp name own ≡ Greater → is_l
 after-Greater name own e = ap is_lt (nat_list_cmp_total.antisymm own name ∙ ap ordering_reverse e)
 
 -- one value cannot be two
-Some_injective : {X : Type 0} {x y : X} → Some x ≡ Some y → x ≡ y
+pub Some_injective : {X : Type 0} {x y : X} → Some x ≡ Some y → x ≡ y
 Some_injective {X} {x} {y} e = ap (λ o. unwrap_or o x) e
 
 -- all names before a place come before a name, where the last of them does
@@ -146,12 +146,7 @@ attribute_fault-none [] some short plain = absurd (omega arith)
 attribute_fault-none (byte ∷ bytes) some short plain =
     rw (eqb-suc-zero (length bytes)) (rw (le-ltb 255 (length (byte ∷ bytes)) short) (rw plain refl))
 
--- ---- a search from the end on
-
--- what lies behind a place comes after the name, if what is there does
-later_than : (o : Option (List ℕ × List ℕ)) (name : List ℕ) → IfSome o (λ own. name_cmp own.0 name ≡ Greater) → IfSome o (λ own. name_cmp name own.0 ≡ Less)
-later_than None name after = tt
-later_than (Some own) name after = nat_list_cmp_total.antisymm name own.0 ∙ ap ordering_reverse after
+-- ---- where a name is among attributes
 
 abbrev pub Belongs : Attributes → List ℕ → ℕ → Type 0
 Belongs attrs name place =
@@ -161,32 +156,10 @@ abbrev pub IsAt : Attributes → List ℕ → ℕ → Type 0
 IsAt attrs name place =
     IfSome (slice_get attrs place) (λ own. own.0 ≡ name) × (place < length attrs) × IsTrue (all_before (take place attrs) name)
 
-pub belongs_first : (attrs : Attributes) (name : List ℕ) → IfSome (slice_get attrs 0) (λ own. name_cmp own.0 name ≡ Greater) → Belongs attrs name 0
-belongs_first attrs name after = (later_than (slice_get attrs 0) name after, omega arith, refl)
-
 -- what has a part has a whole
 pub whole : {X Y : Type 0} (f : X → Y) (o : Option X) (y : Y) → option_map f o ≡ Some y → (x : X) × (o ≡ Some x) × (f x ≡ y)
 whole f None y e = let bad : None ≡ Some y = e in cc
 whole f (Some x) y e = (x, refl, Some_injective e)
-
-module _ (attrs : Attributes) (name : List ℕ) (place last : ℕ) (own : List ℕ × List ℕ) (are : are_attributes attrs ≡ true) (next : place ≡ suc last) (inside : place ≤ length attrs) (at : slice_get attrs last ≡ Some own) where
-  up : ascends attribute_cmp attrs ≡ true
-  up = (both {a = list_all is_attribute attrs} {b = ascends attribute_cmp attrs} are).1
-
-  pub belongs_after : IfSome (slice_get attrs place) (λ own. name_cmp own.0 name ≡ Greater) → Less ≡ name_cmp own.0 name → Belongs attrs name place
-  belongs_after after before = (
-    later_than (slice_get attrs place) name after,
-    inside,
-    rw next (list_all-take attrs last own name up at (ap is_lt (sym before))),
-  )
-
-  pub is_at : Equal ≡ name_cmp own.0 name → IsAt attrs name last
-  is_at same =
-      let e : own.0 ≡ name = name_cmp-Equal own.0 name (sym same) in
-      (rw at e, omega arith, subst (λ (n : List ℕ). all_before (take last attrs) n ≡ true) e (all_before-own attrs last own up at))
-
-  pub is_after : Greater ≡ name_cmp own.0 name → IfSome (slice_get attrs last) (λ own. name_cmp own.0 name ≡ Greater)
-  is_after greater = rw at (sym greater)
 
 -- ---- a put at the place that a search gave
 

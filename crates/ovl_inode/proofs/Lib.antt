@@ -7,4 +7,5 @@ pub mod RedirectLemmas
 mod DigitLaneLemmas
 mod PairLemmas
 mod TableLemmas
+mod SearchLemmas
 mod SpellLemmas

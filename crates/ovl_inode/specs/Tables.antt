@@ -1,7 +1,10 @@
 -- Attributes as places in the bytes of all their names and values.
-use Rattle.std.specs.Prelude.{◌≡◌, ℕ, ◌≤◌, ◌-◌, List, length, take, drop, map}
+use Rattle.std.specs.Prelude.{◌≡◌, ℕ, ◌≤◌, ◌-◌, if◌then◌else◌, List, length, nat_lt, take, drop, map}
 use Rattle.std.specs.List.{All, sum_by}
 use Rattle.std.specs.Str.{IsCharBoundary}
+use Rattle.std.specs.declared.cmp.Ordering.{Ordering}
+use Rattle.std.specs.declared.cmp.Ordering.TheVariants.{Less}
+use Rattle.ovl_names.specs.Names.{name_cmp}
 use Rattle.ovl_inode.specs.declared.tables.Part.{Part}
 use Rattle.ovl_inode.specs.declared.tables.AttributePlace.{AttributePlace}
 use Rattle.ovl_inode.specs.Attributes.{Attributes}
@@ -13,6 +16,13 @@ bytes_of bytes part = take (part.end - part.start) (drop part.start bytes)
 -- the attribute at a place
 abbrev pub attribute_of : List ℕ → List ℕ → AttributePlace → List ℕ × List ℕ
 attribute_of names values place = (bytes_of names place.name, bytes_of values place.value)
+
+-- how the name at a place is to another; where no name is at the place, it comes before each
+abbrev pub place_order : List ℕ → List ℕ → AttributePlace → Ordering
+place_order names name place =
+    if nat_lt place.name.end place.name.start then Less
+    else if nat_lt (length names) place.name.end then Less
+    else name_cmp (bytes_of names place.name) name
 
 abbrev pub attributes_of : List ℕ → List ℕ → List AttributePlace → Attributes
 attributes_of names values places = map (attribute_of names values) places

@@ -76,12 +76,10 @@ impl Attrs {
     pub fn get(&self, name: &str) -> Option<&[u8]>
         ensures { option_map (λ value. value.now) result ≡ attribute self.now name.now }
     {
-        for (own, value) in self.pairs() {
-            if name.as_bytes() == own.as_bytes() {
-                return Some(value);
-            }
+        match &self.table {
+            Some(table) => table.get(name),
+            None => None,
         }
-        None
     }
 
     /// Sets the value of the attribute `name`; the other names stay as they are. Refused, with

@@ -2,10 +2,10 @@ ghost use Rattle.std.specs.Prelude.{◌≡◌, ◌==◌, ◌<◌, ◌≤◌, ◌
 ghost use Rattle.std.specs.declared.cmp.Ordering.TheVariants.{Less};
 ghost use Rattle.std.specs.Iterator.{YieldsFirstBy, YieldsLastBy, item_count};
 ghost use Rattle.ovl_names.specs.Names.{name_cmp};
-ghost use Rattle.ovl_inode.specs.Attributes.{all_before, are_attributes};
+ghost use Rattle.ovl_inode.specs.Attributes.{all_before, are_attributes, attribute};
 ghost use Rattle.std.specs.Option.{option_map};
 ghost use Rattle.std.specs.Str.{IsCharBoundary};
-ghost use Rattle.ovl_inode.specs.Tables.{IsAttributePlace, bytes_of, attribute_of};
+ghost use Rattle.ovl_inode.specs.Tables.{IsAttributePlace, bytes_of, attribute_of, place_order};
 
 use std::alloc::{AllocError, Global};
 use std::cmp::Ordering;
@@ -193,7 +193,8 @@ impl Table {
         })
     }
 
-    /// Where the attribute `name` is, or where it belongs. Ascending names are put from the end on.
+    /// Where the attribute `name` is, or where it belongs. The last name is asked first: ascending
+    /// names are put behind it.
     pub(crate) fn search(&self, name: &str) -> Result<usize, usize>
         requires { IsTrue (are_attributes self.now) }
         ensures { MatchResult result
@@ -202,23 +203,28 @@ impl Table {
             (λ place. IfSome (slice_get self.now place) (λ own. name_cmp name.now own.0 ≡ Less)
             × (place ≤ length self.now) × IsTrue (all_before (take place self.now) name.now)) }
     {
-        let mut place = self.places.len();
-        while place > 0 {
-            match self.name(place - 1).as_bytes().cmp(name.as_bytes()) {
-                Ordering::Less => return Err(place),
-                Ordering::Equal => return Ok(place - 1),
-                Ordering::Greater => place -= 1,
+        let names = self.names.as_str();
+        let Some((last, others)) = self.places.split_last() else {
+            return Err(0);
+        };
+        match order_of_place(names, *last, name) {
+            Ordering::Less => Err(self.places.len()),
+            Ordering::Equal => Ok(others.len()),
+            Ordering::Greater => {
+                others.binary_search_by(|place| order_of_place(names, *place, name))
             }
         }
-        Err(0)
     }
 
-    // The name of the attribute at a place.
-    fn name(&self, place: usize) -> &str
-        requires { place < length self.now }
-        ensures { option_map (λ own. own.0) (slice_get self.now place) ≡ Some result.now }
+    /// The value of the attribute `name`, and `None` where there is none.
+    pub(crate) fn get(&self, name: &str) -> Option<&[u8]>
+        requires { IsTrue (are_attributes self.now) }
+        ensures { option_map (λ value. value.now) result ≡ attribute self.now name.now }
     {
-        self.places[place].name.of_text(self.names.as_str())
+        match self.search(name) {
+            Ok(place) => Some(self.places[place].value.of_bytes(&self.values)),
+            Err(_) => None,
+        }
     }
 }
 
@@ -263,6 +269,17 @@ impl<'a> DoubleEndedIterator for Pairs<'a> {
         let (last, others) = self.places.split_last()?;
         self.places = others;
         Some(attribute_at(self.names, self.values, *last))
+    }
+}
+
+// How the name at a place is to another; a place outside of the names comes before each.
+fn order_of_place(names: &str, place: AttributePlace, name: &str) -> Ordering
+    ensures { result ≡ place_order names.now name.now place }
+{
+    let range = place.name.start as usize..place.name.end as usize;
+    match names.as_bytes().get(range) {
+        Some(own) => own.cmp(name.as_bytes()),
+        None => Ordering::Less,
     }
 }
 
