@@ -4,3 +4,4 @@ pub mod ViewLemmas
 pub mod MemberLemmas
 pub mod WordLemmas
 pub mod SqueezeLemmas
+pub mod RunLemmas

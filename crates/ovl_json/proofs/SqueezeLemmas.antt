@@ -1,13 +1,15 @@
 -- What is left out of a squeezed text is part of no token.
-use Rattle.std.proofs.Common.{◌≡◌, ℕ, suc, ◌+◌, ◌-◌, ◌<◌, ◌≤◌, Bool, true, false, not, cond, ◌||◌, ◌&&◌, ◌==◌, nat_lt, List, [], ◌∷◌, ◌++◌, length, take, drop, get_or, Some, None, option_and_then, refl, sym, ap, ap₂, ◌∙◌, arith, append_assoc}
+use Rattle.std.proofs.Common.{◌≡◌, ℕ, zero, suc, ◌+◌, ◌-◌, ◌<◌, ◌≤◌, Bool, true, false, not, cond, ◌||◌, ◌&&◌, ◌==◌, nat_lt, List, [], ◌∷◌, ◌++◌, length, take, drop, get_or, Some, None, option_and_then, refl, sym, ap, ap₂, ◌∙◌, arith, append_assoc}
 use Rattle.std.proofs.Math.Seq.{take-suc, drop-append_seam}
 use Rattle.std.proofs.lemmas.Bool.{true≢false, eqb-true}
-use Rattle.std.proofs.lemmas.List.{append-nil, drop_more, drop_all, take_all, take-append-drop, length-drop, length-take-le, drop-append-le, drop-take}
+use Rattle.std.proofs.lemmas.List.{append-nil, drop_more, drop_all, take_all, take-append-drop, length-drop, get_or-drop, length-take-le, drop-append-le, drop-take}
 use Rattle.json.specs.Text.{content, plain, after_backslash, after_u, prepend, short_escape}
 use Rattle.json.specs.Word.{is_operator, is_space, ends_word, word}
+use Rattle.json.specs.Run.{is_stop}
 use Rattle.json.specs.Lex.{token, Class, quote, backslash, operator, space, other, class, string_token, Mode, between, in_word, in_string, in_escape, lex_byte, lex, fresh, punctuate, tokens}
 use Rattle.json.proofs.Printed.Numbers.{in_word-ended}
 use Rattle.ovl_json.specs.Squeezed.{behind_piece, squeezed_byte, squeezed}
+use Rattle.ovl_json.proofs.RunLemmas.{IsPlain}
 use Rattle.ovl_json.proofs.WordLemmas.{same_word}
 
 -- ---- strings
@@ -235,6 +237,23 @@ string-on d p h e k = kept in_string in_string d p h (λ xs. by xs (is_operator 
     by xs true f s g = byte-at in_string (get_or d p 0) xs operator (λ i. cond (e i) quote (cond (k i) backslash (cond (f i) operator (cond (g i) space other))))
     by xs false f true g = byte-at in_string (get_or d p 0) xs space (λ i. cond (e i) quote (cond (k i) backslash (cond (f i) operator (cond (g i) space other))))
     by xs false f false g = byte-at in_string (get_or d p 0) xs other (λ i. cond (e i) quote (cond (k i) backslash (cond (f i) operator (cond (g i) space other))))
+
+not-stopped : (x : ℕ) → is_stop x ≡ false → ((x == 34) ≡ false) × ((x == 92) ≡ false)
+not-stopped x none = by (x == 34) refl (x == 92) refl none
+  where
+    by : (q : Bool) → (x == 34) ≡ q → (b : Bool) → (x == 92) ≡ b → (q || b || nat_lt x 32) ≡ false → ((x == 34) ≡ false) × ((x == 92) ≡ false)
+    by true e b f bad = absurd (true≢false bad)
+    by false e true f bad = absurd (true≢false bad)
+    by false e false f goes_on = (e, f)
+
+-- a run of such bytes
+pub string-run : (d : List ℕ) (p n : ℕ) → p + n ≤ length d → IsPlain (drop p d) n → Along in_string d (p + n) ≡ Along in_string d p
+string-run d p zero inside run = let none : p + 0 ≡ p = omega arith in ap (Along in_string d) none
+string-run d p (suc n) inside run =
+    let one : p + suc n ≡ p + n + 1 = omega arith in
+    let last = not-stopped (get_or d (p + n) 0) (ap is_stop (sym (get_or-drop p d n 0)) ∙ run n (omega arith)) in
+    ap (Along in_string d) one
+    ∙ (string-on d (p + n) (omega arith) last.0 last.1 ∙ string-run d p n (omega arith) (λ k h. run k (omega (arith, h))))
 
 escape-begun : (d : List ℕ) (p : ℕ) → p < length d → get_or d p 0 ≡ 92 → Along in_escape d (p + 1) ≡ Along in_string d p
 escape-begun d p h e = kept in_string in_escape d p h (λ xs. byte-at in_string (get_or d p 0) xs backslash (ap class e))

@@ -5,6 +5,7 @@ ghost use Rattle.json.specs.Word.{ends_word};
 ghost use Rattle.json.specs.Word as word;
 ghost use Rattle.ovl_json.specs.Squeezed.{behind_piece, squeezed as squeezed_in};
 
+use crate::plain_runs::plain_length;
 use std::alloc::{AllocError, Global};
 
 /// A text with the same tokens, without the white space that stands between these. Of a text that
@@ -61,7 +62,7 @@ fn string_end(text: &[u8], from: usize) -> usize
     ensures kept { take result text.now ++ squeezed_in between (drop result text.now)
         ≡ take from text.now ++ squeezed_in in_string (drop from text.now) }
 {
-    let mut place = from;
+    let mut place = from + plain_length(&text[from..]);
     while place < text.len() {
         let byte = text[place];
         if byte == b'"' {

@@ -8,8 +8,7 @@ use Rattle.std.proofs.lemmas.Option.{option_and_then_some}
 use Rattle.std.specs.Str.Parse.{AllDigits, digits_value}
 use Rattle.std.proofs.lemmas.Bool.Decides.{nat_tests}
 use Rattle.std.proofs.lemmas.Fmt.{decimal-digits_value}
-use Rattle.std.proofs.lemmas.List.{get_or-take, take_more}
-use Rattle.std.proofs.lemmas.List.Concat.{flat_map-append}
+use Rattle.std.proofs.lemmas.List.{get_or-take}
 use Rattle.std.proofs.lemmas.Str.Parse.{digits_value_short, numerals_by_value, tells_digits}
 use Rattle.hex.specs.Hex.{lower_digits, hex_digit_value, decode_pairs, encode_with, encode_lower}
 use Rattle.hex.specs.declared.error.FromHexError.{FromHexError}
@@ -88,15 +87,6 @@ string-of (number n) text is = let bad : None ≡ Some text = is in cc
 string-of (string own) text is = ap (λ o. string (unwrap_or o own)) is
 string-of (array items) text is = let bad : None ≡ Some text = is in cc
 string-of (object own) text is = let bad : None ≡ Some text = is in cc
-
--- bytes that need no escape, and one more
-pub escape-more : (bytes : List ℕ) (i : ℕ) → i < length bytes → escape (take i bytes) ≡ take i bytes → (get_or bytes i 0 ≡ 34 → ⊥) → (get_or bytes i 0 ≡ 92 → ⊥) → 32 ≤ get_or bytes i 0 → escape (take (i + 1) bytes) ≡ take (i + 1) bytes
-escape-more bytes i inside plain quote backslash control =
-    let byte = get_or bytes i 0 in
-    let more : take (i + 1) bytes ≡ take i bytes ++ byte ∷ [] = take_more bytes i 0 inside in
-    ap escape more
-    ∙ (flat_map-append escape_byte (take i bytes) (byte ∷ [])
-    ∙ (ap₂ (λ (one other : List ℕ). one ++ (other ++ [])) plain (escape_byte_plain byte quote backslash control) ∙ sym more))
 
 -- ---- digits
 
@@ -235,6 +225,9 @@ pub entry_text : (version : Version) (path : PathNames) (inode : Inode) (own : D
 entry_text version path inode own rest = kind_text version path inode inode.kind own rest
 
 -- ---- piece after piece
+
+pub piece-then : (piece : List ℕ) {all rest more : List ℕ} → all ≡ piece ++ rest → rest ≡ more → all ≡ piece ++ more
+piece-then piece first next = first ∙ ap (λ (t : List ℕ). piece ++ t) next
 
 -- what is put after pieces of a text
 pub record Grows (before piece after : List ℕ) : Type 0 where

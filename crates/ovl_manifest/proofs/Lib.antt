@@ -12,5 +12,4 @@ pub mod ValueLemmas
 pub mod StatedLemmas
 pub mod CompactLemmas
 pub mod OrderLemmas
-pub mod RunLemmas
 pub mod Utf8Lemmas

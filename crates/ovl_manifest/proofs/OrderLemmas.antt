@@ -1,5 +1,5 @@
 -- Members in any order, and entries of them.
-use Rattle.std.proofs.Common.{◌≡◌, ◌∙◌, ℕ, ◌≤◌, ◌<◌, List, [], ◌∷◌, ◌++◌, Bool, true, false, Option, Some, None, length, map, refl, sym, ap, subst, append_assoc, append-nil, arith}
+use Rattle.std.proofs.Common.{◌≡◌, ◌∙◌, ℕ, ◌+◌, ◌≤◌, ◌<◌, List, [], ◌∷◌, ◌++◌, Bool, true, false, Option, Some, None, length, map, take, drop, refl, sym, ap, subst, append_assoc, append-nil, arith}
 use Rattle.std.specs.Prelude.{⊤, IfSome, codes}
 use Rattle.std.specs.Option.{option_map}
 use Rattle.std.specs.List.{list_all}
@@ -21,9 +21,10 @@ use Rattle.ovl_inode.specs.Attributes.{Attributes, attribute_cmp, with_attribute
 use Rattle.ovl_inode.specs.Sound.{is_sound_inode}
 use Rattle.ovl_layer.specs.Layers.{Entry, Entries}
 use Rattle.ovl_manifest.specs.AnyOrder.{commas, member_texts, IsReadAs, IsBack, AreBack, MayBeReadAs}
-use Rattle.ovl_manifest.specs.Places.{Places, filled, Fills}
+use Rattle.ovl_manifest.specs.Places.{Places, filled, places, Fills, TakesPart}
 use Rattle.ovl_manifest.specs.Text.{whole, hexadecimal, with_kind, attribute_members, common_members, entry_value, entry_items, layer_value}
 use Rattle.ovl_manifest.specs.Versions.{version_number}
+use Rattle.ovl_manifest.specs.declared.unordered_entries.Parts.{Parts}
 use Rattle.ovl_manifest.specs.declared.versions.Version.{Version}
 use Rattle.ovl_manifest.proofs.TextLemmas.{attributes_in_turn, attribute_members-in_turn, entry-shallow}
 use Rattle.ovl_manifest.proofs.WrittenBackLemmas.{behind, read-behind, numbers-behind, shallow-behind, entry_members-back, version-back}
@@ -118,13 +119,36 @@ read-part ms name own value before after are fills is = λ back low.
 pub itself : (value : Data) → IsBack value → depth value ≤ 1 → IsReadAs 1 value value
 itself value back low = record { read = back.0; numbers = back.1; shallow = low }
 
-pub if_some-then : {A P Q : Type 0} (o : Option A) → (P → Q) → IfSome o (λ _. P) → IfSome o (λ _. Q)
-if_some-then None then is = tt
-if_some-then (Some a) then is = then is
+pub if_some-then : {A P Q : Type 0} (o : Option A) → IfSome o (λ _. P) → (P → Q) → IfSome o (λ _. Q)
+if_some-then None is then = tt
+if_some-then (Some a) is then = then is
 
--- a member's name, the colon, and its value
-pub part-first : (text after behind rest named name : List ℕ) (own : Data) → text ≡ quoted named ++ after → after ≡ 58 ∷ behind → named ≡ name → behind ≡ compact_text own ++ rest → text ≡ quoted name ++ 58 ∷ (compact_text own ++ rest)
-part-first text after behind rest named name own first colon same value = first ∙ (λ j. quoted (same j) ++ (colon ∙ ap (λ (t : List ℕ). 58 ∷ t) value) j)
+-- a member's name, the colon and its value are taken, which is put into place number n, where `of` says what it stands for
+pub taken-into : {X : Type 0} {text after behind rest named : List ℕ} {own : Data} {parts more : Parts} {v : X} {old new : Option X} (n : ℕ) (name : List ℕ) (of : X → Data)
+    → (old ≡ None) × (new ≡ Some v) → (IsBack (of v) → depth (of v) ≤ 1 → IsReadAs 1 own (of v))
+    → text ≡ quoted named ++ after → after ≡ 58 ∷ behind → named ≡ name → behind ≡ compact_text own ++ rest
+    → places parts ≡ take n (places parts) ++ (name, option_map of old) ∷ drop (n + 1) (places parts)
+    → places more ≡ take n (places parts) ++ (name, option_map of new) ∷ drop (n + 1) (places parts)
+    → list_all (λ place. is_lt (name_cmp place.0 name)) (take n (places parts)) ≡ true
+    → list_all (λ place. is_lt (name_cmp name place.0)) (drop (n + 1) (places parts)) ≡ true
+    → TakesPart text parts rest more
+taken-into {X} {own = own} {parts = parts} {v = v} n name of placed back first colon same value before after lesser greater =
+    let one : Option X → Places = λ o. take n (places parts) ++ (name, option_map of o) ∷ drop (n + 1) (places parts) in
+    record {
+      name = name;
+      own = own;
+      value = of v;
+      first = first ∙ (λ j. quoted (same j) ++ (colon ∙ ap (λ (t : List ℕ). 58 ∷ t) value) j);
+      fills = record {
+        front = take n (places parts);
+        back = drop (n + 1) (places parts);
+        empty = before ∙ ap one placed.0;
+        full = after ∙ ap one placed.1;
+        lesser = lesser;
+        greater = greater;
+      };
+      back = back;
+    }
 
 -- ---- attributes in the order in which they stand
 

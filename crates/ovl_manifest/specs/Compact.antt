@@ -65,6 +65,11 @@ device_of_kind (Char major minor) = Some (major, minor)
 device_of_kind (Block major minor) = Some (major, minor)
 device_of_kind _ = None
 
+-- the word of a kind and the numbers of a device, up to the mode, which follows them
+abbrev pub word_text : List ℕ → Option (ℕ × ℕ) → List ℕ → List ℕ
+word_text word device mode =
+    codes ",\"kind\":" ++ (quoted word ++ (device_text device ++ (codes ",\"mode\":" ++ mode)))
+
 -- the word of a kind and the numbers of a device, and what follows them
 abbrev pub kind_text : Kind → List ℕ → List ℕ
 kind_text kind rest =

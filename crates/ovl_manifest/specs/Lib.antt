@@ -4,6 +4,5 @@ pub mod Manifest
 pub mod Lists
 pub mod Text
 pub mod Compact
-pub mod PlainRuns
 pub mod AnyOrder
 pub mod Places

@@ -1,14 +1,13 @@
 //! Entries whose members stand in the order in which they are written, without space.
 ghost use Rattle.std.specs.Prelude.{◌≡◌, true, IfSome, ◌++◌};
 ghost use Rattle.std.specs.Cow.{cow_str_bytes};
-ghost use Rattle.json.specs.Print.{quoted};
 ghost use Rattle.serde_json.specs.Data.{object};
 ghost use Rattle.ovl_names.specs.Paths.{PathNames, path_text};
 ghost use Rattle.ovl_inode.specs.Sound.{is_sound_inode};
 ghost use Rattle.ovl_manifest.specs.AnyOrder.{Spells};
 ghost use Rattle.ovl_manifest.specs.Text.{attribute_members, entry_value};
 ghost use Rattle.ovl_manifest.specs.Versions.{states_nsec};
-ghost use Rattle.ovl_manifest.specs.Compact.{group_text, device_text, mtime_text, nsec_text, contents_text, IsKindOf, TakesAttribute};
+ghost use Rattle.ovl_manifest.specs.Compact.{group_text, device_text, word_text, mtime_text, nsec_text, contents_text, IsKindOf, TakesAttribute};
 
 use crate::compact_texts::Rest;
 use crate::fields::put_digits;
@@ -33,10 +32,7 @@ pub(crate) fn read_entry<'a>(
     ensures sound { IfSome result (λ entry. is_sound_inode entry.1 ≡ true) }
 {
     let (blob, gid) = read_group(rest)?;
-    rest.take(",\"kind\":")?;
-    let word = take_word(rest)?;
-    let device = read_device(rest, word)?;
-    rest.take(",\"mode\":")?;
+    let (word, device) = read_word(rest)?;
     let mode = rest.take_natural(MODE_LIMIT as u64)?;
     let (mtime, nsec) = read_time(version, rest)?;
     rest.take(",\"path\":")?;
@@ -78,18 +74,22 @@ fn read_group(rest: &mut Rest<'_>) -> Option<(Option<Digest>, u32)>
     Some((Some(digest), gid as u32))
 }
 
-/// The word of a kind with its quotation marks; most entries are files or directories.
-#[inline(always)]
-pub(crate) fn take_word<'a>(rest: &mut Rest<'a>) -> Option<&'a str>
-    ensures { IfSome result (λ word. rest.old ≡ quoted word.now ++ rest.new) }
+// The word of the kind and the two numbers of a device, up to the mode; most entries are files or
+// directories.
+fn read_word<'a>(rest: &mut Rest<'a>) -> Option<(&'a str, Option<(u32, u32)>)>
+    ensures { IfSome result (λ read. rest.old ≡ word_text read.0.now read.1 rest.new) }
 {
-    if rest.take("\"file\"").is_some() {
-        return Some("file");
+    if rest.take(",\"kind\":\"file\",\"mode\":").is_some() {
+        return Some(("file", None));
     }
-    if rest.take("\"dir\"").is_some() {
-        return Some("dir");
+    if rest.take(",\"kind\":\"dir\",\"mode\":").is_some() {
+        return Some(("dir", None));
     }
-    rest.take_string()
+    rest.take(",\"kind\":")?;
+    let word = rest.take_string()?;
+    let device = read_device(rest, word)?;
+    rest.take(",\"mode\":")?;
+    Some((word, device))
 }
 
 // The time of the last change: its seconds, and the nanoseconds past them.

@@ -21,7 +21,6 @@ use crate::{compact_entries, unordered_entries};
 use ovl_inode::{Inode, is_directory};
 use ovl_layer::{ENTRY_LIMIT, Sheet, SheetDraft, has_escaped_name};
 use ovl_names::{Name, TEXT_LIMIT};
-use simdutf8::compat::from_utf8;
 use std::alloc::Global;
 use std::borrow::CowStr;
 
@@ -29,16 +28,14 @@ use std::borrow::CowStr;
 // bytes of the text seldom grows. Room that no entry takes is never touched.
 const ENTRY_TEXT: usize = 96;
 
-/// The sheet of the layer whose manifest these bytes are, without white space but for a newline at
-/// its end, and with no more escapes than it needs; members may stand in any order, but for
-/// attributes none twice. Gives none of manifests that are written in another way, of any fault
-/// and where memory runs out.
-pub(crate) fn read_compact(alloc: Global, bytes: &[u8]) -> Option<Sheet>
-    ensures { IfSome result (λ sheet. layer_stated bytes.now ≡ Ok sheet) }
+/// The sheet of the layer whose manifest the text is, without white space but for a newline at its
+/// end, and with no more escapes than it needs; members may stand in any order, but for attributes
+/// none twice. Gives none of manifests that are written in another way, of any fault and where
+/// memory runs out.
+pub(crate) fn read_compact(alloc: Global, text: &str) -> Option<Sheet>
+    requires { IsUtf8 text.now }
+    ensures { IfSome result (λ sheet. layer_stated text.now ≡ Ok sheet) }
 {
-    let Ok(text) = from_utf8(bytes) else {
-        return None;
-    };
     // The first entry tells one version from the other.
     match read_written(alloc, Version::Two, text) {
         Some(sheet) => Some(sheet),

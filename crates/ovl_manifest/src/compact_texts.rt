@@ -6,8 +6,8 @@ ghost use Rattle.std.specs.Str.Parse.{AllDigits, digits_value};
 ghost use Rattle.hex.specs.Hex.{encode_lower};
 ghost use Rattle.json.specs.Print.{quoted};
 
-use crate::plain_runs::plain_length;
 use ovl_inode::Digest;
+use ovl_json::plain_length;
 use serde_json::Value;
 use std::alloc::Global;
 use std::borrow::CowStr;
@@ -200,18 +200,24 @@ fn string_written(alloc: Global, own: &str) -> Option<String>
     }
 }
 
-// The number that the digits at the front write, without a zero before others, and how many they
-// are.
+// The number that the digits at the front write, and how many they are; of those behind a zero at
+// the very front none counts.
 fn leading_number(bytes: &[u8]) -> Option<(u64, usize)>
     ensures { IfSome result (λ read. decimal read.0 ≡ take read.1 bytes.now) }
 {
+    if bytes.is_empty() {
+        return None;
+    }
+    if bytes[0] == b'0' {
+        return Some((0, 1));
+    }
     // Where that many bytes are left, no digit waits for the text's end.
     let (number, count) = if bytes.len() >= DIGIT_LIMIT {
         digits_within(bytes, DIGIT_LIMIT)
     } else {
         digits_within(bytes, bytes.len())
     };
-    if count == 0 || (count > 1 && bytes[0] == b'0') {
+    if count == 0 {
         return None;
     }
     Some((number, count))

@@ -6,7 +6,6 @@ mod compact_layers;
 mod compact_texts;
 mod fields;
 mod lists;
-mod plain_runs;
 mod reading;
 mod short_texts;
 mod text_paths;

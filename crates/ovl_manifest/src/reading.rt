@@ -83,13 +83,16 @@ pub fn read_sheet(alloc: Global, bytes: &[u8]) -> Result<Sheet, LayerFault>
         (λ sheet. manifest.read_layer bytes.now ≡ Ok sheet)
         (λ fault. IsFaultOf (manifest.read_layer bytes.now) fault) }
 {
-    if let Some(sheet) = read_compact(alloc, bytes) {
+    let Ok(text) = from_utf8(bytes) else {
+        return Err(LayerFault::NotJson);
+    };
+    if let Some(sheet) = read_compact(alloc, text) {
         return Ok(sheet);
     }
-    if let Some(sheet) = read_spaced(alloc, bytes) {
+    if let Some(sheet) = read_spaced(alloc, text) {
         return Ok(sheet);
     }
-    let layer = read_layer(alloc, bytes)?;
+    let layer = read_text(alloc, text)?;
     match Sheet::of(alloc, layer) {
         Ok(sheet) => Ok(sheet),
         Err(_) => Err(LayerFault::Memory),
@@ -99,19 +102,9 @@ pub fn read_sheet(alloc: Global, bytes: &[u8]) -> Result<Sheet, LayerFault>
 // Where none of so many first bytes is white space, a manifest isn't looked through for any.
 const FIRST_BYTES: usize = 64;
 
-// The sheet of the layer whose manifest these bytes are, where white space alone keeps it from
-// being read at once.
-fn read_spaced(alloc: Global, bytes: &[u8]) -> Option<Sheet>
-    ensures { IfSome result (λ sheet. manifest.read_layer bytes.now ≡ Ok sheet) }
-{
-    match from_utf8(bytes) {
-        Ok(text) => read_squeezed(alloc, text),
-        Err(_) => None,
-    }
-}
-
-// The same of a text.
-fn read_squeezed(alloc: Global, text: &str) -> Option<Sheet>
+// The sheet of the layer whose manifest the text is, where white space alone keeps it from being
+// read at once.
+fn read_spaced(alloc: Global, text: &str) -> Option<Sheet>
     requires { IsUtf8 text.now }
     ensures { IfSome result (λ sheet. manifest.read_layer text.now ≡ Ok sheet) }
 {
@@ -128,7 +121,10 @@ fn read_squeezed(alloc: Global, text: &str) -> Option<Sheet>
     if own.len() == text.len() {
         return None;
     }
-    read_compact(alloc, own.as_slice())
+    match from_utf8(own.as_slice()) {
+        Ok(compact) => read_compact(alloc, compact),
+        Err(_) => None,
+    }
 }
 
 // The version of a manifest that is JSON and has a list of entries, whatever they are.

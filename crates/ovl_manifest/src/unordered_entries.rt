@@ -10,7 +10,7 @@ ghost use Rattle.ovl_manifest.specs.Versions.{states_nsec};
 ghost use Rattle.ovl_manifest.specs.AnyOrder.{Spells};
 ghost use Rattle.ovl_manifest.specs.Places.{filled, places, nsec_place, IsKindWith, SpellsParts, TakesPart};
 
-use crate::compact_entries::{read_attributes, take_word};
+use crate::compact_entries::read_attributes;
 use crate::compact_texts::Rest;
 use crate::versions::Version;
 use ovl_inode::{Attrs, Digest, Inode, Kind, MODE_LIMIT, NSEC_LIMIT, SIZE_LIMIT, Target, sound};
@@ -97,7 +97,7 @@ fn read_part<'a>(alloc: Global, rest: &mut Rest<'a>, parts: &mut Parts<'a>) -> O
     match name {
         "blob" => place(&mut parts.blob, rest.take_digest()?),
         "gid" => place(&mut parts.gid, take_number(rest)?),
-        "kind" => place(&mut parts.kind, take_word(rest)?),
+        "kind" => place(&mut parts.kind, rest.take_string()?),
         "major" => place(&mut parts.major, take_number(rest)?),
         "minor" => place(&mut parts.minor, take_number(rest)?),
         "mode" => place(&mut parts.mode, take_mode(rest)?),

@@ -8,10 +8,10 @@ ghost use Rattle.ovl_manifest.specs.Compact.{attribute_text, blob_text, kind_tex
 ghost use Rattle.ovl_manifest.specs.Text.{attribute_members, entry_value};
 ghost use Rattle.ovl_manifest.specs.Versions.{written};
 
-use crate::plain_runs::plain_length;
 use crate::short_texts::ShortText;
 use json::Writer;
 use ovl_inode::{Attrs, Inode, Kind};
+use ovl_json::plain_length;
 use std::alloc::{AllocError, Global};
 
 /// Appends the text of an entry, by the text of its path; fails only when out of memory.

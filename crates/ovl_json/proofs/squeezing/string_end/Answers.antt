@@ -1,11 +1,22 @@
-use Rattle.std.proofs.Common.{◌≡◌, ◌∙◌, ◌<◌, ◌+◌, ◌==◌, true, get_or, length, ap, arith}
+use Rattle.std.proofs.Common.{List, ℕ, subst, ◌≡◌, ◌∙◌, ◌<◌, ◌+◌, ◌==◌, true, ◌≤◌, get_or, length, length-drop, ap, arith}
 use Rattle.std.proofs.lemmas.Bool.{ne_eqb}
-use Rattle.ovl_json.proofs.SqueezeLemmas.{closed, string-on, string-left, escape-on, escape-ends}
+use Rattle.std.proofs.lemmas.List.{take_rest}
+use Rattle.ovl_json.proofs.RunLemmas.{IsPlain}
+use Rattle.ovl_json.proofs.SqueezeLemmas.{closed, string-on, string-run, string-left, escape-on, escape-ends}
 use Rattle.ovl_json.proofs.squeezing.string_end.Goals as goal
 use Rattle.ovl_json.proofs.squeezing.string_end.Goals.{else-place-text-via-then-place-text+else-text-place-ne117, else-place-text-via-else-place-text}
 
 pub returns-then-byte-eq34-clause-kept : goal.returns-then-byte-eq34-clause-kept
 returns-then-byte-eq34-clause-kept c = closed c.args.text.now c.loop-place.place c.loop-place-test.true c.if-byte-eq34.true ∙ c.loop-place.invariant.2
+
+pub loop-place-init : goal.loop-place-init
+loop-place-init c =
+    let run = c.plain_length.ensures in
+    let within : c.args.from + c.plain_length.result ≤ length c.args.text.now = omega (arith, run.within, c.requires, length-drop c.args.from c.args.text.now) in (
+      omega arith,
+      within,
+      string-run c.args.text.now c.args.from c.plain_length.result within (subst (λ (own : List ℕ). IsPlain own c.plain_length.result) (take_rest c.args.text.now c.args.from) run.run),
+    )
 
 pub loop-place-preserved-then-byte-ne92 : goal.loop-place-preserved-then-byte-ne92
 loop-place-preserved-then-byte-ne92 c = (

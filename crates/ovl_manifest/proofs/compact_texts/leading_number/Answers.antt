@@ -1,9 +1,11 @@
-use Rattle.std.proofs.Common.{◌≡◌, ◌∙◌, ◌≤◌, ℕ, List, length, take, get_or, ap, sym, subst, arith, decimal}
+use Rattle.std.proofs.Common.{◌≡◌, ◌∙◌, ◌∷◌, [], ◌≤◌, ◌<◌, ℕ, List, length, take, ap, sym, subst, arith, decimal}
+use Rattle.std.specs.Fmt.{digits}
 use Rattle.std.specs.Str.Parse.{AllDigits, digits_value}
 use Rattle.std.proofs.lemmas.Bool.Decides.{nat_tests}
+use Rattle.std.proofs.lemmas.List.{take_more}
 use Rattle.ovl_manifest.proofs.CompactLemmas.{digits-written}
 use Rattle.ovl_manifest.proofs.compact_texts.leading_number.Goals as goal
-use Rattle.ovl_manifest.proofs.compact_texts.leading_number.Goals.{then-bytes-ge-DIGIT_LIMIT, else-bytes-ge-DIGIT_LIMIT, then-count-gt1, else-count-gt1}
+use Rattle.ovl_manifest.proofs.compact_texts.leading_number.Goals.{then-bytes-ge-DIGIT_LIMIT, else-bytes-ge-DIGIT_LIMIT}
 
 -- what the digits at the front say
 record AreDigits (ds : List ℕ) (read : ℕ × ℕ) : Type 0 where
@@ -11,6 +13,12 @@ record AreDigits (ds : List ℕ) (read : ℕ × ℕ) : Type 0 where
   pub number : read.0 ≡ digits_value 10 (take read.1 ds)
   pub short : read.1 ≤ 19
   pub inside : read.1 ≤ length ds
+
+pub returns-then-bytes-eq48 : goal.returns-then-bytes-eq48
+unfolding digits
+returns-then-bytes-eq48 c =
+    let some : 0 < length c.args.bytes.now = grind (arith, nat_tests) in
+    sym (take_more c.args.bytes.now 0 0 some ∙ ap (λ (digit : ℕ). digit ∷ []) c.if-bytes-eq48.true)
 
 pub returns : goal.returns
 returns c =
@@ -31,6 +39,4 @@ returns c =
         inside = w.digits_within-else-bytes-ge-DIGIT_LIMIT.ensures.count;
       })
     ] in
-    let first : get_or ds 0 0 ≡ 48 → read.1 ≡ 1 =
-    λ zero. elim c.if-count-gt1.branch [ then-count-gt1 w ↦ grind (arith, nat_tests) | else-count-gt1 w ↦ omega (arith, w.if-count-gt1.false, c.if-count-eq0.false) ] in
-    ap decimal told.number ∙ digits-written ds read.1 told.inside told.digits (omega (arith, c.if-count-eq0.false)) told.short first
+    ap decimal told.number ∙ digits-written ds read.1 told.inside told.digits (omega (arith, c.if-count-eq0.false)) told.short (λ zero. absurd (c.if-bytes-eq48.false zero))

@@ -1,8 +1,8 @@
 //! Passing over plain bytes of a string, sixteen at a time.
-ghost use Rattle.std.specs.Prelude.{◌≡◌, ◌≤◌, length, map, take};
+ghost use Rattle.std.specs.Prelude.{◌≡◌, ◌≤◌, ◌<◌, ℕ, false, length, map, slice_index, take};
 ghost use Rattle.std.specs.Simd.Lanes.{mask_l};
 ghost use Rattle.json.specs.Print.{escape};
-ghost use Rattle.ovl_manifest.specs.PlainRuns.{is_stop};
+ghost use Rattle.json.specs.Run.{is_stop};
 
 use std::simd::prelude::*;
 
@@ -20,8 +20,9 @@ fn stops(lanes: u8x16) -> u64
 #[inline(always)]
 fn plain_tail(bytes: &[u8], from: usize) -> usize
     requires within { from ≤ length bytes.now }
-    requires plain { escape (take from bytes.now) ≡ take from bytes.now }
-    ensures { escape (take result bytes.now) ≡ take result bytes.now }
+    requires run { (k : ℕ) → k < from → is_stop (slice_index bytes.now k) ≡ false }
+    ensures within { result ≤ length bytes.now }
+    ensures run { (k : ℕ) → k < result → is_stop (slice_index bytes.now k) ≡ false }
 {
     let mut place = from;
     while place < bytes.len()
@@ -35,8 +36,10 @@ fn plain_tail(bytes: &[u8], from: usize) -> usize
 }
 
 /// How many bytes come before the first that can't stand in a string unescaped, or that ends it.
-pub(crate) fn plain_length(bytes: &[u8]) -> usize
-    ensures { escape (take result bytes.now) ≡ take result bytes.now }
+pub fn plain_length(bytes: &[u8]) -> usize
+    ensures within { result ≤ length bytes.now }
+    ensures run { (k : ℕ) → k < result → is_stop (slice_index bytes.now k) ≡ false }
+    ensures plain { escape (take result bytes.now) ≡ take result bytes.now }
 {
     let mut place = 0;
     while bytes.len() - place >= 16 {
