@@ -251,22 +251,6 @@ module _ {O S : Type 0} (seen : O → S) (kids : Piece → List Piece) (out : Pi
         own = own_permuted parcels assembled order.0 own;
       }
 
--- one more parcel with lawful kids
-pub lawful_more : {O : Type 0} (parcels : List (Parcel O)) (parcel : Parcel O) → AllLawful (bare parcels) → AreLawfulKids parcel.piece parcel.kids.items → AllLawful (bare (parcels ++ parcel ∷ []))
-lawful_more {O} parcels parcel all law = All-Every (λ (v : ParcelView (Unit {0})). AreLawfulKids v.piece v.kids) (bare (parcels ++ parcel ∷ [])) (λ v h. by v h)
-  where
-    by : (v : ParcelView (Unit {0})) → In v (bare (parcels ++ parcel ∷ [])) → AreLawfulKids v.piece v.kids
-    by v h =
-        let m = In-map-cases (parcel_view (λ (o : O). tt {0})) v (parcels ++ parcel ∷ []) h in
-        let Law : ParcelView (Unit {0}) → Type 0 = λ w. AreLawfulKids w.piece w.kids in
-        elim (In-cases m.0 parcels (parcel ∷ []) m.1.0) [
-          | inl i ↦ subst Law (sym m.1.1) (Every-All Law (bare parcels) all (parcel_view (λ (o : O). tt {0}) m.0) (In-map (parcel_view (λ (o : O). tt {0})) m.0 parcels i))
-          | inr i ↦ elim i [
-            | inl e ↦ subst Law (sym m.1.1) (subst (λ (c : Parcel O). AreLawfulKids c.piece c.kids.items) (sym e) law)
-            | inr none ↦ absurd none
-          ]
-        ]
-
 -- two ascending lists of pieces with the same members are one
 same_pieces : (ps qs : List Piece) → Rises IsBefore ps → Rises IsBefore qs → ((x : Piece) → In x ps → In x qs) → ((x : Piece) → In x qs → In x ps) → ps ≡ qs
 same_pieces = rising_same IsBefore (λ x lt. less_differs x x lt refl) before_trans
