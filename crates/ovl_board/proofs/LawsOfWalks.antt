@@ -1,5 +1,5 @@
 -- Laws of plain walks, and of parcels that are a work's own.
-use Rattle.std.proofs.Common.{◌≡◌, ℕ, zero, suc, ◌+◌, ◌-◌, ◌≤◌, inl, inr, List, [], ◌∷◌, ◌++◌, length, map, refl, sym, ap, ◌∙◌, subst, arith, append-nil, Contains, IsPermutation}
+use Rattle.std.proofs.Common.{◌≡◌, ℕ, zero, suc, ◌+◌, ◌-◌, ◌≤◌, inl, inr, List, [], ◌∷◌, length, map, refl, sym, ap, ◌∙◌, subst, arith, append-nil, Contains, IsPermutation}
 use Rattle.std.specs.List.{flat_map}
 use Rattle.std.proofs.lemmas.List.Sorted.{All-permutation, Contains-permutation, IsPermutation-sym, IsPermutation-map}
 use Rattle.std.proofs.lemmas.Bool.{cases_lt}
@@ -14,7 +14,7 @@ use Rattle.ovl_board.specs.Machine.{start_state}
 use Rattle.ovl_board.specs.Laws.{HasReachedPieces, KeepsBalance, OwnAssemble}
 use Rattle.ovl_board.proofs.CountLemmas.{times_rising, once, all_reached, all_there, IsPermutation-from_times}
 use Rattle.ovl_board.proofs.MachineLemmas.{start_kept, all_kept}
-use Rattle.ovl_board.proofs.LawsOfMembers.{All-Every, AllPairs-Rises, Contains-In, Every, Every-All, In, In-Contains, In-cases, In-flat_map, In-flat_map-cases, In-map, In-map-cases, Rises, Rises-AllPairs, Rises-flat_map, rising_same}
+use Rattle.ovl_board.proofs.LawsOfMembers.{All-Every, AllPairs-Rises, Contains-In, Every, Every-All, In, In-Contains, In-flat_map, In-flat_map-cases, In-map, In-map-cases, Rises, Rises-AllPairs, Rises-flat_map, rising_same}
 use Rattle.ovl_board.proofs.LawsOfPieces.{IsUnder, before_siblings, before_trans, before_under, length_below, less_differs, under_one}
 use Rattle.ovl_board.proofs.LawsOfCounts.{In-times, times-In}
 

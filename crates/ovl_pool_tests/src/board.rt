@@ -1,4 +1,4 @@
-use crate::tables::{parts_of, same};
+use crate::tables::{expect_at, parts_of, same};
 use ovl_board::{
     BoardFault, Core, CoreFault, Event, Parcel, Piece, Tree, all_lawful, assemble, plain_walk,
 };
@@ -180,7 +180,7 @@ fn a_core_has_1_to_64_workers(rt: HostRuntime) -> Result<(), Fail> {
     let small = tree(rt.alloc(), "/ /a /b")?;
     for workers in [0, 1, 64, 65] {
         let is = is_refused(rt.alloc(), &small, workers)?;
-        assert!(rt; is == (workers == 0 || workers == 65), "at {workers}");
+        expect_at(workers, is == (workers == 0 || workers == 65))?;
     }
     Ok(())
 }
