@@ -50,12 +50,20 @@ fn is_lent<R: Threads + Wait + Sync>(
     Ok(lent == command(rt, alloc, what, own, 0, &blobs, workers, &OpenGate)?)
 }
 
+fn expect_lent<R: Threads + Wait + Sync>(
+    rt: &R,
+    alloc: Global,
+    what: Command,
+    workers: usize,
+) -> Result<(), Fail> {
+    expect_so(again!(is_lent(rt, alloc, what, workers), EngineFault::Memory)?)
+}
+
 #[test]
 fn lent_manifests_are_answered_as_own_ones(rt: HostRuntime) -> Result<(), Fail> {
-    let alloc = rt.alloc();
     for (what, _) in MOVED.ends {
-        expect_so(again!(is_lent(&rt, alloc, what, 1), EngineFault::Memory)?)?;
-        expect_so(again!(is_lent(&rt, alloc, what, 2), EngineFault::Memory)?)?;
+        expect_lent(&rt, rt.alloc(), what, 1)?;
+        expect_lent(&rt, rt.alloc(), what, 2)?;
     }
     Ok(())
 }
