@@ -46,7 +46,16 @@ fn is_lent<R: Threads + Wait + Sync>(
 ) -> Result<bool, EngineFault> {
     let blobs = blobs_of(alloc, MOVED.blobs)?;
     let own = manifests_of(alloc, MOVED.manifests)?;
-    let lent = command(rt, alloc, what, own.as_slice(), 0, &blobs, workers, &OpenGate)?;
+    let lent = command(
+        rt,
+        alloc,
+        what,
+        own.as_slice(),
+        0,
+        &blobs,
+        workers,
+        &OpenGate,
+    )?;
     Ok(lent == command(rt, alloc, what, own, 0, &blobs, workers, &OpenGate)?)
 }
 
