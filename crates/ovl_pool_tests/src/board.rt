@@ -75,7 +75,8 @@ const KIDS: &str = "\
 
 fn kids_told(alloc: Global, row: &str) -> Result<(), Fail> {
     let (kids, wanted) = parts_of(row);
-    let parcels = [parcel(alloc, "/", "/a /b")?, parcel(alloc, "/a", kids)?];
+    let mut parcels = small_parcels(alloc, "/")?;
+    parcels.push(parcel(alloc, "/a", kids)?)?;
     let lawful = all_lawful(&parcels);
     same(row, if lawful { "true" } else { "false" }, wanted)
 }
