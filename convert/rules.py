@@ -54,17 +54,23 @@ def path_problem(path: str, depth: int, most: int = MAX_NAMES) -> str | None:
     return None
 
 
+def text_problem(text: str, what: str, most: int) -> str | None:
+    """Why a text of at most so many bytes can't be stated."""
+    try:
+        length = len(text.encode())
+    except UnicodeEncodeError:
+        return f"{what} isn't UTF-8"
+    if not 1 <= length <= most or "\0" in text:
+        return f"{what} isn't 1 to {most} bytes without NUL"
+    return None
+
+
 def attribute_problem(name: str) -> str | None:
     """Why an attribute of this name can't be stated."""
-    try:
-        length = len(name.encode())
-    except UnicodeEncodeError:
-        return "the name of an attribute isn't UTF-8"
-    if not 1 <= length <= MAX_ATTRIBUTE_NAME_BYTES or "\0" in name:
-        return f"the name of an attribute isn't 1 to {MAX_ATTRIBUTE_NAME_BYTES} bytes without NUL"
-    if name.startswith(ESCAPED):
+    problem = text_problem(name, "the name of an attribute", MAX_ATTRIBUTE_NAME_BYTES)
+    if problem is None and name.startswith(ESCAPED):
         return f"it has the attribute {name}, of an overlay inside another"
-    return None
+    return problem
 
 
 def attributes_problem(names: Iterable[str]) -> str | None:
@@ -76,13 +82,7 @@ def attributes_problem(names: Iterable[str]) -> str | None:
 
 def target_problem(target: str) -> str | None:
     """Why a symlink with this target can't be stated."""
-    try:
-        length = len(target.encode())
-    except UnicodeEncodeError:
-        return "its target isn't UTF-8"
-    if not 1 <= length <= MAX_TARGET_BYTES or "\0" in target:
-        return f"its target isn't 1 to {MAX_TARGET_BYTES} bytes without NUL"
-    return None
+    return text_problem(target, "its target", MAX_TARGET_BYTES)
 
 
 def number_problem(what: str, number: int, least: int, most: int) -> str | None:

@@ -5,7 +5,7 @@ set -euo pipefail
 top="$(cd "$(dirname "$0")/../.." && pwd)"
 work="$(mktemp -d)"
 trap 'rm -rf "$work"' EXIT
-mkdir -p "$work/crates/board_bench/src" "$work/crates/board_bench/proofs/checked"
+mkdir -p "$work/crates/board_bench/src" "$work/crates/board_bench/proofs"
 cp -r "$top/crates/ovl_names" "$top/crates/ovl_board" "$work/crates/"
 cd "$work"
 cat > crates.txt <<'END'
@@ -19,12 +19,8 @@ cat > src/main.rt <<'END'
 //! Times the plain walk of a tree, the core's run over it by one worker, and the assembly of what the core brings.
 #![tactic(auto)]
 
-ghost use Rattle.std.specs.Prelude.{IfOk};
-ghost use Rattle.ovl_board.specs.Balance.{AllLawful};
-ghost use Rattle.ovl_board.specs.Assembly.{bare};
-
 use anyhow::Result;
-use ovl_board::{Core, Event, Parcel, Piece, Tree, assemble, kids_lawful, plain_walk};
+use ovl_board::{Core, Event, Parcel, Piece, Tree, all_lawful, assemble, plain_walk};
 use ovl_names::{Name, Path};
 use std::alloc::Global;
 use std::time::Instant;
@@ -46,7 +42,9 @@ fn measure(rt: &HostRuntime, folders: u32, files: u32) -> Result<()> {
     let start = Instant::now(rt)?;
     let parcels = arrived(alloc, &tree, count)?;
     let ran = start.elapsed(rt)?;
-    let parcels = checked(alloc, parcels)?;
+    if !all_lawful(&parcels) {
+        anyhow::bail!("unlawful kids");
+    }
     let start = Instant::now(rt)?;
     let assembled = assemble(alloc, &root(alloc), parcels)?;
     let joined = start.elapsed(rt)?;
@@ -92,37 +90,5 @@ fn arrived(alloc: Global, tree: &Tree, count: usize) -> Result<Vec<Parcel<()>>> 
     };
     Ok(parcels)
 }
-
-// The parcels, each tested for lawful kids.
-fn checked(alloc: Global, parcels: Vec<Parcel<()>>) -> Result<Vec<Parcel<()>>>
-    ensures { IfOk result (λ lawful. AllLawful (bare lawful.items)) }
-{
-    let mut lawful = Vec::new(alloc);
-    for parcel in parcels {
-        if !kids_lawful(&parcel) {
-            anyhow::bail!("unlawful kids");
-        }
-        lawful.push(parcel)?;
-    }
-    Ok(lawful)
-}
-END
-cat > proofs/checked/Invariants.antt <<'END'
-use Rattle.ovl_board.specs.Balance.{AllLawful}
-use Rattle.ovl_board.specs.Assembly.{bare}
-use Rattle.board_bench.proofs.checked.Given as goal
-
-abbrev pub invariant-loop-parcel : goal.invariant-loop-parcel
-invariant-loop-parcel l =
-    goal.iterator-loop-parcel.can_next l.parcel-iterator
-    × goal.iterator-loop-parcel.is_finite l.parcel-iterator
-    × AllLawful (bare l.lawful.items)
-END
-cat > proofs/checked/Answers.antt <<'END'
-use Rattle.ovl_board.proofs.OwnLemmas.{lawful_more}
-use Rattle.board_bench.proofs.checked.Goals as goal
-
-pub loop-parcel-preserved : goal.loop-parcel-preserved
-loop-parcel-preserved c = (tt, tt, rw c.in_ok-push.ensures.items (lawful_more c.loop-parcel.lawful.items c.in-Some.parcel c.loop-parcel.invariant.2 (c.kids_lawful.ensures.0 c.if-not-kids_lawful.false)))
 END
 rt run

@@ -1,5 +1,5 @@
 -- Laws of plain walks, and of parcels that are a work's own.
-use Rattle.std.proofs.Common.{◌≡◌, ℕ, zero, suc, ◌+◌, ◌-◌, ◌≤◌, inl, inr, List, [], ◌∷◌, ◌++◌, length, map, refl, sym, ap, ◌∙◌, subst, arith, append-nil, Contains, IsPermutation}
+use Rattle.std.proofs.Common.{◌≡◌, ℕ, zero, suc, ◌+◌, ◌-◌, ◌≤◌, inl, inr, List, [], ◌∷◌, length, map, refl, sym, ap, ◌∙◌, subst, arith, append-nil, Contains, IsPermutation}
 use Rattle.std.specs.List.{flat_map}
 use Rattle.std.proofs.lemmas.List.Sorted.{All-permutation, Contains-permutation, IsPermutation-sym, IsPermutation-map}
 use Rattle.std.proofs.lemmas.Bool.{cases_lt}
@@ -14,7 +14,7 @@ use Rattle.ovl_board.specs.Machine.{start_state}
 use Rattle.ovl_board.specs.Laws.{HasReachedPieces, KeepsBalance, OwnAssemble}
 use Rattle.ovl_board.proofs.CountLemmas.{times_rising, once, all_reached, all_there, IsPermutation-from_times}
 use Rattle.ovl_board.proofs.MachineLemmas.{start_kept, all_kept}
-use Rattle.ovl_board.proofs.LawsOfMembers.{All-Every, AllPairs-Rises, Contains-In, Every, Every-All, In, In-Contains, In-cases, In-flat_map, In-flat_map-cases, In-map, In-map-cases, Rises, Rises-AllPairs, Rises-flat_map, rising_same}
+use Rattle.ovl_board.proofs.LawsOfMembers.{All-Every, AllPairs-Rises, Contains-In, Every, Every-All, In, In-Contains, In-flat_map, In-flat_map-cases, In-map, In-map-cases, Rises, Rises-AllPairs, Rises-flat_map, rising_same}
 use Rattle.ovl_board.proofs.LawsOfPieces.{IsUnder, before_siblings, before_trans, before_under, length_below, less_differs, under_one}
 use Rattle.ovl_board.proofs.LawsOfCounts.{In-times, times-In}
 
@@ -250,22 +250,6 @@ module _ {O S : Type 0} (seen : O → S) (kids : Piece → List Piece) (out : Pi
         });
         own = own_permuted parcels assembled order.0 own;
       }
-
--- one more parcel with lawful kids
-pub lawful_more : {O : Type 0} (parcels : List (Parcel O)) (parcel : Parcel O) → AllLawful (bare parcels) → AreLawfulKids parcel.piece parcel.kids.items → AllLawful (bare (parcels ++ parcel ∷ []))
-lawful_more {O} parcels parcel all law = All-Every (λ (v : ParcelView (Unit {0})). AreLawfulKids v.piece v.kids) (bare (parcels ++ parcel ∷ [])) (λ v h. by v h)
-  where
-    by : (v : ParcelView (Unit {0})) → In v (bare (parcels ++ parcel ∷ [])) → AreLawfulKids v.piece v.kids
-    by v h =
-        let m = In-map-cases (parcel_view (λ (o : O). tt {0})) v (parcels ++ parcel ∷ []) h in
-        let Law : ParcelView (Unit {0}) → Type 0 = λ w. AreLawfulKids w.piece w.kids in
-        elim (In-cases m.0 parcels (parcel ∷ []) m.1.0) [
-          | inl i ↦ subst Law (sym m.1.1) (Every-All Law (bare parcels) all (parcel_view (λ (o : O). tt {0}) m.0) (In-map (parcel_view (λ (o : O). tt {0})) m.0 parcels i))
-          | inr i ↦ elim i [
-            | inl e ↦ subst Law (sym m.1.1) (subst (λ (c : Parcel O). AreLawfulKids c.piece c.kids.items) (sym e) law)
-            | inr none ↦ absurd none
-          ]
-        ]
 
 -- two ascending lists of pieces with the same members are one
 same_pieces : (ps qs : List Piece) → Rises IsBefore ps → Rises IsBefore qs → ((x : Piece) → In x ps → In x qs) → ((x : Piece) → In x qs → In x ps) → ps ≡ qs

@@ -1,6 +1,8 @@
 ghost use Rattle.std.specs.Prelude.{◌≡◌, ◌↔◌, ℕ, List, IfOk, IsTrue, All, AllPairs};
 ghost use Rattle.ovl_board.specs.declared.pieces.Piece.{Piece};
 ghost use Rattle.ovl_board.specs.Pieces.{IsBefore, IsOneBelow, AreLawfulKids, HasLawfulKids};
+ghost use Rattle.ovl_board.specs.Balance.{AllLawful};
+ghost use Rattle.ovl_board.specs.Assembly.{bare};
 
 use crate::pieces::Piece;
 use std::alloc::{AllocError, Global};
@@ -49,8 +51,20 @@ pub struct Parcel<T> {
     pub out: T,
 }
 
-/// Whether the kids of a parcel have its piece's space, lie one name below it and ascend strictly.
-pub fn kids_lawful<T>(parcel: &Parcel<T>) -> bool
+/// Whether the kids of each parcel have its piece's space, lie one name below it and ascend
+/// strictly.
+pub fn all_lawful<T>(parcels: &[Parcel<T>]) -> bool
+    ensures { IsTrue result ↔ AllLawful (bare parcels.now) }
+{
+    for parcel in parcels {
+        if !kids_lawful(parcel) {
+            return false;
+        }
+    }
+    true
+}
+
+fn kids_lawful<T>(parcel: &Parcel<T>) -> bool
     ensures { IsTrue result ↔ AreLawfulKids parcel.now.piece parcel.now.kids.items }
 {
     let below = all_below(&parcel.piece, &parcel.kids);

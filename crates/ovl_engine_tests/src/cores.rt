@@ -1,12 +1,9 @@
 //! The merged tree of a stack as the work of two workers, step by step.
-ghost use Rattle.std.specs.Prelude.{IfOk};
-ghost use Rattle.ovl_board.specs.Balance.{AllLawful};
-ghost use Rattle.ovl_board.specs.Assembly.{bare};
 
 use crate::samples::stack_of;
 use crate::tables::{expect_so, same};
 use crate::works::told;
-use ovl_board::{Core, CoreFault, Event, Parcel, Piece, assemble, kids_lawful};
+use ovl_board::{Core, CoreFault, Event, Parcel, Piece, all_lawful, assemble};
 use ovl_engine::ShowWork;
 use ovl_lookup::Stack;
 use ovl_names::Name;
@@ -30,24 +27,13 @@ fn shared(alloc: Global, stack: &Stack, steps: &[Event]) -> Result<String, Fail>
     }
 }
 
-// These parcels, each tested for lawful kids.
-fn checked<T: Drop>(alloc: Global, parcels: Vec<Parcel<T>>) -> Result<Vec<Parcel<T>>, Fail>
-    ensures { IfOk result (λ lawful. AllLawful (bare lawful.items)) }
-{
-    let mut lawful = Vec::new(alloc);
-    for parcel in parcels {
-        if !kids_lawful(&parcel) {
-            return Err(Fail::new("unlawful kids"));
-        }
-        lawful.push(parcel)?;
-    }
-    Ok(lawful)
-}
-
 // The pieces of parcels, and behind `=` those of the walk that is assembled from them.
 fn assembled<T: Drop>(alloc: Global, parcels: Vec<Parcel<Vec<(Name, T)>>>) -> Result<String, Fail> {
+    if !all_lawful(&parcels) {
+        return Err(Fail::new("unlawful kids"));
+    }
     let arrived = told(alloc, &parcels)?;
-    let walk = assemble(alloc, &Piece::root(alloc, 0), checked(alloc, parcels)?)?;
+    let walk = assemble(alloc, &Piece::root(alloc, 0), parcels)?;
     let walk = told(alloc, &walk)?;
     Ok(format!(in alloc; "{arrived}= {walk}")?)
 }

@@ -1,10 +1,6 @@
-ghost use Rattle.std.specs.Prelude.{IfOk};
-ghost use Rattle.ovl_board.specs.Balance.{AllLawful};
-ghost use Rattle.ovl_board.specs.Assembly.{bare};
-
-use crate::tables::{parts_of, same};
+use crate::tables::{expect_at, parts_of, same};
 use ovl_board::{
-    BoardFault, Core, CoreFault, Event, Parcel, Piece, Tree, assemble, kids_lawful, plain_walk,
+    BoardFault, Core, CoreFault, Event, Parcel, Piece, Tree, all_lawful, assemble, plain_walk,
 };
 use ovl_names::Path;
 use std::alloc::Global;
@@ -32,20 +28,6 @@ fn parcel(alloc: Global, text: &str, kids: &str) -> Result<Parcel<()>, Fail> {
         kids: pieces(alloc, kids)?,
         out: (),
     })
-}
-
-// These parcels, each tested for lawful kids.
-fn checked(alloc: Global, parcels: Vec<Parcel<()>>) -> Result<Vec<Parcel<()>>, Fail>
-    ensures { IfOk result (λ lawful. AllLawful (bare lawful.items)) }
-{
-    let mut lawful = Vec::new(alloc);
-    for parcel in parcels {
-        if !kids_lawful(&parcel) {
-            return Err(Fail::from("unlawful kids"));
-        }
-        lawful.push(parcel)?;
-    }
-    Ok(lawful)
 }
 
 // The parcels that the tree of `/`, `/a` and `/b` has at these paths.
@@ -93,7 +75,9 @@ const KIDS: &str = "\
 
 fn kids_told(alloc: Global, row: &str) -> Result<(), Fail> {
     let (kids, wanted) = parts_of(row);
-    let lawful = kids_lawful(&parcel(alloc, "/a", kids)?);
+    let mut parcels = small_parcels(alloc, "/")?;
+    parcels.push(parcel(alloc, "/a", kids)?)?;
+    let lawful = all_lawful(&parcels);
     same(row, if lawful { "true" } else { "false" }, wanted)
 }
 
@@ -152,8 +136,10 @@ fn fault_told(alloc: Global, fault: &BoardFault) -> Result<String, Fail> {
 // The order in which parcels of the tree of `/`, `/a` and `/b` are assembled, or the fault with its
 // piece.
 fn assembled(alloc: Global, parcels: Vec<Parcel<()>>) -> Result<String, Fail> {
-    let lawful = checked(alloc, parcels)?;
-    match assemble(alloc, &piece(alloc, "/")?, lawful) {
+    if !all_lawful(&parcels) {
+        return Err(Fail::from("unlawful kids"));
+    }
+    match assemble(alloc, &piece(alloc, "/")?, parcels) {
         Ok(parcels) => shown(alloc, &parcels),
         Err(fault) => fault_told(alloc, &fault),
     }
@@ -195,7 +181,7 @@ fn a_core_has_1_to_64_workers(rt: HostRuntime) -> Result<(), Fail> {
     let small = tree(rt.alloc(), "/ /a /b")?;
     for workers in [0, 1, 64, 65] {
         let is = is_refused(rt.alloc(), &small, workers)?;
-        assert!(rt; is == (workers == 0 || workers == 65), "at {workers}");
+        expect_at(workers, is == (workers == 0 || workers == 65))?;
     }
     Ok(())
 }

@@ -2,9 +2,10 @@ ghost use Rattle.std.specs.Prelude.{IfOk};
 ghost use Rattle.ovl_lanes.specs.Lanes.{IsOneLane, IsWhole};
 ghost use Rattle.ovl_lanes.specs.Seats.{IsNew};
 
+use crate::tables::{expect_at, expect_so, same};
 use ovl_board::Piece;
-use ovl_lanes::{LaneFault, Seat, close, lanes};
-use std::alloc::Global;
+use ovl_lanes::{Gathered, LaneFault, Seat, close, lanes};
+use std::alloc::{AllocError, Global};
 use std::test::Fail;
 
 /// The seat of one lane alone.
@@ -25,11 +26,16 @@ fn steal_once(seat: &mut Seat) -> Option<Piece>
     piece
 }
 
+// Whether so many lanes are refused.
+fn is_refused(alloc: Global, number: usize) -> bool {
+    lanes(alloc, number).err() == Some(LaneFault::Count)
+}
+
 #[test]
 fn there_are_1_to_64_lanes(rt: HostRuntime) -> Result<(), Fail> {
     for number in [0, 1, 64, 65] {
-        let is_refused = lanes(rt.alloc(), number).err() == Some(LaneFault::Count);
-        assert!(rt; is_refused == (number == 0 || number == 65), "at {number}");
+        let is = is_refused(rt.alloc(), number);
+        expect_at(number, is == (number == 0 || number == 65))?;
     }
     Ok(())
 }
@@ -41,26 +47,42 @@ fn space_of(piece: Option<Piece>) -> Option<u16> {
     }
 }
 
-#[test]
-fn a_lane_gives_its_first_piece_to_a_pass_or_to_its_owner(rt: HostRuntime) -> Result<(), Fail> {
-    let mut seat = seat(rt.alloc())?;
-    let first = seat.lane.push(Piece::root(rt.alloc(), 2)).is_ok();
-    let second = seat.lane.push(Piece::root(rt.alloc(), 1)).is_ok();
+// The spaces of what is stolen from a new lane with the roots of two spaces and of what its owner
+// takes then, and the lane's numbers after a third root.
+fn told(alloc: Global, mut seat: Seat) -> Result<String, AllocError>
+    requires { IsNew seat }
+{
+    let first = seat.lane.push(Piece::root(alloc, 2)).is_ok();
+    let second = seat.lane.push(Piece::root(alloc, 1)).is_ok();
     let stolen = space_of(steal_once(&mut seat));
     let popped = space_of(seat.lane.pop());
-    let third = seat.lane.push(Piece::root(rt.alloc(), 3)).is_ok();
-    let gathered = close(seat);
-    assert!(rt; first && second && third);
-    assert!(rt; (stolen, popped) == (Some(2), Some(1)));
-    assert!(rt; (gathered.pushed, gathered.taken, gathered.left) == (3, 2, 1));
-    Ok(())
+    let third = seat.lane.push(Piece::root(alloc, 3)).is_ok();
+    let Gathered {
+        pushed,
+        taken,
+        left,
+    } = close(seat);
+    format!(in alloc; "{first} {second} {third} {stolen:?} {popped:?} {pushed} {taken} {left}")
+}
+
+#[test]
+fn a_lane_gives_its_first_piece_to_a_pass_or_to_its_owner(rt: HostRuntime) -> Result<(), Fail> {
+    let found = told(rt.alloc(), seat(rt.alloc())?)?;
+    same(
+        "one lane",
+        found.as_str(),
+        "true true true Some(2) Some(1) 3 2 1",
+    )
+}
+
+// Whether neither the owner of a new lane nor a pass has anything of it.
+fn gives_nothing(mut seat: Seat) -> bool
+    requires { IsNew seat }
+{
+    seat.lane.pop().is_none() && steal_once(&mut seat).is_none()
 }
 
 #[test]
 fn an_empty_lane_gives_nothing(rt: HostRuntime) -> Result<(), Fail> {
-    let mut seat = seat(rt.alloc())?;
-    let popped = space_of(seat.lane.pop());
-    let stolen = space_of(steal_once(&mut seat));
-    assert!(rt; (popped, stolen) == (None, None));
-    Ok(())
+    expect_so(gives_nothing(seat(rt.alloc())?))
 }

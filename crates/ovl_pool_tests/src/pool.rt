@@ -2,7 +2,7 @@ ghost use Rattle.std.specs.Prelude.{◌≡◌, []};
 ghost use Rattle.ovl_board.specs.Trees.{tree_kids, deepest_path};
 
 use crate::board::{piece, tree};
-use crate::tables::{parts_of, same};
+use crate::tables::{expect_at, expect_so, parts_of, same};
 use ovl_board::{Piece, Tree, Work};
 use ovl_pool::{Gate, OpenGate, RunFault, Tally, run};
 use std::alloc::{AllocError, Global};
@@ -209,6 +209,13 @@ impl Witness for Turns {
     }
 }
 
+// The deep tree, where the visits of all pieces have their turns.
+fn turning_tree(alloc: Global) -> Result<Watched<Turns>, Fail> {
+    let tree = tree(alloc, DEEP)?;
+    let witness = Turns::of(alloc, DEEP)?;
+    Ok(Watched { tree, witness })
+}
+
 fn is_in_turn<R: Threads + Wait + Sync>(
     rt: &R,
     alloc: Global,
@@ -222,14 +229,8 @@ fn is_in_turn<R: Threads + Wait + Sync>(
 #[test]
 fn the_gate_is_asked_once_for_each_piece_before_its_visit(rt: HostRuntime) -> Result<(), Fail> {
     for workers in [1, 2, 7] {
-        let work = Watched {
-            tree: tree(rt.alloc(), DEEP)?,
-            witness: Turns::of(rt.alloc(), DEEP)?,
-        };
-        assert!(rt;
-            is_in_turn(&rt, rt.alloc(), &work, workers)?,
-            "at {workers}"
-        );
+        let work = turning_tree(rt.alloc())?;
+        expect_at(workers, is_in_turn(&rt, rt.alloc(), &work, workers)?)?;
     }
     Ok(())
 }
@@ -295,9 +296,8 @@ fn ends_refused<R: Threads + Wait + Sync>(
 fn the_others_end_once_a_worker_is_refused(rt: HostRuntime) -> Result<(), Fail> {
     let work = tree(rt.alloc(), DEEP)?;
     let gate = Refusing::of(rt.alloc(), "/b/c/d/e/f/g/h/i/j")?;
-    assert!(rt; ends_refused(&rt, rt.alloc(), &work, &gate)?);
-    assert!(rt; !gate.was_asked_for_last.load(Ordering::SeqCst));
-    Ok(())
+    let is = ends_refused(&rt, rt.alloc(), &work, &gate)?;
+    expect_so(is && !gate.was_asked_for_last.load(Ordering::SeqCst))
 }
 
 // A visited place: whether its visit began, and whether it saw the other one's begin.
@@ -377,7 +377,7 @@ fn several_workers_visit_at_the_same_time(rt: HostRuntime) -> Result<(), Fail> {
     for workers in [1, 2, 4] {
         let work = meeting_tree(rt.alloc())?;
         let seen = visited(&rt, rt.alloc(), &work, workers)?;
-        assert!(rt; seen == (workers > 1, true), "at {workers}");
+        expect_at(workers, seen == (workers > 1, true))?;
     }
     Ok(())
 }

@@ -14,3 +14,19 @@ pub(crate) fn same(row: &str, found: &str, wanted: &str) -> Result<(), Fail> {
     }
     Err(Fail::new(format_args!("{row}: found {found:?}")))
 }
+
+/// A failure where this isn't so.
+pub(crate) fn expect_so(is: bool) -> Result<(), Fail> {
+    if is {
+        return Ok(());
+    }
+    Err(Fail::new("it isn't so"))
+}
+
+/// A failure where this isn't so of a number.
+pub(crate) fn expect_at(number: usize, is: bool) -> Result<(), Fail> {
+    if is {
+        return Ok(());
+    }
+    Err(Fail::new(format_args!("it isn't so at {number}")))
+}

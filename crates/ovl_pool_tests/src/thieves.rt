@@ -6,6 +6,7 @@ ghost use Rattle.ovl_lanes.specs.Lanes.{account_of, thief_id, IsPass, IsSameLane
 ghost use Rattle.ovl_lanes.specs.Seats.{IsNew};
 
 use crate::lanes::seat;
+use crate::tables::expect_so;
 use ovl_board::Piece;
 use ovl_lanes::{Gathered, Lane, Pass, Seat, Thief, close};
 use std::alloc::{AllocError, Global};
@@ -152,6 +153,14 @@ fn hammered<R: Threads + Sync>(
     Ok((close(seat), stolen))
 }
 
+// Whether all pieces were pushed, so many of them taken, and the others left.
+fn are_all(gathered: &Gathered, stolen: usize) -> bool {
+    let all = u64::from(PIECES);
+    gathered.pushed == all
+        && gathered.taken + gathered.left == all
+        && gathered.taken == stolen as u64
+}
+
 // Whether no piece is there twice.
 fn are_different(pieces: &mut Vec<Piece>) -> Result<bool, AllocError> {
     let number = pieces.len();
@@ -163,8 +172,5 @@ fn are_different(pieces: &mut Vec<Piece>) -> Result<bool, AllocError> {
 #[test]
 fn no_piece_is_lost_or_stolen_twice(rt: HostRuntime) -> Result<(), Fail> {
     let (gathered, mut stolen) = hammered(&rt, rt.alloc(), seat(rt.alloc())?)?;
-    assert!(rt; gathered.taken == stolen.len() as u64);
-    assert!(rt; (gathered.pushed, gathered.taken + gathered.left) == (10_000, 10_000));
-    assert!(rt; are_different(&mut stolen)?);
-    Ok(())
+    expect_so(are_all(&gathered, stolen.len()) && are_different(&mut stolen)?)
 }

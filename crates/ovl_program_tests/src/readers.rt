@@ -79,6 +79,6 @@ fn an_input_is_read_up_to_its_limit(rt: HostRuntime) -> Result<(), Fail> {
 fn an_input_is_read_whole_whatever_is_expected(rt: HostRuntime) -> Result<(), Fail> {
     let mut input = Cursor::new(b"abc".as_slice());
     let read = read_expected(rt.alloc(), &mut input, INPUT_LIMIT, u64::MAX)?;
-    assert_eq!(rt; read.as_slice(), b"abc".as_slice());
-    Ok(())
+    let found = format!(in rt.alloc(); "{read:?}")?;
+    same("abc", found.as_str(), "[97, 98, 99]")
 }

@@ -1,11 +1,8 @@
 //! Walks of a work, its machine of steps, lanes, and runs by several workers.
-ghost use Rattle.std.specs.Prelude.{IfOk};
-ghost use Rattle.ovl_board.specs.Balance.{AllLawful};
-ghost use Rattle.ovl_board.specs.Assembly.{bare};
 
 use crate::samples::expect_so;
 use ovl_board::{
-    BoardFault, Core, CoreFault, Event, Parcel, Piece, Tree, assemble, copies, kids_lawful,
+    BoardFault, Core, CoreFault, Event, Parcel, Piece, Tree, all_lawful, assemble, copies,
     plain_walk, sort_parcels,
 };
 use ovl_lanes::{LaneFault, lanes};
@@ -79,22 +76,11 @@ fn is_sorted(alloc: Global, work: &Tree) -> Result<bool, AllocError> {
     Ok(is && plain_walk(alloc, work, Piece::root(alloc, 0))? == parcels)
 }
 
-// These parcels, each tested for lawful kids.
-fn checked(alloc: Global, parcels: Vec<Parcel<()>>) -> Result<Vec<Parcel<()>>, AllocError>
-    ensures { IfOk result (λ lawful. AllLawful (bare lawful.items)) }
-{
-    let mut lawful = Vec::new(alloc);
-    for parcel in parcels {
-        if !kids_lawful(&parcel) {
-            return Err(AllocError);
-        }
-        lawful.push(parcel)?;
-    }
-    Ok(lawful)
-}
-
 fn is_assembled(alloc: Global, work: &Tree) -> Result<bool, BoardFault> {
-    let parcels = checked(alloc, reversed(alloc, work)?)?;
+    let parcels = reversed(alloc, work)?;
+    if !all_lawful(&parcels) {
+        return Ok(false);
+    }
     let assembled = assemble(alloc, &Piece::root(alloc, 0), parcels)?;
     Ok(plain_walk(alloc, work, Piece::root(alloc, 0))? == assembled)
 }

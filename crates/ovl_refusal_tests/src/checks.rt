@@ -5,7 +5,7 @@ ghost use Rattle.ovl_check.specs.Checks.{check_seen};
 ghost use Rattle.ovl_check.specs.CheckViews.{check_view};
 ghost use Rattle.ovl_check.specs.Walks.{AreLayerWalks};
 
-use crate::samples::{DOUBLE, MOVED, expect_so, stack_of};
+use crate::samples::{DOUBLE, expect_so, moved_stack, stack_of};
 use ovl_board::{Parcel, Piece, plain_walk};
 use ovl_check::{
     BLOB_SPACE, Blob, BlobWork, CheckOut, CheckWork, Finding, blobs_in_order, finish_blobs,
@@ -90,14 +90,14 @@ fn blobs_of(alloc: Global) -> Result<Vec<Blob>, AllocError> {
 
 #[test]
 fn a_stack_is_checked(rt: HostRuntime) -> Result<(), Fail> {
-    let stack = stack_of(rt.alloc(), MOVED)?;
+    let stack = moved_stack(rt.alloc())?;
     let wanted = "BlobMissing 1 /m; BlobMissing 1 /n/z; BlobMissing 1 /x/k; ";
     expect_so(again!(is_found(rt.alloc(), &stack, wanted), AllocError)?)
 }
 
 #[test]
 fn the_blob_of_three_files_is_named_once(rt: HostRuntime) -> Result<(), Fail> {
-    let stack = stack_of(rt.alloc(), MOVED)?;
+    let stack = moved_stack(rt.alloc())?;
     expect_so(again!(is_named(rt.alloc(), &stack), AllocError)?)
 }
 

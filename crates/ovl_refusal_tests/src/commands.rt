@@ -37,110 +37,54 @@ impl Contents for Nothing {
     }
 }
 
-// What a command answers of manifests that it is lent.
-fn lent_answer<R: Threads + Wait + Sync>(
+// Whether a command answers the same of manifests that it is lent as of its own.
+fn is_lent<R: Threads + Wait + Sync>(
     rt: &R,
     alloc: Global,
     what: Command,
-    workers: usize,
-) -> Result<Answer, EngineFault> {
-    let blobs = blobs_of(alloc, "a")?;
-    let own = manifests_of(alloc, MOVED)?;
-    let lent = own.as_slice();
-    command(rt, alloc, what, lent, 0, &blobs, workers, &OpenGate)
-}
-
-// What it answers of the same as its own.
-fn own_answer<R: Threads + Wait + Sync>(
-    rt: &R,
-    alloc: Global,
-    what: Command,
-    workers: usize,
-) -> Result<Answer, EngineFault> {
-    let blobs = blobs_of(alloc, "a")?;
-    let own = manifests_of(alloc, MOVED)?;
-    command(rt, alloc, what, own, 0, &blobs, workers, &OpenGate)
-}
-
-// Whether a command answers a report with this end, by each call that gives one.
-fn is_answered<R: Threads + Wait + Sync>(
-    rt: &R,
-    alloc: Global,
-    what: Command,
-    workers: usize,
-    end: &str,
-) -> Result<bool, EngineFault> {
-    let answer = lent_answer(rt, alloc, what, workers)?;
-    Ok(ends_so(&answer.report, end) && own_answer(rt, alloc, what, workers)? == answer)
-}
-
-fn is_answered_over<R: Threads + Wait + Sync>(
-    rt: &R,
-    alloc: Global,
-    what: Command,
-    workers: usize,
-    end: &str,
-) -> Result<bool, CommandFault<AllocError>> {
-    let manifests = manifests_of(alloc, MOVED)?;
-    let answer = command_over(rt, alloc, what, manifests, 0, &Nothing, workers, &OpenGate)?;
-    Ok(answer.report.ends_with(end.as_bytes()))
-}
-
-// The end of each command's report.
-const ENDS: &str = "\
-show: entries 6
-fsck: faults 0 notes 0
-vacuum: removed 1 kept 5
-deref: entries 7
-merge: entries 6
-flatten: entries 6
-";
-
-fn is_line_answered<R: Threads + Wait + Sync>(
-    rt: &R,
-    alloc: Global,
-    line: &str,
     workers: usize,
 ) -> Result<bool, EngineFault> {
-    let (word, end) = line.split_once(": ").unwrap_or((line, ""));
-    let Some(what) = command_of_word(word) else {
-        return Ok(false);
-    };
-    again!(
-        is_answered(rt, alloc, what, workers, end),
-        EngineFault::Memory
-    )
+    let blobs = blobs_of(alloc, MOVED.blobs)?;
+    let own = manifests_of(alloc, MOVED.manifests)?;
+    let lent = command(
+        rt,
+        alloc,
+        what,
+        own.as_slice(),
+        0,
+        &blobs,
+        workers,
+        &OpenGate,
+    )?;
+    Ok(lent == command(rt, alloc, what, own, 0, &blobs, workers, &OpenGate)?)
 }
 
-fn are_answered<R: Threads + Wait + Sync>(
+fn expect_lent<R: Threads + Wait + Sync>(
     rt: &R,
     alloc: Global,
+    what: Command,
     workers: usize,
 ) -> Result<(), Fail> {
-    for line in ENDS.lines() {
-        expect_so(is_line_answered(rt, alloc, line, workers)?)?;
+    expect_so(again!(is_lent(rt, alloc, what, workers), EngineFault::Memory)?)
+}
+
+#[test]
+fn lent_manifests_are_answered_as_own_ones(rt: HostRuntime) -> Result<(), Fail> {
+    for (what, _) in MOVED.ends {
+        expect_lent(&rt, rt.alloc(), what, 1)?;
+        expect_lent(&rt, rt.alloc(), what, 2)?;
     }
     Ok(())
 }
 
-#[test]
-fn commands_are_answered_by_one_worker(rt: HostRuntime) -> Result<(), Fail> {
-    are_answered(&rt, rt.alloc(), 1)
-}
-
-#[test]
-fn commands_are_answered_by_two_workers(rt: HostRuntime) -> Result<(), Fail> {
-    are_answered(&rt, rt.alloc(), 2)
-}
-
 fn three_manifests(alloc: Global) -> Result<Vec<Vec<u8>>, AllocError> {
     let mut three = manifests_of(alloc, ROOT)?;
-    three.append(&mut manifests_of(alloc, MOVED)?)?;
+    three.append(&mut manifests_of(alloc, MOVED.manifests)?)?;
     Ok(three)
 }
 
 fn merged<R: Threads + Wait + Sync>(rt: &R, alloc: Global) -> Result<Answer, EngineFault> {
-    let blobs = blobs_of(alloc, "a")?;
+    let blobs = blobs_of(alloc, MOVED.blobs)?;
     let manifests = three_manifests(alloc)?;
     merge_down(rt, alloc, manifests, 0, &blobs, 1, 2, &OpenGate)
 }
@@ -159,6 +103,18 @@ fn is_merged_down<R: Threads + Wait + Sync>(rt: &R, alloc: Global) -> Result<boo
 #[test]
 fn three_layers_are_merged_down(rt: HostRuntime) -> Result<(), Fail> {
     expect_so(again!(is_merged_down(&rt, rt.alloc()), EngineFault::Memory)?)
+}
+
+fn is_answered_over<R: Threads + Wait + Sync>(
+    rt: &R,
+    alloc: Global,
+    what: Command,
+    workers: usize,
+    end: &str,
+) -> Result<bool, CommandFault<AllocError>> {
+    let manifests = manifests_of(alloc, MOVED.manifests)?;
+    let answer = command_over(rt, alloc, what, manifests, 0, &Nothing, workers, &OpenGate)?;
+    Ok(answer.report.ends_with(end.as_bytes()))
 }
 
 fn are_over_contents<R: Threads + Wait + Sync>(
@@ -248,45 +204,19 @@ fn ends<R: Threads + Wait + Sync>(
     }
 }
 
-fn command_of_word(word: &str) -> Option<Command> {
-    match word {
-        "show" => Some(Command::Show),
-        "fsck" => Some(Command::Fsck),
-        "vacuum" => Some(Command::Vacuum),
-        "deref" => Some(Command::Deref),
-        "merge" => Some(Command::Merge),
-        "flatten" => Some(Command::Flatten),
-        _ => None,
-    }
-}
-
-// Whether a command of a sample ends as its line says, a second time where it was out of memory.
-fn line_ends<R: Threads + Wait + Sync>(
-    rt: &R,
-    alloc: Global,
-    sample: Sample,
-    workers: usize,
-    line: &str,
-) -> Result<bool, EngineFault> {
-    let (word, end) = line.split_once(": ").unwrap_or((line, ""));
-    let Some(what) = command_of_word(word) else {
-        return Ok(false);
-    };
-    again!(
-        ends(rt, alloc, what, sample, workers, end),
-        EngineFault::Memory
-    )
-}
-
-// A failure where a command of a sample doesn't end as its line says.
+// A failure where a command of a sample doesn't end as it says.
 fn all_end<R: Threads + Wait + Sync>(
     rt: &R,
     alloc: Global,
     sample: Sample,
     workers: usize,
 ) -> Result<(), Fail> {
-    for line in sample.ends.lines() {
-        expect_so(line_ends(rt, alloc, sample, workers, line)?)?;
+    for (what, end) in sample.ends {
+        let is = again!(
+            ends(rt, alloc, what, sample, workers, end),
+            EngineFault::Memory
+        );
+        expect_so(is?)?;
     }
     Ok(())
 }

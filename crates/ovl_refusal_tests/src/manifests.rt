@@ -71,7 +71,7 @@ fn is_made(alloc: Global, manifest: &str) -> Result<bool, LayerFault> {
 #[test]
 fn layers_are_told(rt: HostRuntime) -> Result<(), Fail> {
     let alloc = rt.alloc();
-    for manifest in MOVED.lines() {
+    for manifest in MOVED.manifests.lines() {
         expect_so(again!(is_layer_told(alloc, manifest), LayerFault::Memory)?)?;
     }
     Ok(())
@@ -80,7 +80,7 @@ fn layers_are_told(rt: HostRuntime) -> Result<(), Fail> {
 #[test]
 fn sheets_are_told(rt: HostRuntime) -> Result<(), Fail> {
     let alloc = rt.alloc();
-    for manifest in MOVED.lines() {
+    for manifest in MOVED.manifests.lines() {
         expect_so(again!(is_sheet_told(alloc, manifest), LayerFault::Memory)?)?;
         expect_so(again!(is_made(alloc, manifest), LayerFault::Memory)?)?;
     }

@@ -1,9 +1,0 @@
-use Rattle.ovl_board.specs.Balance.{AllLawful}
-use Rattle.ovl_board.specs.Assembly.{bare}
-use Rattle.ovl_refusal_tests.proofs.board.checked.Given as goal
-
-abbrev pub invariant-loop-parcel : goal.invariant-loop-parcel
-invariant-loop-parcel l =
-    goal.iterator-loop-parcel.can_next l.parcel-iterator
-    × goal.iterator-loop-parcel.is_finite l.parcel-iterator
-    × AllLawful (bare l.lawful.items)
