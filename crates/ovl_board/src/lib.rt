@@ -20,4 +20,4 @@ pub use events::{CoreFault, Event};
 pub use pieces::{Piece, copies};
 pub use plain::plain_walk;
 pub use trees::{Tree, TreeFault};
-pub use works::{Parcel, Work, all_lawful};
+pub use works::{Parcel, Work, all_lawful, kids_lawful};

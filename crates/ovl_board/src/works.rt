@@ -51,8 +51,7 @@ pub struct Parcel<T> {
     pub out: T,
 }
 
-/// Whether the kids of each parcel have its piece's space, lie one name below it and ascend
-/// strictly.
+/// Whether the kids of each parcel are lawful, as [`kids_lawful`] tells of one.
 pub fn all_lawful<T>(parcels: &[Parcel<T>]) -> bool
     ensures { IsTrue result ↔ AllLawful (bare parcels.now) }
 {
@@ -64,7 +63,8 @@ pub fn all_lawful<T>(parcels: &[Parcel<T>]) -> bool
     true
 }
 
-fn kids_lawful<T>(parcel: &Parcel<T>) -> bool
+/// Whether the kids of a parcel have its piece's space, lie one name below it and ascend strictly.
+pub fn kids_lawful<T>(parcel: &Parcel<T>) -> bool
     ensures { IsTrue result ↔ AreLawfulKids parcel.now.piece parcel.now.kids.items }
 {
     let below = all_below(&parcel.piece, &parcel.kids);

@@ -1,6 +1,7 @@
 use crate::tables::{expect_at, parts_of, same};
 use ovl_board::{
-    BoardFault, Core, CoreFault, Event, Parcel, Piece, Tree, all_lawful, assemble, plain_walk,
+    BoardFault, Core, CoreFault, Event, Parcel, Piece, Tree, all_lawful, assemble, kids_lawful,
+    plain_walk,
 };
 use ovl_names::Path;
 use std::alloc::Global;
@@ -75,9 +76,7 @@ const KIDS: &str = "\
 
 fn kids_told(alloc: Global, row: &str) -> Result<(), Fail> {
     let (kids, wanted) = parts_of(row);
-    let mut parcels = small_parcels(alloc, "/")?;
-    parcels.push(parcel(alloc, "/a", kids)?)?;
-    let lawful = all_lawful(&parcels);
+    let lawful = kids_lawful(&parcel(alloc, "/a", kids)?);
     same(row, if lawful { "true" } else { "false" }, wanted)
 }
 
