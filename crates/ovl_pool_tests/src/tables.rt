@@ -2,19 +2,6 @@
 
 use std::test::Fail;
 
-/// The words of a row, and what is wanted of it.
-pub(crate) fn parts_of(row: &str) -> (&str, &str) {
-    row.split_once(" -> ").unwrap_or((row, ""))
-}
-
-/// A failure where something else was found than is wanted of a row.
-pub(crate) fn same(row: &str, found: &str, wanted: &str) -> Result<(), Fail> {
-    if found == wanted {
-        return Ok(());
-    }
-    Err(Fail::new(format_args!("{row}: found {found:?}")))
-}
-
 /// A failure where this isn't so.
 pub(crate) fn expect_so(is: bool) -> Result<(), Fail> {
     if is {
@@ -29,4 +16,17 @@ pub(crate) fn expect_at(number: usize, is: bool) -> Result<(), Fail> {
         return Ok(());
     }
     Err(Fail::new(format_args!("it isn't so at {number}")))
+}
+
+/// The words of a row, and what is wanted of it.
+pub(crate) fn parts_of(row: &str) -> (&str, &str) {
+    row.split_once(" -> ").unwrap_or((row, ""))
+}
+
+/// A failure where something else was found than is wanted of a row.
+pub(crate) fn same(row: &str, found: &str, wanted: &str) -> Result<(), Fail> {
+    if found == wanted {
+        return Ok(());
+    }
+    Err(Fail::new(format_args!("{row}: found {found:?}")))
 }
