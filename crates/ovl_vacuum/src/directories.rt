@@ -31,7 +31,8 @@ pub(crate) struct TopDirectory<'a> {
 }
 
 impl<'a> TopDirectory<'a> {
-    /// The directory that the topmost layer has at a piece's path, and `None` where it has none.
+    /// The directory that the topmost layer has at a piece's path, and `None` where it has none or
+    /// nothing in it.
     pub(crate) fn of(
         alloc: Global,
         stack: &'a Stack,
@@ -49,6 +50,9 @@ impl<'a> TopDirectory<'a> {
             turned,
             closed,
         } = own;
+        if stack.top().kids(row).is_empty() {
+            return Ok(None);
+        }
         let below = view_below(alloc, stack, &piece.dir, turned, closed)?;
         Ok(Some(TopDirectory {
             stack,
