@@ -1,8 +1,9 @@
 -- What is left out of a squeezed text is part of no token.
-use Rattle.std.proofs.Common.{◌≡◌, ℕ, zero, suc, ◌+◌, ◌-◌, ◌<◌, ◌≤◌, Bool, true, false, not, cond, ◌||◌, ◌&&◌, ◌==◌, nat_lt, List, [], ◌∷◌, ◌++◌, length, take, drop, get_or, Some, None, option_and_then, refl, sym, ap, ap₂, ◌∙◌, arith, append_assoc}
+use Rattle.std.proofs.Common.{◌≡◌, ℕ, zero, suc, ◌+◌, ◌-◌, ◌<◌, ◌≤◌, Bool, true, false, not, cond, ◌||◌, ◌&&◌, ◌==◌, nat_lt, List, [], ◌∷◌, ◌++◌, length, take, drop, get_or, Some, None, option_and_then, refl, sym, ap, ap₂, ◌∙◌, subst, arith, ltb-true, append_assoc}
 use Rattle.std.proofs.Math.Seq.{take-suc, drop-append_seam}
 use Rattle.std.proofs.lemmas.Bool.{true≢false, eqb-true}
-use Rattle.std.proofs.lemmas.List.{append-nil, drop_more, drop_all, take_all, take-append-drop, length-drop, get_or-drop, length-take-le, drop-append-le, drop-take}
+use Rattle.std.proofs.lemmas.Bool.Decides.{nat_tests}
+use Rattle.std.proofs.lemmas.List.{append-nil, drop_more, drop_all, take_all, take-append-drop, length-drop, get_or-drop, length-take-le, take-take, drop-append-le, drop-take}
 use Rattle.json.specs.Text.{content, plain, after_backslash, after_u, prepend, short_escape}
 use Rattle.json.specs.Word.{is_operator, is_space, ends_word, word}
 use Rattle.json.specs.Run.{is_stop}
@@ -364,6 +365,10 @@ word-begins d p h g = ap (λ l. ends_word (squeezed between l)) (drop_more d p 0
     by false e false k true f = ap ends_word (byte-at between x rest operator (is_class false false true e k f)) ∙ same_first x (squeezed between rest) g
     by false e false k false f = ap ends_word (byte-at between x rest other (is_class false false false e k f)) ∙ same_first x (squeezed in_word rest) g
 
+pub none-begins : (d : List ℕ) (p : ℕ) → length d ≤ p → ends_word (squeezed between (drop p d)) ≡ true
+unfolding squeezed
+none-begins d p h = ap (λ l. ends_word (squeezed between l)) (drop_all p d h)
+
 -- ---- the text so far
 
 -- what was copied, and what comes behind it, are the squeezed text
@@ -386,13 +391,31 @@ behind-is true more = by (ends_word more)
     by true = refl
     by false = refl
 
+-- behind a word's end, where no space is, no other word begins
+whole-at : (d : List ℕ) (p : ℕ) (is_word : Bool) → is_space (get_or d p 0) ≡ false → (is_word ≡ true → p < length d → (is_operator (get_or d p 0) || is_space (get_or d p 0)) ≡ true)
+    → (is_word && not (ends_word (squeezed between (drop p d)))) ≡ false
+whole-at d p false g ends = refl
+whole-at d p true g ends = by (nat_lt p (length d)) refl
+  where
+    x : ℕ
+    x = get_or d p 0
+
+    no-space : (o : Bool) → (o || is_space x) ≡ o
+    no-space true = refl
+    no-space false = g
+
+    by : (b : Bool) → nat_lt p (length d) ≡ b → not (ends_word (squeezed between (drop p d))) ≡ false
+    by true e = let h : p < length d = ltb-true p (length d) e in ap not (word-begins d p h g ∙ (sym (no-space (is_operator x)) ∙ ends refl h))
+    by false e = let h : length d ≤ p = grind (arith, nat_tests) in ap not (none-begins d p h)
+
 -- a lexeme behind which nothing is left out
 pub not_copied : (d own : List ℕ) (from place end next : ℕ) (is_word : Bool) → SqueezedTo d own from place
     → take end d ++ behind_piece is_word (squeezed between (drop end d)) ≡ Along between d place
-    → next ≡ end → (is_word && not (ends_word (squeezed between (drop next d)))) ≡ false → SqueezedTo d own from next
-not_copied d own from place end next is_word so_far lexeme same whole =
+    → next ≡ end → is_space (get_or d next 0) ≡ false → (is_word ≡ true → end < length d → (is_operator (get_or d end 0) || is_space (get_or d end 0)) ≡ true) → SqueezedTo d own from next
+not_copied d own from place end next is_word so_far lexeme same g ends =
     let more = squeezed between (drop end d) in
-    let kept_all : behind_piece is_word more ≡ more = behind-is is_word more ∙ ap (λ b. cond b (32 ∷ more) more) (ap (λ n. is_word && not (ends_word (squeezed between (drop n d)))) (sym same) ∙ whole) in
+    let whole = whole-at d end is_word (subst (λ n. is_space (get_or d n 0) ≡ false) same g) ends in
+    let kept_all : behind_piece is_word more ≡ more = behind-is is_word more ∙ ap (λ b. cond b (32 ∷ more) more) whole in
     ap (λ n. own ++ drop from (Along between d n)) same
     ∙ (ap (λ l. own ++ drop from l) (ap (λ l. take end d ++ l) (sym kept_all) ∙ lexeme) ∙ so_far)
 
@@ -429,12 +452,21 @@ ended d own piece new from place so_far end is_piece is_new =
     let whole : Along between d place ≡ d = ap (λ l. take place d ++ squeezed between l) (drop_all place d end) ∙ (append-nil (take place d) ∙ take_all place d end) in
     ap tokens (is_new ∙ (ap (λ l. own ++ l) (is_piece ∙ ap (drop from) (sym whole)) ∙ so_far)) ∙ tokens-squeezed d
 
-pub none-begins : (d : List ℕ) (p : ℕ) → length d ≤ p → ends_word (squeezed between (drop p d)) ≡ true
-unfolding squeezed
-none-begins d p h = ap (λ l. ends_word (squeezed between l)) (drop_all p d h)
-
 pub string-left : (d : List ℕ) (p : ℕ) → length d ≤ p → Along between d p ≡ Along in_string d p
 unfolding squeezed
 string-left d p h =
     let none = drop_all p d h in
     ap (λ l. take p d ++ squeezed between l) none ∙ sym (ap (λ l. take p d ++ squeezed in_string l) none)
+
+-- ---- copies
+
+take-append-add : (xs ys : List ℕ) (n : ℕ) → take (length xs + n) (xs ++ ys) ≡ xs ++ take n ys
+take-append-add [] ys n = let same : 0 + n ≡ n = omega arith in ap (λ k. take k ys) same
+take-append-add (x ∷ xs) ys n = let same : suc (length xs) + n ≡ suc (length xs + n) = omega arith in ap (λ k. take k (x ∷ (xs ++ ys))) same ∙ ap (λ l. x ∷ l) (take-append-add xs ys n)
+
+-- less of a copy than was made
+pub cut_back : (new old run : List ℕ) (count done n : ℕ) → n ≤ done → count ≤ length old → take (count + done) new ≡ take count old ++ take done run → take (count + n) new ≡ take count old ++ take n run
+cut_back new old run count done n le within e =
+    let long = length-take-le count old within in
+    sym (take-take (count + n) (count + done) new (omega arith)) ∙ ap (take (count + n)) e ∙ ap (λ j. take (j + n) (take count old ++ take done run)) (sym long)
+    ∙ take-append-add (take count old) (take done run) n ∙ ap (λ x. take count old ++ x) (take-take n done run le)

@@ -1,5 +1,5 @@
 //! Texts without the white space between their tokens.
-ghost use Rattle.std.specs.Prelude.{◌≡◌, ◌<◌, ◌≤◌, true, false, ◌&&◌, not, [], ◌∷◌, ◌++◌, if◌then◌else◌, IfOk, OnOk, length, take, drop, get_or};
+ghost use Rattle.std.specs.Prelude.{◌≡◌, ◌+◌, ◌-◌, ◌<◌, ◌≤◌, true, false, ◌&&◌, ◌||◌, not, [], ◌∷◌, ◌++◌, if◌then◌else◌, IfOk, length, take, drop, get_or};
 ghost use Rattle.json.specs.Lex.{tokens, between, in_word, in_string};
 ghost use Rattle.json.specs.Word.{ends_word};
 ghost use Rattle.json.specs.Word as word;
@@ -7,6 +7,7 @@ ghost use Rattle.ovl_json.specs.Squeezed.{behind_piece, squeezed as squeezed_in}
 
 use crate::plain_runs::plain_length;
 use std::alloc::{AllocError, Global};
+use std::simd::prelude::*;
 
 /// A text with the same tokens, without the white space that stands between these. Of a text that
 /// isn't JSON some may stay, and all that comes after a `\u` in a string. Fails only when out of
@@ -14,21 +15,34 @@ use std::alloc::{AllocError, Global};
 pub fn squeezed(alloc: Global, text: &[u8]) -> Result<Vec<u8>, AllocError>
     ensures { IfOk result (λ own. tokens own.items ≡ tokens text.now) }
 {
-    let mut own = Vec::with_capacity(alloc, text.len())?;
+    let mut own = Vec::new(alloc);
+    own.resize(text.len(), 0)?;
+    let count = squeeze_into(own.as_mut_slice(), text);
+    own.truncate(count);
+    Ok(own)
+}
+
+// Writes such a text to the front of bytes that are as many as the text's own, and gives how long
+// it is.
+fn squeeze_into(own: &mut [u8], text: &[u8]) -> usize
+    requires { length own.old ≡ length text.now }
+    ensures { tokens (take result own.new) ≡ tokens text.now }
+{
     let mut place = space_end(text, 0);
-    // What comes from here to the place isn't copied yet.
+    // What comes from here to the place isn't copied yet; so many bytes are.
     let mut from = place;
+    let mut count = 0;
     while place < text.len() {
         let (end, is_word) = lexeme_end(text, place);
         place = space_end(text, end);
-        let is_parted = is_word_behind(text, place, is_word);
-        if place > end || is_parted {
-            push_piece(&mut own, &text[from..end], is_parted)?;
+        if place > end {
+            let is_parted = is_word_behind(text, place, is_word);
+            count = put_piece(own, count, text, from, end, is_parted);
             from = place;
         }
     }
-    own.extend_from_slice(&text[from..])?;
-    Ok(own)
+    put_run(own, count, text, from, text.len());
+    count + (text.len() - from)
 }
 
 // Where the lexeme ends that begins at a place, and whether it is a word.
@@ -41,6 +55,9 @@ fn lexeme_end(text: &[u8], place: usize) -> (usize, bool)
     ensures kept { take result.0 text.now
         ++ behind_piece result.1 (squeezed_in between (drop result.0 text.now))
         ≡ take place text.now ++ squeezed_in between (drop place text.now) }
+    ensures ends { result.1 ≡ true → result.0 < length text.now
+        → (word.is_operator (get_or text.now result.0 0)
+        || word.is_space (get_or text.now result.0 0)) ≡ true }
 {
     let byte = text[place];
     if byte == b'"' {
@@ -88,6 +105,9 @@ fn word_end(text: &[u8], from: usize) -> usize
     ensures kept { take result text.now
         ++ behind_piece true (squeezed_in between (drop result text.now))
         ≡ take from text.now ++ squeezed_in in_word (drop from text.now) }
+    ensures ends { result < length text.now
+        → (word.is_operator (get_or text.now result 0) || word.is_space (get_or text.now result 0))
+        ≡ true }
 {
     let mut place = from;
     while place < text.len() && !is_operator(text[place]) && !is_space(text[place]) {
@@ -127,16 +147,54 @@ fn is_word_behind(text: &[u8], place: usize, is_word: bool) -> bool
     place < text.len() && !is_operator(text[place])
 }
 
-// Copies a piece, and a space behind it where that parts it from a word.
-fn push_piece(own: &mut Vec<u8>, piece: &[u8], is_parted: bool) -> Result<(), AllocError>
-    ensures { OnOk result
-        (own.new.items ≡ (own.old.items ++ piece.now) ++ (if is_parted then 32 ∷ [] else [])) }
+// Copies a piece of a text behind the first `count` bytes, and a space where that parts it from a
+// word. Gives how many bytes there are then.
+#[inline(always)]
+fn put_piece(
+    own: &mut [u8],
+    count: usize,
+    text: &[u8],
+    from: usize,
+    end: usize,
+    is_parted: bool,
+) -> usize
+    requires run { (from ≤ end) × (end ≤ length text.now) }
+    requires room { count + (end - from) + 1 ≤ length own.old }
+    ensures written { take result own.new
+        ≡ (take count own.old ++ take (end - from) (drop from text.now))
+        ++ (if is_parted then 32 ∷ [] else []) }
+    ensures count { result ≤ count + (end - from) + 1 }
+    ensures len { length own.new ≡ length own.old }
 {
-    own.extend_from_slice(piece)?;
-    if is_parted {
-        own.push(b' ')?;
+    put_run(own, count, text, from, end);
+    let count = count + (end - from);
+    if !is_parted {
+        return count;
     }
-    Ok(())
+    own[count] = b' ';
+    count + 1
+}
+
+// Copies the bytes from one place to another behind the first `count`, by sixteen where both sides
+// have room for more.
+#[inline(always)]
+fn put_run(own: &mut [u8], count: usize, text: &[u8], from: usize, end: usize)
+    requires run { (from ≤ end) × (end ≤ length text.now) }
+    requires room { count + (end - from) ≤ length own.old }
+    ensures written { take (count + (end - from)) own.new
+        ≡ take count own.old ++ take (end - from) (drop from text.now) }
+    ensures len { length own.new ≡ length own.old }
+{
+    let long = end - from;
+    if text.len() - end < 16 || own.len() - count - long < 16 {
+        own[count..count + long].copy_from_slice(&text[from..end]);
+        return;
+    }
+    let mut done = 0;
+    while done < long {
+        u8x16::from_slice(&text[from + done..]).copy_to_slice(&mut own[count + done..]);
+        done += 16;
+    }
 }
 
 #[inline(always)]
