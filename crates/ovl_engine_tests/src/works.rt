@@ -17,6 +17,19 @@ use ovl_vacuum::{VacuumDone, VacuumWork, finish_vacuum};
 use std::alloc::{AllocError, Global};
 use std::test::Fail;
 
+fn push_piece(alloc: Global, text: &mut String, piece: &Piece) -> Result<(), AllocError> {
+    let dir = piece.dir.shown(alloc)?;
+    text.push_str(format!(in alloc; "{}{dir}:", piece.space)?.as_str())
+}
+
+fn push_names<T>(text: &mut String, named: &[(Name, T)]) -> Result<(), AllocError> {
+    for (name, _) in named {
+        text.push_str(" ")?;
+        text.push_str(name.as_str())?;
+    }
+    text.push_str("; ")
+}
+
 /// The pieces of parcels, each a space and a directory, with the names of what they put out.
 pub(crate) fn told<T: Drop>(
     alloc: Global,
@@ -24,13 +37,8 @@ pub(crate) fn told<T: Drop>(
 ) -> Result<String, Fail> {
     let mut text = String::new(alloc);
     for Parcel { piece, out, .. } in parcels {
-        let dir = piece.dir.shown(alloc)?;
-        text.push_str(format!(in alloc; "{}{dir}:", piece.space)?.as_str())?;
-        for (name, _) in out {
-            let name = name.as_str();
-            text.push_str(format!(in alloc; " {name}")?.as_str())?;
-        }
-        text.push_str("; ")?;
+        push_piece(alloc, &mut text, piece)?;
+        push_names(&mut text, out)?;
     }
     Ok(text)
 }
