@@ -151,8 +151,8 @@ def jobs_of_longest(processors: int) -> int:
 
 
 def jobs_beside(processors: int) -> int:
-    """How many jobs a proof gets that isn't of the longest chain; each of them reads the libraries for itself."""
-    return max(min(processors // _JOBS, _JOBS), 1)
+    """How many jobs a proof gets that isn't of the longest chain."""
+    return max(min(processors // 2, _JOBS), 1)
 
 
 def look_for_signals() -> None:
