@@ -30,7 +30,7 @@ MADE = {
     "want of memory": r"\bAllocError\b(?!\s*[>{;])|\bAllocFailed\b(?!\s*[<>{;])|Fault::Memory\b|\bOutOfMemory\b|\bUnread\b(?!\s*[>{;(])|\bstarved (?:=|: true)|\.fail\(\)",
     "a fault of reading or writing": r"\bReadFault::(?:Device|TooLong)\b|\bProgramFault::(?:Input|Unread|Unwritten|Output)\b|\bErr\(\w*PartFault::",
 }
-TESTS = {"ovl_pool_tests", "ovl_engine_tests", "ovl_program_tests", "ovl_refusal_tests"}
+TESTS = {"ovl_test_rows", "ovl_pool_tests", "ovl_engine_tests", "ovl_program_tests", "ovl_refusal_tests"}
 
 
 def crates():

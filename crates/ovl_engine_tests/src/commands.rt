@@ -1,9 +1,9 @@
 //! Commands by numbers of workers and layers.
 
 use crate::samples::{blobs_of, manifest_of, manifests_of};
-use crate::tables::{expect_so, parts_of, same};
 use ovl_engine::{Answer, Command, EngineFault, command};
 use ovl_pool::OpenGate;
+use ovl_test_rows::{expect_so, parts_of, same};
 use std::alloc::{AllocError, Global};
 use std::sync::Wait;
 use std::test::Fail;

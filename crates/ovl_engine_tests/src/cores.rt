@@ -1,12 +1,12 @@
 //! The merged tree of a stack as the work of two workers, step by step.
 
 use crate::samples::stack_of;
-use crate::tables::{expect_so, same};
 use crate::works::told;
 use ovl_board::{Core, CoreFault, Event, Parcel, Piece, all_lawful, assemble};
 use ovl_engine::ShowWork;
 use ovl_lookup::Stack;
 use ovl_names::Name;
+use ovl_test_rows::{expect_so, same};
 use std::alloc::Global;
 use std::test::Fail;
 

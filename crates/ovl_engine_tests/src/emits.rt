@@ -1,8 +1,8 @@
 //! Bytes that go out whole, or those that a fault counts
 //! where a write fails; and blobs that are named.
 
-use crate::tables::{parts_of, same};
 use ovl_engine::{Blob, EmitFault, emit, named_blobs};
+use ovl_test_rows::{parts_of, same};
 use std::alloc::{AllocError, Global};
 use std::io::{self, Error, Write};
 use std::test::Fail;

@@ -2,7 +2,6 @@
 //! in other files of tests, and the tests say what comes of them.
 
 use crate::samples::{manifest_of, manifests_of};
-use crate::tables::{expect_so, parts_of, same};
 use ovl_engine::{Answer, Command, EngineFault, command, merge_down, named_blobs};
 use ovl_inode::{Inode, Mark, Redirect, mark_of};
 use ovl_layer::Sheet;
@@ -10,6 +9,7 @@ use ovl_lookup::{Look, Stack, walk};
 use ovl_manifest::{read_layer, read_sheet};
 use ovl_names::{Name, Path};
 use ovl_pool::OpenGate;
+use ovl_test_rows::{expect_so, parts_of, same};
 use std::alloc::{AllocError, Global};
 use std::sync::Wait;
 use std::test::Fail;

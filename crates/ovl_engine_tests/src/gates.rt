@@ -3,11 +3,11 @@ ghost use Rattle.std.specs.Prelude.{◌≡◌, []};
 
 use crate::commands::{forty_layer, of_forty, text_of};
 use crate::samples::{blobs_of, manifests_of, stack_of};
-use crate::tables::{expect_so, parts_of, same};
 use ovl_board::{BoardFault, Piece};
 use ovl_engine::{Command, EngineFault, ShowWork, command};
 use ovl_names::Path;
 use ovl_pool::{Gate, OpenGate, RunCount, RunFault, run};
+use ovl_test_rows::{expect_so, parts_of, same};
 use std::alloc::Global;
 use std::sync::{Mutex, Wait};
 use std::test::Fail;

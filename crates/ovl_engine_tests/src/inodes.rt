@@ -1,13 +1,13 @@
 //! Digests, attributes, redirects, marks, and what is copied or shown of inodes.
 
 use crate::samples::layer_of;
-use crate::tables::{parts_of, repeated, same};
 use ovl_inode::{
     Attrs, Digest, Inode, Mark, Redirect, is_directory, is_whiteout, mark_of, read_redirect,
     visible,
 };
 use ovl_layer::Layer;
 use ovl_names::Path;
+use ovl_test_rows::{parts_of, repeated, same};
 use std::alloc::{AllocError, Global};
 use std::test::Fail;
 

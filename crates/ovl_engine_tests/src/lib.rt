@@ -24,6 +24,4 @@ mod names;
 #[cfg(test)]
 mod samples;
 #[cfg(test)]
-mod tables;
-#[cfg(test)]
 mod works;

@@ -4,11 +4,11 @@ ghost use Rattle.ovl_lookup.specs.Stacks.{all_layers};
 ghost use Rattle.ovl_lookup.specs.DirViews.{IsViewOver};
 
 use crate::samples::{layer_of, stack_of};
-use crate::tables::{parts_of, same};
 use ovl_inode::Kind;
 use ovl_layer::Layer;
 use ovl_lookup::{DirView, Look, Stack, StackFault, Step, Trail, walk};
 use ovl_names::{Name, Path};
+use ovl_test_rows::{parts_of, same};
 use std::alloc::{AllocError, Global};
 use std::test::Fail;
 

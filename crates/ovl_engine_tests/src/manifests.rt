@@ -1,10 +1,10 @@
 //! Layers and sheets of manifests, and manifests of layers.
 
 use crate::samples::{layer_of, manifest_of};
-use crate::tables::{expect_so, parts_of, same};
 use ovl_layer::{Layer, LayerFault, Sheet, SheetRow, from_entries};
 use ovl_manifest::{read_layer, read_sheet, write_layer};
 use ovl_names::{Name, Path};
+use ovl_test_rows::{expect_so, parts_of, same};
 use std::alloc::{AllocError, Global};
 use std::test::Fail;
 

@@ -1,7 +1,7 @@
 //! Names and paths.
 
-use crate::tables::{parts_of, repeated, same};
 use ovl_names::{Name, Path};
+use ovl_test_rows::{parts_of, repeated, same};
 use std::alloc::{AllocError, Global};
 use std::test::Fail;
 

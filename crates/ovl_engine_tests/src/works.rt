@@ -1,7 +1,6 @@
 //! The works of commands, walked by one thread.
 
 use crate::samples::{blobs_of, manifest_of, stack_of};
-use crate::tables::{expect_so, parts_of, same};
 use ovl_board::{Parcel, Piece, plain_walk};
 use ovl_check::{BLOB_SPACE, Blob, BlobWork, blobs_in_order, finish_blobs};
 use ovl_deref::{DerefWork, finish_deref};
@@ -13,6 +12,7 @@ use ovl_lookup::Stack;
 use ovl_manifest::write_layer;
 use ovl_merge::{MergeDone, MergeFault, MergeWork, finish_merge};
 use ovl_names::Name;
+use ovl_test_rows::{expect_so, parts_of, same};
 use ovl_vacuum::{VacuumDone, VacuumWork, finish_vacuum};
 use std::alloc::{AllocError, Global};
 use std::test::Fail;

@@ -1,9 +1,9 @@
-use crate::tables::{expect_at, parts_of, same};
 use ovl_board::{
     BoardFault, Core, CoreFault, Event, Parcel, Piece, Tree, all_lawful, assemble, kids_lawful,
     plain_walk,
 };
 use ovl_names::Path;
+use ovl_test_rows::{expect_at, parts_of, same};
 use std::alloc::Global;
 use std::test::Fail;
 

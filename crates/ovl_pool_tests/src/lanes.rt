@@ -2,9 +2,9 @@ ghost use Rattle.std.specs.Prelude.{IfOk};
 ghost use Rattle.ovl_lanes.specs.Lanes.{IsOneLane, IsWhole};
 ghost use Rattle.ovl_lanes.specs.Seats.{IsNew};
 
-use crate::tables::{expect_at, expect_so, same};
 use ovl_board::Piece;
 use ovl_lanes::{Gathered, LaneFault, Seat, close, lanes};
+use ovl_test_rows::{expect_at, expect_so, same};
 use std::alloc::{AllocError, Global};
 use std::test::Fail;
 

@@ -9,6 +9,4 @@ mod lanes;
 #[cfg(test)]
 mod pool;
 #[cfg(test)]
-mod tables;
-#[cfg(test)]
 mod thieves;

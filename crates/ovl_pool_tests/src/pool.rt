@@ -2,9 +2,9 @@ ghost use Rattle.std.specs.Prelude.{◌≡◌, []};
 ghost use Rattle.ovl_board.specs.Trees.{tree_kids, deepest_path};
 
 use crate::board::{piece, tree};
-use crate::tables::{expect_at, expect_so, parts_of, same};
 use ovl_board::{Piece, Tree, Work};
 use ovl_pool::{Gate, OpenGate, RunFault, Tally, run};
+use ovl_test_rows::{expect_at, expect_so, parts_of, same};
 use std::alloc::{AllocError, Global};
 use std::marker::Brand;
 use std::sync::Wait;

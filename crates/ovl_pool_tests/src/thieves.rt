@@ -6,9 +6,9 @@ ghost use Rattle.ovl_lanes.specs.Lanes.{account_of, thief_id, IsPass, IsSameLane
 ghost use Rattle.ovl_lanes.specs.Seats.{IsNew};
 
 use crate::lanes::seat;
-use crate::tables::expect_so;
 use ovl_board::Piece;
 use ovl_lanes::{Gathered, Lane, Pass, Seat, Thief, close};
+use ovl_test_rows::expect_so;
 use std::alloc::{AllocError, Global};
 use std::test::Fail;
 use std::thread::{Threads, join};

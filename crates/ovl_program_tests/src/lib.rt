@@ -7,8 +7,6 @@ mod faults;
 #[cfg(test)]
 mod readers;
 #[cfg(test)]
-mod tables;
-#[cfg(test)]
 mod words;
 #[cfg(test)]
 mod writers;

@@ -1,8 +1,8 @@
 //! How an input is read: to its end, or until it fails or has more than the limit. No read is tried
 //! again.
 
-use crate::tables::{parts_of, same};
 use ovl_program::{INPUT_LIMIT, read_all, read_expected};
+use ovl_test_rows::{parts_of, same};
 use std::alloc::Global;
 use std::io::{self, Cursor, Error, Read};
 use std::test::Fail;

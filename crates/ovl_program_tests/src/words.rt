@@ -1,7 +1,7 @@
 //! Lines of words.
 
-use crate::tables::{parts_of, same};
 use ovl_program::{LineFault, line};
+use ovl_test_rows::{parts_of, same};
 use std::alloc::Global;
 use std::test::Fail;
 

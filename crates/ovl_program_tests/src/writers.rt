@@ -1,10 +1,10 @@
 //! How an answer is handed out: its layers in order and then its report, up to the first write that
 //! fails.
 
-use crate::tables::{parts_of, same};
 use ovl_engine::{Answer, Command, command, named_blobs};
 use ovl_pool::OpenGate;
 use ovl_program::hand_out;
+use ovl_test_rows::{parts_of, same};
 use std::alloc::{AllocError, Global};
 use std::io::{self, Error, Write};
 use std::sync::Wait;

@@ -1,6 +1,5 @@
 //! Walks of a work, its machine of steps, lanes, and runs by several workers.
 
-use crate::samples::expect_so;
 use ovl_board::{
     BoardFault, Core, CoreFault, Event, Parcel, Piece, Tree, all_lawful, assemble, copies,
     plain_walk, sort_parcels,
@@ -8,6 +7,7 @@ use ovl_board::{
 use ovl_lanes::{LaneFault, lanes};
 use ovl_names::Path;
 use ovl_pool::{OpenGate, RunFault, run};
+use ovl_test_rows::expect_so;
 use std::alloc::{AllocError, Global};
 use std::sync::Wait;
 use std::test::Fail;

@@ -5,7 +5,7 @@ ghost use Rattle.ovl_check.specs.Checks.{check_seen};
 ghost use Rattle.ovl_check.specs.CheckViews.{check_view};
 ghost use Rattle.ovl_check.specs.Walks.{AreLayerWalks};
 
-use crate::samples::{DOUBLE, expect_so, moved_stack, stack_of};
+use crate::samples::{DOUBLE, moved_stack, stack_of};
 use ovl_board::{Parcel, Piece, plain_walk};
 use ovl_check::{
     BLOB_SPACE, Blob, BlobWork, CheckOut, CheckWork, Finding, blobs_in_order, finish_blobs,
@@ -13,6 +13,7 @@ use ovl_check::{
 };
 use ovl_inode::Digest;
 use ovl_lookup::Stack;
+use ovl_test_rows::expect_so;
 use std::alloc::{AllocError, Global};
 use std::test::Fail;
 

@@ -1,6 +1,6 @@
 //! Commands by one worker and by two.
 
-use crate::samples::{MOVED, ROOT, SAMPLES, Sample, expect_so};
+use crate::samples::{MOVED, ROOT, SAMPLES, Sample};
 use ovl_check::{Blob, Content};
 use ovl_engine::{
     Answer, Command, CommandFault, Contents, EngineFault, Question, command, command_over,
@@ -8,6 +8,7 @@ use ovl_engine::{
 };
 use ovl_inode::Digest;
 use ovl_pool::OpenGate;
+use ovl_test_rows::expect_so;
 use std::alloc::{AllocError, Global};
 use std::sync::Wait;
 use std::test::Fail;

@@ -1,11 +1,11 @@
 //! Attributes, inodes, redirects and marks.
 
 use crate::names::LONG;
-use crate::samples::expect_so;
 use ovl_inode::{
     AttrFault, Attrs, Inode, Kind, Mark, Redirect, RedirectFault, Target, mark_of, overlay,
     read_redirect, visible,
 };
+use ovl_test_rows::expect_so;
 use std::alloc::{AllocError, Global};
 use std::test::Fail;
 

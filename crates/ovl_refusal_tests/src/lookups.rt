@@ -2,9 +2,10 @@
 ghost use Rattle.std.specs.Prelude.{◌<◌, length};
 ghost use Rattle.ovl_lookup.specs.DirViews.{IsViewOver};
 
-use crate::samples::{expect_so, moved_stack};
+use crate::samples::moved_stack;
 use ovl_lookup::{DirView, Look, Stack, Trail, walk};
 use ovl_names::{Name, NameFault, Path, PathFault};
+use ovl_test_rows::expect_so;
 use std::alloc::{AllocError, Global};
 use std::test::Fail;
 

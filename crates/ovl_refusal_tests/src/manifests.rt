@@ -1,10 +1,11 @@
 //! Layers and sheets of manifests, and manifests of layers.
 
-use crate::samples::{MOVED, expect_so};
+use crate::samples::MOVED;
 use ovl_json::is_json;
 use ovl_layer::{Layer, LayerFault, Sheet, from_entries};
 use ovl_manifest::{read_layer, read_sheet, write_layer};
 use ovl_names::Path;
+use ovl_test_rows::expect_so;
 use std::alloc::{AllocError, Global};
 use std::test::Fail;
 

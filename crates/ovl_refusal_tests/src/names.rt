@@ -1,7 +1,7 @@
 //! Names, paths, and texts as reports show them.
 
-use crate::samples::expect_so;
 use ovl_names::{Name, NameFault, Path, PathFault, escaped, push_escaped};
+use ovl_test_rows::expect_so;
 use std::alloc::{AllocError, Global};
 use std::test::Fail;
 

@@ -1,6 +1,6 @@
 //! The works of commands that make new layers, walked by one thread.
 
-use crate::samples::{expect_so, moved_stack};
+use crate::samples::moved_stack;
 use ovl_board::{Piece, plain_walk};
 use ovl_deref::{DerefWork, finish_deref};
 use ovl_flatten::{FlattenWork, finish_flatten};
@@ -8,6 +8,7 @@ use ovl_layer::Layer;
 use ovl_lookup::Stack;
 use ovl_merge::{MergeDone, MergeFault, MergeWork, finish_merge};
 use ovl_rewrite::RewriteFault;
+use ovl_test_rows::expect_so;
 use ovl_vacuum::{VacuumWork, finish_vacuum};
 use std::alloc::{AllocError, Global};
 use std::test::Fail;

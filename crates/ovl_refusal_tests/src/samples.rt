@@ -4,7 +4,6 @@ use ovl_engine::Command;
 use ovl_lookup::Stack;
 use ovl_manifest::read_layer;
 use std::alloc::{AllocError, Global};
-use std::test::Fail;
 
 // The stack of these manifests; what refuses it but out of memory is told as that too.
 fn read_stack(alloc: Global, manifests: &str) -> Result<Stack, AllocError> {
@@ -29,14 +28,6 @@ pub(crate) fn stack_of(alloc: Global, manifests: &str) -> Result<Stack, AllocErr
 /// The stack of [`MOVED`].
 pub(crate) fn moved_stack(alloc: Global) -> Result<Stack, AllocError> {
     stack_of(alloc, MOVED.manifests)
-}
-
-/// A failure where this isn't so.
-pub(crate) fn expect_so(is: bool) -> Result<(), Fail> {
-    if is {
-        return Ok(());
-    }
-    Err(Fail::new("it isn't so"))
 }
 
 /// A root alone.
