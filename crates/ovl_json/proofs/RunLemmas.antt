@@ -1,11 +1,11 @@
 -- Plain bytes, seen through the mask of those at which a string stops.
-use Rattle.std.proofs.Common.{◌≡◌, ◌∙◌, ℕ, zero, suc, ◌+◌, ◌%◌, ◌^◌, ◌≤◌, ◌<◌, Bool, true, false, cond, eqb, ltb, List, [], ◌∷◌, ◌++◌, map, length, take, get_or, replicate, refl, sym, ap, ap₂, subst, arith}
+use Rattle.std.proofs.Common.{◌≡◌, ◌∙◌, ℕ, zero, suc, ◌+◌, ◌*◌, ◌%◌, ◌^◌, ◌≤◌, ◌<◌, Bool, true, false, cond, eqb, ltb, List, [], ◌∷◌, ◌++◌, map, length, take, get_or, replicate, refl, sym, ap, ap₂, arith}
 use Rattle.std.specs.Prelude.{◌||◌, not, nat_lt}
 use Rattle.std.proofs.lemmas.Bool.Decides.{nat_tests}
 use Rattle.std.proofs.lemmas.List.{length-map, take_more}
 use Rattle.std.proofs.lemmas.List.Concat.{flat_map-append}
 use Rattle.std.specs.List.{prefix_len}
-use Rattle.std.proofs.lemmas.Simd.{zip2_splat, zip2_of_maps, mask_l-mod, length-chunk, trailing_mask_l, run_in_chunk_fails, run_in_chunk_le, none_from_empty_mask}
+use Rattle.std.proofs.lemmas.Simd.{zip2_splat, zip2_of_maps, mask_l-mod, length-chunk, trailing_mask_l, run_in_chunk_stops, run_in_chunk_fails, run_in_chunk_le, none_from_empty_mask}
 use lib.Bits.{bit_or}
 use lib.Count.{count_trailing_zeros}
 use lib.Lanes.{chunk, mask_l, top, zip2}
@@ -61,6 +61,18 @@ plain-on bytes i n before here = λ k inside. by k inside (nat_lt k i) refl
 pub plain-block : (bytes : List ℕ) (i n : ℕ) → i + n ≤ length bytes → IsPlain bytes i → mask_l (map is_stop (chunk i n bytes)) ≡ 0 → IsPlain bytes (i + n)
 plain-block bytes i n inside plain empty = plain-on bytes i n plain (none_from_empty_mask is_stop bytes i n 0 inside empty)
 
+-- a block in which a string stops is plain before its end alone
+some-stops : (v : List ℕ) → 0 < mask_l (map is_stop v) → prefix_len (λ x. not (is_stop x)) v < length v
+some-stops [] some = absurd (omega arith)
+some-stops (x ∷ xs) some = by (is_stop x) some (some-stops xs)
+  where
+    plain : ℕ
+    plain = prefix_len (λ x. not (is_stop x)) xs
+
+    by : (b : Bool) → 0 < cond b 1 0 + 2 * mask_l (map is_stop xs) → (0 < mask_l (map is_stop xs) → plain < length xs) → cond (not b) (1 + plain) 0 < suc (length xs)
+    by true some more = omega arith
+    by false some more = omega (arith, more (omega arith))
+
 -- the part of a block before the place at which one stops
 module _ (bytes : List ℕ) (i n : ℕ) (inside : i + n ≤ length bytes) (short : n ≤ 64) (some : 0 < mask_l (map is_stop (chunk i n bytes))) where
   abbrev own : ℕ
@@ -71,6 +83,9 @@ module _ (bytes : List ℕ) (i n : ℕ) (inside : i + n ≤ length bytes) (short
 
   pub stops-within : i + own ≤ length bytes
   stops-within = omega (arith, inside, run_in_chunk_le is_stop bytes i n own 0 inside counted)
+
+  pub stops-there : is_stop (get_or bytes (i + own) 0) ≡ true
+  stops-there = run_in_chunk_stops is_stop bytes i n own 0 inside counted (omega (arith, counted, some-stops (chunk i n bytes) some, length-chunk i n bytes inside))
 
   pub plain-stops : IsPlain bytes i → IsPlain bytes (i + own)
   plain-stops plain = plain-on bytes i own plain (run_in_chunk_fails is_stop bytes i n own 0 inside counted)

@@ -1,5 +1,5 @@
 //! Passing over plain bytes of a string, sixteen at a time.
-ghost use Rattle.std.specs.Prelude.{◌≡◌, ◌≤◌, ◌<◌, ℕ, false, length, map, slice_index, take};
+ghost use Rattle.std.specs.Prelude.{◌≡◌, ◌≤◌, ◌<◌, ℕ, false, length, map, slice_index, take, true};
 ghost use Rattle.std.specs.Simd.Lanes.{mask_l};
 ghost use Rattle.json.specs.Print.{escape};
 ghost use Rattle.json.specs.Run.{is_stop};
@@ -23,6 +23,7 @@ fn plain_tail(bytes: &[u8], from: usize) -> usize
     requires run { (k : ℕ) → k < from → is_stop (slice_index bytes.now k) ≡ false }
     ensures within { result ≤ length bytes.now }
     ensures run { (k : ℕ) → k < result → is_stop (slice_index bytes.now k) ≡ false }
+    ensures stopped { result < length bytes.now → is_stop (slice_index bytes.now result) ≡ true }
 {
     let mut place = from;
     while place < bytes.len()
@@ -39,6 +40,7 @@ fn plain_tail(bytes: &[u8], from: usize) -> usize
 pub fn plain_length(bytes: &[u8]) -> usize
     ensures within { result ≤ length bytes.now }
     ensures run { (k : ℕ) → k < result → is_stop (slice_index bytes.now k) ≡ false }
+    ensures stopped { result < length bytes.now → is_stop (slice_index bytes.now result) ≡ true }
     ensures plain { escape (take result bytes.now) ≡ take result bytes.now }
 {
     let mut place = 0;

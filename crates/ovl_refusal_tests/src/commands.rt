@@ -1,6 +1,6 @@
 //! Commands by one worker and by two.
 
-use crate::samples::{MOVED, ROOT, SAMPLES, Sample};
+use crate::samples::{MOVED, ONE, OPAQUE, OVER, ROOT, Sample, TWICE, WRONG};
 use ovl_check::{Blob, Content};
 use ovl_engine::{
     Answer, Command, CommandFault, Contents, EngineFault, Question, command, command_over,
@@ -205,8 +205,8 @@ fn ends<R: Threads + Wait + Sync>(
     }
 }
 
-// A failure where a command of a sample doesn't end as it says.
-fn all_end<R: Threads + Wait + Sync>(
+// A failure where a command of a sample doesn't end as it says, by so many workers.
+fn end_by<R: Threads + Wait + Sync>(
     rt: &R,
     alloc: Global,
     sample: Sample,
@@ -222,23 +222,38 @@ fn all_end<R: Threads + Wait + Sync>(
     Ok(())
 }
 
-fn samples_end<R: Threads + Wait + Sync>(
-    rt: &R,
-    alloc: Global,
-    workers: usize,
-) -> Result<(), Fail> {
-    for sample in SAMPLES {
-        all_end(rt, alloc, sample, workers)?;
-    }
-    Ok(())
+// The same by one worker and by two.
+fn all_end<R: Threads + Wait + Sync>(rt: &R, alloc: Global, sample: Sample) -> Result<(), Fail> {
+    end_by(rt, alloc, sample, 1)?;
+    end_by(rt, alloc, sample, 2)
 }
 
 #[test]
-fn commands_of_samples_end_as_they_say_by_one_worker(rt: HostRuntime) -> Result<(), Fail> {
-    samples_end(&rt, rt.alloc(), 1)
+fn commands_of_a_moved_directory_end_as_they_say(rt: HostRuntime) -> Result<(), Fail> {
+    all_end(&rt, rt.alloc(), MOVED)
 }
 
 #[test]
-fn commands_of_samples_end_as_they_say_by_two_workers(rt: HostRuntime) -> Result<(), Fail> {
-    samples_end(&rt, rt.alloc(), 2)
+fn commands_of_a_root_alone_end_as_they_say(rt: HostRuntime) -> Result<(), Fail> {
+    all_end(&rt, rt.alloc(), ONE)
+}
+
+#[test]
+fn commands_of_an_opaque_directory_end_as_they_say(rt: HostRuntime) -> Result<(), Fail> {
+    all_end(&rt, rt.alloc(), OPAQUE)
+}
+
+#[test]
+fn commands_of_a_layer_twice_end_as_they_say(rt: HostRuntime) -> Result<(), Fail> {
+    all_end(&rt, rt.alloc(), TWICE)
+}
+
+#[test]
+fn commands_of_a_directory_over_another_end_as_they_say(rt: HostRuntime) -> Result<(), Fail> {
+    all_end(&rt, rt.alloc(), OVER)
+}
+
+#[test]
+fn commands_of_wrong_contents_end_as_they_say(rt: HostRuntime) -> Result<(), Fail> {
+    all_end(&rt, rt.alloc(), WRONG)
 }

@@ -50,9 +50,6 @@ pub(crate) struct Sample {
     pub(crate) ends: [(Command, &'static str); 6],
 }
 
-/// All samples.
-pub(crate) const SAMPLES: [Sample; 6] = [MOVED, ONE, OPAQUE, TWICE, OVER, WRONG];
-
 /// `bare /m metacopy=, dir /n opaque=y, dir /n/d redirect=/x, link /n/l user.k=v, whiteout /x` over
 /// `file /m, dir /n, file /n/z, dir /x, file /x/k`.
 pub(crate) const MOVED: Sample = Sample {
@@ -70,8 +67,8 @@ pub(crate) const MOVED: Sample = Sample {
     ],
 };
 
-// `root`.
-const ONE: Sample = Sample {
+/// `root`.
+pub(crate) const ONE: Sample = Sample {
     manifests: r#"{"entries":[{"gid":0,"kind":"dir","mode":493,"mtime":0,"mtime-nsec":0,"path":"/","uid":0,"xattrs":{}}],"overlay-layer":2}
 "#,
     blobs: "",
@@ -85,9 +82,9 @@ const ONE: Sample = Sample {
     ],
 };
 
-// `dir /n opaque=y, dir /n/d redirect=/x, whiteout /x` over `dir /n, file /n/z, dir /x, file
-// /x/k`.
-const OPAQUE: Sample = Sample {
+/// `dir /n opaque=y, dir /n/d redirect=/x, whiteout /x` over `dir /n, file /n/z, dir /x, file
+/// /x/k`.
+pub(crate) const OPAQUE: Sample = Sample {
     manifests: r#"{"entries":[{"gid":0,"kind":"dir","mode":493,"mtime":0,"mtime-nsec":0,"path":"/","uid":0,"xattrs":{}},{"gid":0,"kind":"dir","mode":493,"mtime":0,"mtime-nsec":0,"path":"/n","uid":0,"xattrs":{"trusted.overlay.opaque":"79"}},{"gid":0,"kind":"dir","mode":493,"mtime":0,"mtime-nsec":0,"path":"/n/d","uid":0,"xattrs":{"trusted.overlay.redirect":"2f78"}},{"gid":0,"kind":"char","major":0,"minor":0,"mode":0,"mtime":0,"mtime-nsec":0,"path":"/x","uid":0,"xattrs":{}}],"overlay-layer":2}
 {"entries":[{"gid":0,"kind":"dir","mode":493,"mtime":0,"mtime-nsec":0,"path":"/","uid":0,"xattrs":{}},{"gid":0,"kind":"dir","mode":493,"mtime":0,"mtime-nsec":0,"path":"/n","uid":0,"xattrs":{}},{"blob":"ca978112ca1bbdcafac231b39a23dc4da786eff8147c4e72b9807785afee48bb","gid":0,"kind":"file","mode":420,"mtime":0,"mtime-nsec":0,"path":"/n/z","size":1,"uid":0,"xattrs":{}},{"gid":0,"kind":"dir","mode":493,"mtime":0,"mtime-nsec":0,"path":"/x","uid":0,"xattrs":{}},{"blob":"ca978112ca1bbdcafac231b39a23dc4da786eff8147c4e72b9807785afee48bb","gid":0,"kind":"file","mode":420,"mtime":0,"mtime-nsec":0,"path":"/x/k","size":1,"uid":0,"xattrs":{}}],"overlay-layer":2}
 "#,
@@ -102,8 +99,8 @@ const OPAQUE: Sample = Sample {
     ],
 };
 
-// `dir /d, file /d/k`, twice.
-const TWICE: Sample = Sample {
+/// `dir /d, file /d/k`, twice.
+pub(crate) const TWICE: Sample = Sample {
     manifests: r#"{"entries":[{"gid":0,"kind":"dir","mode":493,"mtime":0,"mtime-nsec":0,"path":"/","uid":0,"xattrs":{}},{"gid":0,"kind":"dir","mode":493,"mtime":0,"mtime-nsec":0,"path":"/d","uid":0,"xattrs":{}},{"blob":"ca978112ca1bbdcafac231b39a23dc4da786eff8147c4e72b9807785afee48bb","gid":0,"kind":"file","mode":420,"mtime":0,"mtime-nsec":0,"path":"/d/k","size":1,"uid":0,"xattrs":{}}],"overlay-layer":2}
 {"entries":[{"gid":0,"kind":"dir","mode":493,"mtime":0,"mtime-nsec":0,"path":"/","uid":0,"xattrs":{}},{"gid":0,"kind":"dir","mode":493,"mtime":0,"mtime-nsec":0,"path":"/d","uid":0,"xattrs":{}},{"blob":"ca978112ca1bbdcafac231b39a23dc4da786eff8147c4e72b9807785afee48bb","gid":0,"kind":"file","mode":420,"mtime":0,"mtime-nsec":0,"path":"/d/k","size":1,"uid":0,"xattrs":{}}],"overlay-layer":2}
 "#,
@@ -118,8 +115,8 @@ const TWICE: Sample = Sample {
     ],
 };
 
-// `whiteout /a, dir /b redirect=/a` over `dir /a, file /a/k` over `dir /b, file /b/z`.
-const OVER: Sample = Sample {
+/// `whiteout /a, dir /b redirect=/a` over `dir /a, file /a/k` over `dir /b, file /b/z`.
+pub(crate) const OVER: Sample = Sample {
     manifests: r#"{"entries":[{"gid":0,"kind":"dir","mode":493,"mtime":0,"mtime-nsec":0,"path":"/","uid":0,"xattrs":{}},{"gid":0,"kind":"char","major":0,"minor":0,"mode":0,"mtime":0,"mtime-nsec":0,"path":"/a","uid":0,"xattrs":{}},{"gid":0,"kind":"dir","mode":493,"mtime":0,"mtime-nsec":0,"path":"/b","uid":0,"xattrs":{"trusted.overlay.redirect":"2f61"}}],"overlay-layer":2}
 {"entries":[{"gid":0,"kind":"dir","mode":493,"mtime":0,"mtime-nsec":0,"path":"/","uid":0,"xattrs":{}},{"gid":0,"kind":"dir","mode":493,"mtime":0,"mtime-nsec":0,"path":"/a","uid":0,"xattrs":{}},{"blob":"ca978112ca1bbdcafac231b39a23dc4da786eff8147c4e72b9807785afee48bb","gid":0,"kind":"file","mode":420,"mtime":0,"mtime-nsec":0,"path":"/a/k","size":1,"uid":0,"xattrs":{}}],"overlay-layer":2}
 {"entries":[{"gid":0,"kind":"dir","mode":493,"mtime":0,"mtime-nsec":0,"path":"/","uid":0,"xattrs":{}},{"gid":0,"kind":"dir","mode":493,"mtime":0,"mtime-nsec":0,"path":"/b","uid":0,"xattrs":{}},{"blob":"ca978112ca1bbdcafac231b39a23dc4da786eff8147c4e72b9807785afee48bb","gid":0,"kind":"file","mode":420,"mtime":0,"mtime-nsec":0,"path":"/b/z","size":1,"uid":0,"xattrs":{}}],"overlay-layer":2}
@@ -135,9 +132,9 @@ const OVER: Sample = Sample {
     ],
 };
 
-// `empty /e`, and `/k`, `/m` and `/s` with the contents `abc`, `a` and `ab`, of which the last is
-// stated as longer.
-const WRONG: Sample = Sample {
+/// `empty /e`, and `/k`, `/m` and `/s` with the contents `abc`, `a` and `ab`, of which the last is
+/// stated as longer.
+pub(crate) const WRONG: Sample = Sample {
     manifests: r#"{"entries":[{"gid":0,"kind":"dir","mode":493,"mtime":0,"mtime-nsec":0,"path":"/","uid":0,"xattrs":{}},{"gid":0,"kind":"file","mode":420,"mtime":0,"mtime-nsec":0,"path":"/e","size":0,"uid":0,"xattrs":{}},{"blob":"ba7816bf8f01cfea414140de5dae2223b00361a396177a9cb410ff61f20015ad","gid":0,"kind":"file","mode":420,"mtime":0,"mtime-nsec":0,"path":"/k","size":3,"uid":0,"xattrs":{}},{"blob":"ca978112ca1bbdcafac231b39a23dc4da786eff8147c4e72b9807785afee48bb","gid":0,"kind":"file","mode":420,"mtime":0,"mtime-nsec":0,"path":"/m","size":1,"uid":0,"xattrs":{}},{"blob":"fb8e20fc2e4c3f248c60c39bd652f3c1347298bb977b8b4d5903b85055620603","gid":0,"kind":"file","mode":420,"mtime":0,"mtime-nsec":0,"path":"/s","size":3,"uid":0,"xattrs":{}}],"overlay-layer":2}
 "#,
     blobs: "abc=abd ab",

@@ -1,8 +1,9 @@
-use Rattle.std.proofs.Common.{ℕ, ◌+◌, ◌<◌, ◌≤◌, map, length, sym, subst, arith}
+use Rattle.std.proofs.Common.{ℕ, true, ◌≡◌, ◌+◌, ◌<◌, ◌≤◌, map, length, sym, subst, arith}
+use Rattle.std.specs.Prelude.{slice_index}
 use lib.Count.{count_trailing_zeros}
 use lib.Lanes.{chunk, mask_l}
 use Rattle.json.specs.Run.{is_stop}
-use Rattle.ovl_json.proofs.RunLemmas.{IsPlain, plain-block, plain-stops, stops-within, escape-plain}
+use Rattle.ovl_json.proofs.RunLemmas.{IsPlain, plain-block, plain-stops, stops-there, stops-within, escape-plain}
 use Rattle.ovl_json.proofs.plain_runs.plain_length.Goals as goal
 
 pub returns-then-found-ne0 : goal.returns-then-found-ne0
@@ -15,7 +16,9 @@ returns-then-found-ne0 c =
     subst (λ (mask : ℕ). i + count_trailing_zeros 64 mask ≤ length ds) (sym is) (stops-within ds i 16 (omega arith) (omega arith) some) in
     let run : IsPlain ds (i + count_trailing_zeros 64 c.stops-found.result) =
     subst (λ (mask : ℕ). IsPlain ds (i + count_trailing_zeros 64 mask)) (sym is) (plain-stops ds i 16 (omega arith) (omega arith) some c.loop-place.invariant.0) in
-    record { within = within; run = run; plain = escape-plain ds _ within run }
+    let stopped : is_stop (slice_index ds (i + count_trailing_zeros 64 c.stops-found.result)) ≡ true =
+    subst (λ (mask : ℕ). is_stop (slice_index ds (i + count_trailing_zeros 64 mask)) ≡ true) (sym is) (stops-there ds i 16 (omega arith) (omega arith) some) in
+    record { within = within; run = run; stopped = λ _. stopped; plain = escape-plain ds _ within run }
 
 pub loop-place-preserved : goal.loop-place-preserved
 loop-place-preserved c = (

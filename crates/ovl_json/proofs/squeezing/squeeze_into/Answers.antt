@@ -1,4 +1,4 @@
-use Rattle.std.proofs.Common.{◌∙◌, ◌≡◌, ◌-◌, ◌+◌, ◌≤◌, length, take, sym, arith}
+use Rattle.std.proofs.Common.{◌∙◌, ◌-◌, ◌+◌, length, take, sym, arith}
 use Rattle.std.proofs.lemmas.List.{take_rest}
 use Rattle.ovl_json.proofs.SqueezeLemmas.{begun, not_copied, copied, ended}
 use Rattle.ovl_json.proofs.squeezing.squeeze_into.Goals as goal
