@@ -29,7 +29,7 @@ from small_layers import Layer, Sources, write
 # The most times that the instructions for a byte may grow at each doubling: in general, and of layers times directories
 # or files, each of which may be looked at in each layer.
 ALLOWED, LAYERED = 1.15, 2.2
-# The most instructions and bytes of memory for a byte, and the bytes that the program takes of a root alone.
+# The most instructions and bytes of memory for a byte, and a little more bytes than the program takes of a root alone.
 INSTRUCTIONS, MEMORY, ITSELF = 400, 12, 4_000_000
 # The statuses of a stack in which a fault is found, of a manifest that is refused, and of a result over the limits.
 FAULTY, REFUSED, LIMIT = 1, 3, 5
@@ -297,7 +297,7 @@ def main() -> None:
     words.add_argument("--case", type=int, action="append", choices=range(1, len(CASES) + 1), help="only this case, counted from 1")
     words.add_argument("--sizes", type=int, help="only so many of the smallest sizes of each case")
     words.add_argument("--longest", type=float, default=5.0, help="count the instructions of runs of at most so many seconds (default 5)")
-    words.add_argument("--unsorted", action="store_true", help="members out of the order of their names, which are read the other way")
+    words.add_argument("--unsorted", action="store_true", help="members out of the order of their names, which are read one by one")
     words.add_argument("--rows", action="store_true", help="a row a case, without seconds")
     given = words.parse_args()
     program = os.path.abspath(given.program)

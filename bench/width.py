@@ -38,7 +38,7 @@ class Touched:
         if self.path in MADE:
             return "made"
         if folder == "crates":
-            return "tests" if rest[0].endswith("_tests") else PARTS.get(rest[1], "other")
+            return "tests" if rest[0].endswith(("_tests", "_test_rows")) else PARTS.get(rest[1], "other")
         if self.path.startswith("convert/tests/"):
             return "tests"
         return FOLDERS.get(folder, "documents" if self.path.endswith(".md") else "other")
