@@ -20,7 +20,7 @@ pub trait Work {
 
     ghost seen: { Self.Out → Seen };
 
-    /// The kids and the output of a piece, and the most names of a kid.
+    /// The kids and the output of a piece, and the most names that a kid may have.
     ghost kids_of: { Self → Piece → List Piece };
 
     ghost out_of: { Self → Piece → Seen };
@@ -34,7 +34,7 @@ pub trait Work {
         ensures kids { IfOk result (λ r. r.0.items ≡ kids_of self.now piece.now) }
         ensures out { IfOk result (λ r. seen r.1 ≡ out_of self.now piece.now) };
 
-    /// The most names of any kid's path.
+    /// The most names that a kid's path may have.
     fn deepest(&self) -> u32
         ensures deepest { result ≡ deepest_of self.now }
         ensures lawful { HasLawfulKids (kids_of self.now) (deepest_of self.now) };

@@ -446,11 +446,11 @@ copied d own new from place end next is_word parted so_far lexeme left parts low
     ∙ (ap (λ l. own ++ drop from l) lexeme ∙ so_far))))))
 
 -- at the end of the text
-pub ended : (d own piece new : List ℕ) (from place : ℕ) → SqueezedTo d own from place → length d ≤ place → piece ≡ drop from d → new ≡ own ++ piece → tokens new ≡ tokens d
+pub ended : (d own piece new : List ℕ) (from place : ℕ) → SqueezedTo d own from place → length d ≤ place → piece ≡ drop from d → new ≡ own ++ piece → new ≡ squeezed between d
 unfolding squeezed
 ended d own piece new from place so_far end is_piece is_new =
     let whole : Along between d place ≡ d = ap (λ l. take place d ++ squeezed between l) (drop_all place d end) ∙ (append-nil (take place d) ∙ take_all place d end) in
-    ap tokens (is_new ∙ (ap (λ l. own ++ l) (is_piece ∙ ap (drop from) (sym whole)) ∙ so_far)) ∙ tokens-squeezed d
+    is_new ∙ (ap (λ l. own ++ l) (is_piece ∙ ap (drop from) (sym whole)) ∙ so_far)
 
 pub string-left : (d : List ℕ) (p : ℕ) → length d ≤ p → Along between d p ≡ Along in_string d p
 unfolding squeezed

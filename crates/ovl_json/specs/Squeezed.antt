@@ -1,4 +1,4 @@
--- A text of JSON without the white space that no token needs, for private clauses.
+-- A text of JSON without the white space that no token needs.
 use Rattle.std.specs.Prelude.{ℕ, ◌==◌, List, [], ◌∷◌, Bool, true, false, if◌then◌else◌}
 use Rattle.json.specs.Ascii as ascii
 use Rattle.json.specs.Word.{ends_word}

@@ -1,4 +1,4 @@
-ghost use Rattle.std.specs.Prelude.{◌≡◌, true, IfOk, is_some};
+ghost use Rattle.std.specs.Prelude.{◌≡◌, true, MatchResult, is_some};
 ghost use Rattle.ovl_json.specs.Reading.{read_value};
 ghost use Rattle.ovl_json.specs.Beginnings.{Begins};
 
@@ -26,7 +26,7 @@ pub enum Beginning<'a> {
 /// is one.
 pub fn begin<'a>(reader: &mut Reader<'a>, depth: usize) -> Result<Beginning<'a>, Unread>
     requires { is_some (read_value depth reader.old) ≡ true }
-    ensures { IfOk result (λ beginning. Begins depth reader.old beginning reader.new) }
+    ensures { MatchResult result (λ beginning. Begins depth reader.old beginning reader.new) (λ _. ⊥) }
 {
     let Some(token) = reader.next() else {
         return Err(Unread);

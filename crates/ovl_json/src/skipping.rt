@@ -1,4 +1,4 @@
-ghost use Rattle.std.specs.Prelude.{◌≡◌, ◌<◌, Some, OnOk, length};
+ghost use Rattle.std.specs.Prelude.{◌≡◌, ◌<◌, Some, None, MatchResult, OnOk, length};
 ghost use Rattle.json.specs.Reads as reads;
 
 use json::{Invalid, Reader};
@@ -30,7 +30,9 @@ impl From<Invalid> for Unread {
 /// Skips the items of an array whose bracket was read, each nested at most `depth` deep, and the
 /// bracket that closes it.
 pub fn skip_items(reader: &mut Reader<'_>, depth: usize) -> Result<(), Unread>
-    ensures value { OnOk result (reads.skip_items depth reader.old ≡ Some reader.new) }
+    ensures value { MatchResult result
+        (λ _. reads.skip_items depth reader.old ≡ Some reader.new)
+        (λ _. reads.skip_items depth reader.old ≡ None) }
     ensures shorter { OnOk result (length reader.new < length reader.old) }
 {
     while !reader.take_end_array() {
@@ -42,7 +44,9 @@ pub fn skip_items(reader: &mut Reader<'_>, depth: usize) -> Result<(), Unread>
 /// Skips the members of an object whose brace was read, each nested at most `depth` deep, and the
 /// brace that closes it.
 pub fn skip_members(reader: &mut Reader<'_>, depth: usize) -> Result<(), Unread>
-    ensures value { OnOk result (reads.skip_members depth reader.old ≡ Some reader.new) }
+    ensures value { MatchResult result
+        (λ _. reads.skip_members depth reader.old ≡ Some reader.new)
+        (λ _. reads.skip_members depth reader.old ≡ None) }
     ensures shorter { OnOk result (length reader.new < length reader.old) }
 {
     while let Some(_) = reader.next_key()? {

@@ -13,7 +13,8 @@ use std::simd::prelude::*;
 /// isn't JSON some may stay, and all that comes after a `\u` in a string. Fails only when out of
 /// memory.
 pub fn squeezed(alloc: Global, text: &[u8]) -> Result<Vec<u8>, AllocError>
-    ensures { IfOk result (λ own. tokens own.items ≡ tokens text.now) }
+    ensures exact { IfOk result (λ own. own.items ≡ squeezed_in between text.now) }
+    ensures same { IfOk result (λ own. tokens own.items ≡ tokens text.now) }
 {
     let mut own = Vec::new(alloc);
     own.resize(text.len(), 0)?;
@@ -26,7 +27,7 @@ pub fn squeezed(alloc: Global, text: &[u8]) -> Result<Vec<u8>, AllocError>
 // it is.
 fn squeeze_into(own: &mut [u8], text: &[u8]) -> usize
     requires { length own.old ≡ length text.now }
-    ensures { tokens (take result own.new) ≡ tokens text.now }
+    ensures { take result own.new ≡ squeezed_in between text.now }
 {
     let mut place = space_end(text, 0);
     // What comes from here to the place isn't copied yet; so many bytes are.

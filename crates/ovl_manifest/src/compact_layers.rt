@@ -29,9 +29,9 @@ use std::borrow::CowStr;
 const ENTRY_TEXT: usize = 96;
 
 /// The sheet of the layer whose manifest the text is, without white space but for a newline at its
-/// end, and with no more escapes than it needs; members may stand in any order, but for attributes
-/// none twice. Gives none of manifests that are written in another way, of any fault and where
-/// memory runs out.
+/// end, with no more escapes than it needs, and none of its members twice. These may stand in any
+/// order, attributes too where an entry has fewer than 16. Gives none of manifests that are
+/// written in another way, of any fault and where memory runs out.
 pub(crate) fn read_compact(alloc: Global, text: &str) -> Option<Sheet>
     requires { IsUtf8 text.now }
     ensures { IfSome result (λ sheet. layer_stated text.now ≡ Ok sheet) }

@@ -1,5 +1,5 @@
 //! The entries of a text that is JSON, of which one at a time is held as a value.
-ghost use Rattle.std.specs.Prelude.{◌≡◌, ◌+◌, ◌<◌, true, Ok, IfOk, IfSome, IsSomeAnd, IsTrue, is_some, MatchResult, length, option_and_then};
+ghost use Rattle.std.specs.Prelude.{◌≡◌, ◌+◌, ◌<◌, true, Ok, Err, IfOk, OnErr, IfSome, IsSomeAnd, IsTrue, is_some, MatchResult, length, option_and_then};
 ghost use Rattle.serde_json.specs.Data.{object, no_members};
 ghost use Rattle.serde_json.specs.Find.{as_array};
 ghost use Rattle.serde_json.specs.Read.{read};
@@ -10,6 +10,7 @@ ghost use Rattle.ovl_manifest.specs.Fields.{entry_of};
 ghost use Rattle.ovl_layer.specs.Entries.{is_statable, entry_after, layer_of_entries, IsFaultOf};
 ghost use Rattle.ovl_manifest.specs.Manifest.{stated_entries};
 ghost use Rattle.ovl_layer.specs.Drafts.{draft_entries, IsDraft};
+ghost use Rattle.ovl_layer.specs.declared.faults.LayerFault.TheVariants.{Memory};
 ghost use Rattle.ovl_manifest.specs.Lists.{listed, entry_on, made, IsProgress, IsProgressOf, Tells, TellsLast, member_depth, item_depth};
 
 use crate::fields::read_entry;
@@ -199,7 +200,8 @@ fn with_entry(
 
 // The progress that a draft with one more entry is, or its fault.
 fn progress_of(more: Result<Draft, LayerFault>) -> Result<Progress, Unread>
-    ensures { IfOk result (λ progress. IsProgressOf more progress) }
+    ensures progress { IfOk result (λ progress. IsProgressOf more progress) }
+    ensures memory { OnErr result (more ≡ Err Memory) }
 {
     match more {
         Ok(draft) => Ok(Progress::Made(draft)),

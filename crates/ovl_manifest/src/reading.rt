@@ -64,10 +64,10 @@ fn read_text(alloc: Global, text: &str) -> Result<Layer, LayerFault>
 }
 
 /// The sheet of the layer that the bytes of a manifest state, refused as [`read_layer`] refuses it.
-/// A manifest with no more escapes than it needs, and no member twice, is read at once, soonest as
-/// [`write_layer`](crate::write_layer) writes it, and one with white space in it, some of it among
-/// the first 64 bytes, once what stands between tokens is left out; others by way of a value of
-/// each entry.
+/// A manifest with no more escapes than it needs, no member twice, and no 16 attributes out of order
+/// is read at once, soonest as [`write_layer`](crate::write_layer) writes it, and one with white
+/// space in it, some of it among the first 64 bytes, once what stands between tokens is left out,
+/// where none does behind a `\u`; others by way of a value of each entry.
 ///
 /// The stack of these manifests, the topmost layer first, none of them data-only:
 ///

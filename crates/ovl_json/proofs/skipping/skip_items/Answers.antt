@@ -1,6 +1,7 @@
 use Rattle.std.proofs.Common.{◌≡◌, ◌-◌, ◌<◌, length, None, refl, ap, ◌∙◌, arith}
+use Rattle.std.proofs.lemmas.Result.{MatchResult-from_err}
 use Rattle.json.specs.Json.{after_end_array, value}
-use Rattle.json.proofs.Grammar.{left, items_end, skip_item}
+use Rattle.json.proofs.Grammar.{left, left_none, items_end, items_fail, skip_item}
 use Rattle.ovl_json.proofs.skipping.skip_items.Goals as goal
 
 pub loop-reader-init : goal.loop-reader-init
@@ -22,3 +23,10 @@ pub returns-clause-value : goal.returns-clause-value
 returns-clause-value c =
     let l = c.loop-reader in
     l.invariant.2 ∙ ap left (items_end (value c.args.depth) l.invariant.0 l.reader c.take_end_array.new.self l.invariant.1 (grind arith))
+
+pub returns-in_err-skip_value-clause-value : goal.returns-in_err-skip_value-clause-value
+returns-in_err-skip_value-clause-value c =
+    let l = c.loop-reader in
+    let going : (after_end_array l.reader ≡ None) × (c.take_end_array.new.self ≡ l.reader) = grind arith in
+    let unread : value c.args.depth l.reader ≡ None = left_none _ (rw (← going.1) c.in_err-skip_value.ensures.value) in
+    MatchResult-from_err _ _ _ c.from_residual.ensures.0 (λ _. l.invariant.2 ∙ ap left (items_fail (value c.args.depth) l.invariant.0 l.reader going.0 unread))

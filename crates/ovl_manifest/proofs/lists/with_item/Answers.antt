@@ -15,10 +15,10 @@ with_entry-requires-clause-stated c = item_statable c.args.version (read_value i
 pub returns-in_ok-entry-in-Made-clause-progress : goal.returns-in_ok-entry-in-Made-clause-progress
 returns-in_ok-entry-in-Made-clause-progress c =
     let is : IsDraft c.in-Made.draft × (length (draft_entries c.in-Made.draft) ≡ c.args.number) = subst (λ p. IsProgress p c.args.number) c.in-Made.is c.requires.progress in
-    first-ok (λ progress. IsProgress progress (c.args.number + 1)) (λ progress. made progress ≡ entry_after (draft_entries c.in-Made.draft) c.in_ok-entry-in-Made.entry) c.progress_of-in-Made.result (progress-ok (draft_entries c.in-Made.draft) c.in_ok-entry-in-Made.entry c.with_entry.result c.progress_of-in-Made.result c.args.number c.with_entry.ensures c.progress_of-in-Made.ensures is.1)
+    first-ok (λ progress. IsProgress progress (c.args.number + 1)) (λ progress. made progress ≡ entry_after (draft_entries c.in-Made.draft) c.in_ok-entry-in-Made.entry) c.progress_of-in-Made.result (progress-ok (draft_entries c.in-Made.draft) c.in_ok-entry-in-Made.entry c.with_entry.result c.progress_of-in-Made.result c.args.number c.with_entry.ensures c.progress_of-in-Made.ensures.progress is.1)
 
 pub returns-in_ok-entry-in-Made-clause-made : goal.returns-in_ok-entry-in-Made-clause-made
 returns-in_ok-entry-in-Made-clause-made c =
     let is : IsDraft c.in-Made.draft × (length (draft_entries c.in-Made.draft) ≡ c.args.number) = subst (λ p. IsProgress p c.args.number) c.in-Made.is c.requires.progress in
     rw c.in-Made.is (item-made c.args.version (read_value item_depth c.args.reader.now) c.read_item-in-Made.new.reader c.in_ok-entry-in-Made.entry (Ok (draft_entries c.in-Made.draft)) c.progress_of-in-Made.result (c.args.number + 1) c.in_ok-entry-in-Made.ensures
-    (progress-ok (draft_entries c.in-Made.draft) c.in_ok-entry-in-Made.entry c.with_entry.result c.progress_of-in-Made.result c.args.number c.with_entry.ensures c.progress_of-in-Made.ensures is.1))
+    (progress-ok (draft_entries c.in-Made.draft) c.in_ok-entry-in-Made.entry c.with_entry.result c.progress_of-in-Made.result c.args.number c.with_entry.ensures c.progress_of-in-Made.ensures.progress is.1))
