@@ -16,7 +16,7 @@ fn stops(lanes: u8x16) -> u64
         | lanes.simd_lt(u8x16::splat(b' '))).to_bitmask()
 }
 
-// The same from a place on, a byte at a time.
+// As `plain_length`, from a place on, a byte at a time.
 #[inline(always)]
 fn plain_tail(bytes: &[u8], from: usize) -> usize
     requires within { from ≤ length bytes.now }
