@@ -11,7 +11,7 @@ use std::test::Fail;
 
 fn is_written(alloc: Global, layer: &Layer, manifest: &str) -> Result<bool, AllocError> {
     let written = write_layer(alloc, layer)?;
-    Ok(written.starts_with(manifest.as_bytes()))
+    Ok(written.strip_suffix(b"\n") == Some(manifest.as_bytes()))
 }
 
 fn has_names(alloc: Global, layer: &Layer) -> Result<bool, AllocError> {

@@ -5,7 +5,7 @@ ghost use Rattle.ovl_program.specs.Faults.{IsUnread};
 
 use crate::faults::ProgramFault;
 use crate::files::blob_parts::tell_file;
-use crate::files::reads::{INPUT_LIMIT, ReadFault, read_expected};
+use crate::files::reads::{INPUT_LIMIT, ReadFault, read_all, read_expected};
 use ovl_engine::Content;
 use ovl_inode::Digest;
 use std::alloc::Global;
@@ -43,12 +43,15 @@ fn read_bytes<R: Files + AllocGlobal>(
         (λ bytes. (file : R.File) × IfSome (R.File.remaining file) (λ left. bytes.items ≡ left)) }
 {
     let mut file = fs::open(rt, path)?;
-    // A length that isn't told, or is wrong, as 0 is in /proc, changes only how room is made.
-    let expected = match expected {
-        Some(length) => length,
-        None => file.metadata().map_or(0, |metadata| metadata.len()),
-    };
-    read_expected(rt.alloc(), &mut file, INPUT_LIMIT, expected)
+    // A length that isn't told, or is wrong, as 0 is of a pipe and in /proc, changes only how room is
+    // made.
+    if let Some(length) = expected {
+        return read_expected(rt.alloc(), &mut file, INPUT_LIMIT, length);
+    }
+    match file.metadata().map_or(0, |metadata| metadata.len()) {
+        0 => read_all(rt.alloc(), &mut file, INPUT_LIMIT),
+        length => read_expected(rt.alloc(), &mut file, INPUT_LIMIT, length),
+    }
 }
 
 /// A runtime whose files several threads may read: a bound by `Files` holds of one thread alone.

@@ -42,7 +42,7 @@ pub fn read_all<R: Read>(alloc: Global, reader: &mut R, limit: usize) -> Result<
     ensures too_long { result ≡ Err TooLong
         → IfSome (R.remaining reader.old) (λ left. limit < length left) }
 {
-    read_expected(alloc, reader, limit, 0)
+    read_through(reader, &mut [0; ROOM], Vec::new(alloc), limit)
 }
 
 /// The same, with room made at once for the bytes that are expected, so that they aren't copied as
@@ -61,7 +61,7 @@ pub fn read_expected<R: Read>(
         → IfSome (R.remaining reader.old) (λ left. limit < length left) }
 {
     let bytes = room_for(alloc, expected.min(limit as u64) as usize);
-    if 0 < expected && expected <= SMALL_ROOM as u64 {
+    if expected <= SMALL_ROOM as u64 {
         return read_through(reader, &mut [0; SMALL_ROOM], bytes, limit);
     }
     read_through(reader, &mut [0; ROOM], bytes, limit)
