@@ -115,7 +115,7 @@ fn is_answered_over<R: Threads + Wait + Sync>(
 ) -> Result<bool, CommandFault<AllocError>> {
     let manifests = manifests_of(alloc, MOVED.manifests)?;
     let answer = command_over(rt, alloc, what, manifests, 0, &Nothing, workers, &OpenGate)?;
-    Ok(ends_so(&answer.report, end))
+    Ok(answer.report.ends_with(end.as_bytes()))
 }
 
 fn are_over_contents<R: Threads + Wait + Sync>(
@@ -133,12 +133,12 @@ fn are_over_contents<R: Threads + Wait + Sync>(
 
 #[test]
 fn a_show_over_contents_is_answered(rt: HostRuntime) -> Result<(), Fail> {
-    are_over_contents(&rt, rt.alloc(), Command::Show, "entries 6")
+    are_over_contents(&rt, rt.alloc(), Command::Show, "\nentries 6\n")
 }
 
 #[test]
 fn a_check_over_contents_is_answered(rt: HostRuntime) -> Result<(), Fail> {
-    are_over_contents(&rt, rt.alloc(), Command::Fsck, "faults 3 notes 0")
+    are_over_contents(&rt, rt.alloc(), Command::Fsck, "\nfaults 3 notes 0\n")
 }
 
 // Adds the blob of a word.
