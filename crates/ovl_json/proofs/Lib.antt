@@ -5,3 +5,4 @@ pub mod MemberLemmas
 pub mod WordLemmas
 pub mod SqueezeLemmas
 pub mod RunLemmas
+mod Rows
