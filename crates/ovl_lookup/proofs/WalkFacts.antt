@@ -119,11 +119,11 @@ module _ (layer : Entries) (path : PathNames) (d : Descent) (is : IsDescent laye
       by [] e = subst (λ (p : PathNames). IsOwnDirectory layer p d.own) (whole-path e) is.own
       by (name ∷ rest) e = absurd (omega (arith, all, longer name rest e))
 
-  pub walked-through : d.depth ≡ length path → (inode : Inode) → entry_at layer (path_at layer d.own.row) ≡ Some inode → record { found = Some inode; next = unwrap_or d.own.turned path; closed = d.own.closed } ≡ walk layer path
-  walked-through all inode here =
+  pub walked-through : d.depth ≡ length path → record { found = entry_at layer (path_at layer d.own.row); next = unwrap_or d.own.turned path; closed = d.own.closed } ≡ walk layer path
+  walked-through all =
       let own = all-walked all in
       let step = walk-whole layer path own.directory in
-      (λ j. record { found = (sym here ∙ ap (entry_at layer) own.here) j; next = (own.next ∙ ap (λ (s : Step). s.next) step) j; closed = (own.closed ∙ ap (λ (s : Step). s.closed) step) j })
+      (λ j. record { found = entry_at layer (own.here j); next = (own.next ∙ ap (λ (s : Step). s.next) step) j; closed = (own.closed ∙ ap (λ (s : Step). s.closed) step) j })
       ∙ sym step
 
   module _ (short : d.depth ≡ length path → ⊥) where

@@ -144,51 +144,26 @@ impl<'a> OwnStep<'a> {
         ensures marked { IfOk result IsOwnMarked }
     {
         let Descent { own, depth, number } = descend(alloc, sheet, trail)?;
-        let OwnDirectory {
-            row,
-            turned,
-            closed,
-        } = own;
         if depth == trail.len() {
-            return Ok(OwnStep {
-                found: Some(Found::in_row(sheet, row)),
-                turned,
-                closed,
-            });
+            return Ok(own.step(sheet));
         }
         let Some(number) = number else {
-            return Ok(OwnStep {
-                found: None,
-                turned: past(turned, trail, depth)?,
-                closed,
-            });
+            let closed = own.closed;
+            return own.step_past(trail, depth, closed);
         };
         if depth + 1 < trail.len() {
+            // What is no directory hides what the layers below have there.
+            return own.step_past(trail, depth, true);
+        }
+        let entered = own.enter(alloc, sheet, number, depth)?;
+        if is_whiteout(sheet.inode(number)) {
             return Ok(OwnStep {
                 found: None,
-                turned: past(turned, trail, depth)?,
-                closed: true,
+                turned: entered.turned,
+                closed: entered.closed,
             });
         }
-        let own = OwnDirectory {
-            row,
-            turned,
-            closed,
-        };
-        let OwnDirectory { turned, closed, .. } = own.enter(alloc, sheet, number, depth)?;
-        let found = Found::in_row(sheet, number);
-        if is_whiteout(found.inode) {
-            return Ok(OwnStep {
-                found: None,
-                turned,
-                closed,
-            });
-        }
-        Ok(OwnStep {
-            found: Some(found),
-            turned,
-            closed,
-        })
+        Ok(entered.step(sheet))
     }
 }
 
@@ -221,6 +196,47 @@ pub struct OwnDirectory<'a> {
 }
 
 impl<'a> OwnDirectory<'a> {
+    // A walk that finds what stands here.
+    fn step(self, sheet: &'a Sheet) -> OwnStep<'a>
+        requires { self.row < length sheet.now }
+        ensures value { (path : PathNames) → own_step_of path result ≡ record {
+          found = entry_at sheet.now (path_at sheet.now self.entry.row);
+          next = unwrap_or self.entry.turned path;
+          closed = self.entry.closed;
+        } }
+        ensures marked { IsOwnMarked result }
+    {
+        let OwnDirectory {
+            row,
+            turned,
+            closed,
+        } = self;
+        OwnStep {
+            found: Some(Found::in_row(sheet, row)),
+            turned,
+            closed,
+        }
+    }
+
+    // A walk of a trail that finds nothing past so many names of it, which lead here.
+    fn step_past(
+        self,
+        trail: &Trail<'a>,
+        depth: usize,
+        closed: bool,
+    ) -> Result<OwnStep<'a>, AllocError>
+        ensures value { IfOk result (λ step. own_step_of trail.now step ≡ walks.nothing_found
+            (unwrap_or self.entry.turned (take depth trail.now) ++ drop depth trail.now)
+            closed) }
+        ensures marked { IfOk result IsOwnMarked }
+    {
+        Ok(OwnStep {
+            found: None,
+            turned: past(self.turned, trail, depth)?,
+            closed,
+        })
+    }
+
     // What stands at a name in this directory, which lies so deep, by the number of its row: a
     // directory or something else.
     fn enter(
@@ -367,52 +383,31 @@ pub(crate) fn descend<'a>(
 ) -> Result<Descent<'a>, AllocError>
     ensures { IfOk result (λ descent. IsDescent sheet.now trail.now descent) }
 {
-    let mut row = sheet.root_number();
-    let mut turned = None;
-    let mut closed = false;
+    let mut own = OwnDirectory {
+        row: sheet.root_number(),
+        turned: None,
+        closed: false,
+    };
     let mut depth = 0;
     for name in trail.names() {
-        let number = sheet.child(row, name);
+        let number = sheet.child(own.row, name);
         let Some(child) = number else {
-            return Ok(Descent {
-                own: OwnDirectory {
-                    row,
-                    turned,
-                    closed,
-                },
-                depth,
-                number,
-            });
+            return Ok(Descent { own, depth, number });
         };
-        if turned.is_none() && matches!(sheet.mark(child), Mark::DirPlain) {
+        if own.turned.is_none() && matches!(sheet.mark(child), Mark::DirPlain) {
             // The layer below knows it by its own path, as it does the directory above.
-            row = child;
+            own.row = child;
             depth += 1;
             continue;
         }
-        let own = OwnDirectory {
-            row,
-            turned,
-            closed,
-        };
         if !is_directory(sheet.inode(child)) {
             return Ok(Descent { own, depth, number });
         }
-        let entered = own.enter(alloc, sheet, child, depth)?;
-        row = child;
-        turned = entered.turned;
-        closed = entered.closed;
+        own = own.enter(alloc, sheet, child, depth)?;
         depth += 1;
     }
-    Ok(Descent {
-        own: OwnDirectory {
-            row,
-            turned,
-            closed,
-        },
-        depth,
-        number: None,
-    })
+    let number = None;
+    Ok(Descent { own, depth, number })
 }
 
 /// The directory that a layer has at a path.

@@ -15,7 +15,7 @@ loop-name-init c = (
   [],
   c.into_iter-name-iterator.ensures.into_iter_gives ∙ c.names-name-items.ensures.value,
   refl,
-  root-own c.args.sheet.now c.root_number-row.ensures.layer c.root_number-row.result c.root_number-row.ensures.inside c.root_number-row.ensures.path,
+  root-own c.args.sheet.now c.root_number.ensures.layer c.root_number.result c.root_number.ensures.inside c.root_number.ensures.path,
 )
 
 pub returns-in_default : goal.returns-in_default
@@ -23,9 +23,9 @@ returns-in_default c =
     let layer : Entries = c.args.sheet.now in
     let way = c.loop-name.invariant in
     let name : PathName = c.in-Some.name.now in
-    let stop = sought layer way.0 name c.loop-name.row way.3.here c.child-number.result c.child-number.ensures in
+    let stop = sought layer way.0 name c.loop-name.own.row way.3.here c.child-number.result c.child-number.ensures in
     record {
-      layered = c.root_number-row.ensures.layer;
+      layered = c.root_number.ensures.layer;
       above = way.0;
       rest = name ∷ c.next.new.self;
       whole = ap (λ (names : PathNames). way.0 ++ names) (sym c.in-Some.ensures.steps) ∙ way.1;
@@ -39,10 +39,10 @@ returns-then-not-is_directory c =
     let layer : Entries = c.args.sheet.now in
     let way = c.loop-name.invariant in
     let name : PathName = c.in-Some.name.now in
-    let stop = sought layer way.0 name c.loop-name.row way.3.here c.child-number.result c.child-number.ensures in
+    let stop = sought layer way.0 name c.loop-name.own.row way.3.here c.child-number.result c.child-number.ensures in
     let there = subst (IsNumberAt layer (child_path way.0 name)) c.in-Some-number.is stop in
     record {
-      layered = c.root_number-row.ensures.layer;
+      layered = c.root_number.ensures.layer;
       above = way.0;
       rest = name ∷ c.next.new.self;
       whole = ap (λ (names : PathNames). way.0 ++ names) (sym c.in-Some.ensures.steps) ∙ way.1;
@@ -56,14 +56,14 @@ loop-name-preserved c =
     let layer : Entries = c.args.sheet.now in
     let way = c.loop-name.invariant in
     let name : PathName = c.in-Some.name.now in
-    let there = subst (IsNumberAt layer (child_path way.0 name)) c.in-Some-number.is (sought layer way.0 name c.loop-name.row way.3.here c.child-number.result c.child-number.ensures) in
-    let entered = c.in_ok-entered.ensures way.0 name way.3 there.1 in (
+    let there = subst (IsNumberAt layer (child_path way.0 name)) c.in-Some-number.is (sought layer way.0 name c.loop-name.own.row way.3.here c.child-number.result c.child-number.ensures) in
+    let entered = c.in_ok-own.ensures way.0 name way.3 there.1 in (
       child_path way.0 name,
       append_assoc way.0 (name ∷ []) c.next.new.self ∙ (ap (λ (names : PathNames). way.0 ++ names) (sym c.in-Some.ensures.steps) ∙ way.1),
       ap (λ n. n + 1) way.2 ∙ sym (length_push way.0 name),
       record {
-        inside = there.0;
-        here = there.1;
+        inside = entered.inside;
+        here = entered.here;
         directory = ap (is_directory_at layer) (sym there.1) ∙ (ap directory_found c.inode.ensures ∙ (sym c.is_directory.ensures ∙ c.if-not-is_directory.false));
         next = entered.next;
         closed = entered.closed;
@@ -75,18 +75,18 @@ loop-name-preserved-then-matches c =
     let layer : Entries = c.args.sheet.now in
     let way = c.loop-name.invariant in
     let name : PathName = c.in-Some.name.now in
-    let there = subst (IsNumberAt layer (child_path way.0 name)) c.in-Some-number.is (sought layer way.0 name c.loop-name.row way.3.here c.child-number.result c.child-number.ensures) in
-    let unturned : c.loop-name.turned ≡ None = none-is c.loop-name.turned c.if-is_none.ensures in
+    let there = subst (IsNumberAt layer (child_path way.0 name)) c.in-Some-number.is (sought layer way.0 name c.loop-name.own.row way.3.here c.child-number.result c.child-number.ensures) in
+    let unturned : c.loop-name.own.turned ≡ None = none-is c.loop-name.own.turned c.if-is_none.ensures in
     let plain : c.mark.result.now ≡ DirPlain = elim c.match-matches.branch [
       | in-DirPlain w ↦ w.in-DirPlain.is
       | in_default-matches w ↦ let bad : false ≡ true = sym w.matches-is ∙ c.if-matches.true in cc
     ] in
-    let own = subst (λ (turned : Option PathNames). IsOwnDirectory layer way.0 (record { row = c.loop-name.row; turned = turned; closed = c.loop-name.closed })) unturned way.3 in (
+    let own = subst (λ (turned : Option PathNames). IsOwnDirectory layer way.0 (record { row = c.loop-name.own.row; turned = turned; closed = c.loop-name.own.closed })) unturned way.3 in (
       child_path way.0 name,
       append_assoc way.0 (name ∷ []) c.next.new.self ∙ (ap (λ (names : PathNames). way.0 ++ names) (sym c.in-Some.ensures.steps) ∙ way.1),
       ap (λ n. n + 1) way.2 ∙ sym (length_push way.0 name),
-      subst (λ (turned : Option PathNames). IsOwnDirectory layer (child_path way.0 name) (record { row = c.in-Some-number.child; turned = turned; closed = c.loop-name.closed })) (sym unturned)
-          (plain-entered layer way.0 name c.root_number-row.ensures.layer c.loop-name.row c.loop-name.closed own c.in-Some-number.child there.0 there.1 (c.mark.ensures ∙ ap Some plain)),
+      subst (λ (turned : Option PathNames). IsOwnDirectory layer (child_path way.0 name) (record { row = c.in-Some-number.child; turned = turned; closed = c.loop-name.own.closed })) (sym unturned)
+          (plain-entered layer way.0 name c.root_number.ensures.layer c.loop-name.own.row c.loop-name.own.closed own c.in-Some-number.child there.0 there.1 (c.mark.ensures ∙ ap Some plain)),
     )
 
 pub overflow_add-depth : goal.overflow_add-depth
@@ -102,7 +102,7 @@ pub returns : goal.returns
 returns c =
     let way = c.loop-name.invariant in
     record {
-      layered = c.root_number-row.ensures.layer;
+      layered = c.root_number.ensures.layer;
       above = way.0;
       rest = [];
       whole = ap (λ (names : PathNames). way.0 ++ names) (sym c.in-None.ensures.steps.0) ∙ way.1;

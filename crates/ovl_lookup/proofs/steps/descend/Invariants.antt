@@ -7,4 +7,4 @@ use Rattle.ovl_lookup.proofs.steps.descend.Given as goal
 abbrev pub invariant-loop-name : goal.invariant-loop-name
 invariant-loop-name l =
     (above : PathNames) × (above ++ l.name-iterator ≡ l.trail) × (l.depth ≡ length above)
-    × IsOwnDirectory l.sheet above (record { row = l.row; turned = l.turned; closed = l.closed })
+    × IsOwnDirectory l.sheet above l.own
