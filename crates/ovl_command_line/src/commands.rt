@@ -4,7 +4,7 @@ ghost use Rattle.clap.specs.Words.{app_of};
 ghost use Rattle.clap.specs.declared.builder.command.Command.TheViews.{out-Command as fields_of};
 ghost use Rattle.ovl_command_line.specs.Commands.{HasRule, HasShape, any_size_rule, bare_app, blobs_rule, blobs_shape, data_layers_rule, default_word, default_workers, down_to_rule, folders_shape, fsck_shape, layers_rule, layers_shape, merge_shape, out_rule, rewriting_shape, show_shape, tool_app, workers_rule};
 ghost use Rattle.ovl_command_line.specs.Lines.{number_in};
-ghost use Rattle.clap.specs.Simple.{shape_of};
+ghost use Rattle.clap.specs.Simple.{shape_of, with_subcommand};
 
 use clap::builder::ValueParser;
 use clap::{Arg, ArgAction, Command, value_parser};
@@ -143,13 +143,21 @@ Example:
 pub fn tool<'a>(alloc: Global) -> Result<Command<'a>, AllocError>
     ensures { IfOk result (λ command. app_of command ≡ tool_app) }
 {
+    let command = telling(alloc)?;
+    let command = with_rewriting(alloc, command, "vacuum", VACUUM, VACUUM_EXAMPLE)?;
+    let command = with_rewriting(alloc, command, "deref", DEREF, DEREF_EXAMPLE)?;
+    let command = command.subcommand(merge(alloc)?)?;
+    with_rewriting(alloc, command, "flatten", FLATTEN, FLATTEN_EXAMPLE)
+}
+
+// The program's own level, with the commands that make no layer.
+fn telling<'a>(alloc: Global) -> Result<Command<'a>, AllocError>
+    ensures { IfOk result (λ command. app_of command
+        ≡ with_subcommand (with_subcommand bare_app show_shape) fsck_shape) }
+{
     bare(alloc)?
         .subcommand(show(alloc)?)?
-        .subcommand(fsck(alloc)?)?
-        .subcommand(rewriting(alloc, "vacuum", VACUUM, VACUUM_EXAMPLE)?)?
-        .subcommand(rewriting(alloc, "deref", DEREF, DEREF_EXAMPLE)?)?
-        .subcommand(merge(alloc)?)?
-        .subcommand(rewriting(alloc, "flatten", FLATTEN, FLATTEN_EXAMPLE)?)
+        .subcommand(fsck(alloc)?)
 }
 
 // The program's own level, without its commands.
@@ -193,6 +201,20 @@ fn rewriting<'a>(
     ensures { IfOk result (HasShape (rewriting_shape name.now)) }
 {
     with_layers(alloc, with_folders(alloc, name, about, example)?)
+}
+
+// The level of all commands with one more that makes new layers.
+fn with_rewriting<'a>(
+    alloc: Global,
+    command: Command<'a>,
+    name: &'a str,
+    about: &'a str,
+    example: &'a str,
+) -> Result<Command<'a>, AllocError>
+    ensures { IfOk result (λ more. app_of more
+        ≡ with_subcommand (app_of command.entry) (rewriting_shape name.now)) }
+{
+    command.subcommand(rewriting(alloc, name, about, example)?)
 }
 
 fn merge<'a>(alloc: Global) -> Result<Command<'a>, AllocError>
