@@ -9,6 +9,7 @@ ghost use Rattle.ovl_inode.specs.Sound.{is_sound_inode};
 ghost use Rattle.ovl_layer.specs.Layers.{IsLayer, entry_limit};
 ghost use Rattle.ovl_manifest.specs.Manifest.{read_layer as layer_stated};
 ghost use Rattle.ovl_manifest.specs.AnyOrder.{Spells};
+ghost use Rattle.ovl_manifest.specs.Compact.{before_entries, behind_entries};
 ghost use Rattle.ovl_manifest.specs.Text.{entry_items, entry_value, layer_value};
 ghost use Rattle.ovl_manifest.specs.Versions.{depth_of, is_stated_by, states_nsec, version_number};
 ghost use Rattle.ovl_layer.specs.TextPaths.{slashed, AreEnds};
@@ -60,19 +61,34 @@ fn read_manifest(alloc: Global, version: Version, rest: &mut Rest<'_>) -> Option
     ensures layer { IfSome result (λ sheet. IsLayer sheet) }
     ensures stated { IfSome result (λ sheet. list_all (is_stated_by version) sheet ≡ true) }
 {
+    let is_numbered = take_front(version, rest)?;
+    let sheet = read_entries(alloc, version, rest)?;
+    take_back(version, is_numbered, rest)?;
+    Some(sheet)
+}
+
+// Takes what stands before the entries. Gives whether the number of the version is there.
+fn take_front(version: Version, rest: &mut Rest<'_>) -> Option<bool>
+    ensures { IfSome result (λ numbered. rest.old ≡ before_entries version numbered ++ rest.new) }
+{
     if rest.take("{\"entries\":").is_some() {
-        let sheet = read_entries(alloc, version, rest)?;
-        rest.take(",\"overlay-layer\":")?;
-        take_number(version, rest)?;
-        rest.take("}")?;
-        return Some(sheet);
+        return Some(false);
     }
     rest.take("{\"overlay-layer\":")?;
     take_number(version, rest)?;
     rest.take(",\"entries\":")?;
-    let sheet = read_entries(alloc, version, rest)?;
-    rest.take("}")?;
-    Some(sheet)
+    Some(true)
+}
+
+// Takes what stands behind the entries, the number of the version if it didn't stand before them.
+fn take_back(version: Version, is_numbered: bool, rest: &mut Rest<'_>) -> Option<()>
+    ensures { IfSome result (λ _. rest.old ≡ behind_entries version is_numbered ++ rest.new) }
+{
+    if !is_numbered {
+        rest.take(",\"overlay-layer\":")?;
+        take_number(version, rest)?;
+    }
+    rest.take("}")
 }
 
 // Takes the number of the version.
