@@ -112,8 +112,9 @@ front_text inode =
 -- what an entry has before its path, and the path's text and what follows it
 abbrev pub before_path : Version → Front → List ℕ → List ℕ
 before_path version front path =
-    group_text front.blob front.gid ++ word_text front.word (decimal front.mode ++ (mtime_text front.mtime
-    ++ (nsec_text version front.nsec ++ (codes ",\"path\":" ++ path))))
+    let back : List ℕ = nsec_text version front.nsec ++ (codes ",\"path\":" ++ path) in
+    group_text front.blob front.gid
+    ++ word_text front.word (decimal front.mode ++ (mtime_text front.mtime ++ back))
 
 -- the text begins with the members that an entry has behind its path and its contents, and its end
 pub record SpellsBack (uid : ℕ) (attrs : Attributes) (text rest : List ℕ) : Type 0 where
