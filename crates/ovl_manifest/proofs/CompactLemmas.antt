@@ -20,7 +20,7 @@ use Rattle.json.specs.Tree.{json_tokens, depth as tree_depth}
 use Rattle.json.proofs.Printed.Strings.{escape_byte_plain}
 use Rattle.json.proofs.Printed.Tokens.{tokens-print}
 use Rattle.json.proofs.Printed.Trees.{ArePrintable-json_tokens, value-json_tokens}
-use Rattle.serde_json.specs.Data.{Data, null, boolean, number, string, array, object, Members, no_members, member}
+use Rattle.serde_json.specs.Data.{Data, null, boolean, number, string, array, object, Members}
 use Rattle.serde_json.specs.Find.{as_str, of_integer}
 use Rattle.serde_json.specs.Read.{read, max_depth, of_json}
 use Rattle.serde_json.specs.Written.{outline, number_text, comma_if, compact_text, items_text, members_text}
@@ -34,20 +34,20 @@ use Rattle.ovl_inode.specs.declared.inodes.Kind.{Kind}
 use Rattle.ovl_inode.specs.declared.inodes.Kind.TheVariants.{Dir, File, Symlink, Char, Block, Fifo, Socket}
 use Rattle.ovl_inode.specs.Attributes.{Attributes, attribute_cmp, is_attribute_name, with_attribute}
 use Rattle.ovl_inode.specs.Hexadecimal.{is_lower_digit, bytes_of_digits, digest_of_text}
-use Rattle.ovl_inode.specs.Kinds.{kind_word}
 use Rattle.ovl_layer.specs.Layers.{Entries, IsLayer}
 use Rattle.ovl_manifest.specs.Manifest.{read_layer}
 use Rattle.ovl_manifest.specs.Versions.{version_number, is_stated_by}
+use Rattle.ovl_manifest.specs.declared.compact_entries.Word.{Word}
 use Rattle.ovl_manifest.specs.declared.versions.Version.{Version}
 use Rattle.ovl_manifest.specs.declared.versions.Version.TheVariants.{One, Two}
 use Rattle.ovl_manifest.specs.AnyOrder.{IsReadAs}
-use Rattle.ovl_manifest.specs.Text.{whole, with_kind, attribute_members, entry_value, entry_items, layer_value}
-use Rattle.ovl_manifest.specs.Compact.{group_text, device_text, nsec_text, contents_text, blob_of_kind, device_of_kind, attribute_text, attributes_text, entries_text}
+use Rattle.ovl_manifest.specs.Text.{with_kind, attribute_members, entry_value, entry_items, layer_value}
+use Rattle.ovl_manifest.specs.Compact.{group_text, word_text, nsec_text, contents_text, before_entries, behind_entries, blob_of_kind, word_of_kind, attribute_text, attributes_text, entries_text}
 use Rattle.ovl_manifest.specs.Fields.{attribute_after}
 use Rattle.ovl_manifest.proofs.ReadLemmas.{if-Some, text_read}
 use Rattle.ovl_manifest.proofs.TextLemmas.{attributes_in_turn, attribute_members-in_turn, layer-shallow}
 use Rattle.ovl_manifest.proofs.TailLemmas.{tokens-ended}
-use Rattle.ovl_manifest.proofs.WrittenBackLemmas.{common_with, layer_states, layer_numbers, outline-depth}
+use Rattle.ovl_manifest.proofs.WrittenBackLemmas.{common_with, manifest_members, layer_states, layer_numbers, outline-depth}
 use Rattle.ovl_manifest.proofs.StatedLemmas.{layer-back}
 
 -- ---- whether something was taken
@@ -190,16 +190,16 @@ digest-quoted digits blob is = ap quoted (digest-spelled digits blob is) ∙ ap 
 -- ---- an entry
 
 -- the pieces of an entry's text, with a value of its attributes, and what follows it
-abbrev pub in_turn : Version → Option Digest → List ℕ → Option (ℕ × ℕ) → Inode → List ℕ → List ℕ → Data → List ℕ → List ℕ
-in_turn version blob word device inode seconds path own rest =
-    group_text blob inode.gid ++ (codes ",\"kind\":" ++ (quoted word ++ (device_text device ++ (codes ",\"mode\":" ++ (decimal inode.mode
+abbrev pub in_turn : Version → Option Digest → Word → Inode → List ℕ → List ℕ → Data → List ℕ → List ℕ
+in_turn version blob word inode seconds path own rest =
+    group_text blob inode.gid ++ word_text word (decimal inode.mode
     ++ (codes ",\"mtime\":" ++ (seconds ++ (nsec_text version inode.nsec ++ (codes ",\"path\":" ++ (quoted path ++ (contents_text inode.kind ++ (codes ",\"uid\":" ++ (decimal inode.uid
-    ++ (codes ",\"xattrs\":" ++ (compact_text own ++ (codes "}" ++ rest))))))))))))))))
+    ++ (codes ",\"xattrs\":" ++ (compact_text own ++ (codes "}" ++ rest))))))))))))
 
 -- those of an entry of this kind
 abbrev pub pieces : Version → PathNames → Inode → Kind → Data → List ℕ → List ℕ
 pieces version path inode kind own rest =
-    in_turn version (blob_of_kind kind) (kind_word kind) (device_of_kind kind) (record inode { kind = kind }) (number_text (of_integer inode.mtime)) (path_text path) own rest
+    in_turn version (blob_of_kind kind) (word_of_kind kind) (record inode { kind = kind }) (number_text (of_integer inode.mtime)) (path_text path) own rest
 
 kind_text : (version : Version) (path : PathNames) (inode : Inode) (kind : Kind) (own : Data) (rest : List ℕ)
     → pieces version path inode kind own rest ≡ compact_text (object (with_kind kind (common_with version path (record inode { kind = kind }) own))) ++ rest
@@ -304,18 +304,13 @@ layer_text version layer rest =
     sym (ap (λ (t : List ℕ). t ++ rest) (in_brackets version layer)
     ∙ ap (λ (t : List ℕ). begin ++ t) (append_assoc items (named ++ (own ++ codes "}")) rest ∙ ap (λ (t : List ℕ). items ++ (named ++ t)) (append_assoc own (codes "}") rest)))
 
--- the same with a list of the entries as it stands, and with the number first
-pub entries_first : (own : Data) (n : ℕ) (rest : List ℕ)
-    → codes "{\"entries\":" ++ (compact_text own ++ (codes ",\"overlay-layer\":" ++ (decimal n ++ (codes "}" ++ rest))))
-    ≡ compact_text (object (member (codes "entries") own (member (codes "overlay-layer") (whole n) no_members))) ++ rest
+-- the same with a list of the entries as it stands, and the number before it or behind it
+pub manifest_text : (own : Data) (version : Version) (numbered : Bool) (rest : List ℕ)
+    → before_entries version numbered ++ (compact_text own ++ (behind_entries version numbered ++ rest))
+    ≡ compact_text (object (manifest_members own version numbered)) ++ rest
 unfolding escape_byte
-entries_first own n rest = simp append_assoc
-
-pub number_first : (own : Data) (n : ℕ) (rest : List ℕ)
-    → codes "{\"overlay-layer\":" ++ (decimal n ++ (codes ",\"entries\":" ++ (compact_text own ++ (codes "}" ++ rest))))
-    ≡ compact_text (object (member (codes "overlay-layer") (whole n) (member (codes "entries") own no_members))) ++ rest
-unfolding escape_byte
-number_first own n rest = simp append_assoc
+manifest_text own version true rest = simp append_assoc
+manifest_text own version false rest = simp append_assoc
 
 -- a text of a layer states it, with a newline and without
 module _ (version : Version) (layer : Entries) (value : Data) (back : IsReadAs 4 value (layer_value version layer)) (is : IsLayer layer) (stated : list_all (is_stated_by version) layer ≡ true) where

@@ -1,6 +1,6 @@
 -- Members in any order, and entries of them.
 use Rattle.std.proofs.Common.{◌≡◌, ◌∙◌, ℕ, ◌+◌, ◌≤◌, ◌<◌, List, [], ◌∷◌, ◌++◌, Bool, true, false, Option, Some, None, length, map, take, drop, refl, sym, ap, subst, append_assoc, append-nil, arith}
-use Rattle.std.specs.Prelude.{⊤, IfSome, codes}
+use Rattle.std.specs.Prelude.{⊤, IfSome, MatchOption}
 use Rattle.std.specs.Option.{option_map}
 use Rattle.std.specs.List.{list_all}
 use Rattle.std.specs.Ordering.{is_lt, match_ordering}
@@ -22,12 +22,11 @@ use Rattle.ovl_inode.specs.Sound.{is_sound_inode}
 use Rattle.ovl_layer.specs.Layers.{Entry, Entries}
 use Rattle.ovl_manifest.specs.AnyOrder.{commas, member_texts, IsReadAs, IsBack, AreBack, MayBeReadAs}
 use Rattle.ovl_manifest.specs.Places.{Places, filled, places, Fills, TakesPart}
-use Rattle.ovl_manifest.specs.Text.{whole, hexadecimal, with_kind, attribute_members, common_members, entry_value, entry_items, layer_value}
-use Rattle.ovl_manifest.specs.Versions.{version_number}
+use Rattle.ovl_manifest.specs.Text.{hexadecimal, with_kind, attribute_members, common_members, entry_value, entry_items, layer_value}
 use Rattle.ovl_manifest.specs.declared.unordered_entries.Parts.{Parts}
 use Rattle.ovl_manifest.specs.declared.versions.Version.{Version}
 use Rattle.ovl_manifest.proofs.TextLemmas.{attributes_in_turn, attribute_members-in_turn, entry-shallow}
-use Rattle.ovl_manifest.proofs.WrittenBackLemmas.{behind, read-behind, numbers-behind, shallow-behind, entry_members-back, version-back}
+use Rattle.ovl_manifest.proofs.WrittenBackLemmas.{behind, read-behind, numbers-behind, shallow-behind, entry_members-back, version-back, manifest_members}
 
 -- ---- texts behind commas
 
@@ -122,6 +121,10 @@ itself value back low = record { read = back.0; numbers = back.1; shallow = low 
 pub if_some-then : {A P Q : Type 0} (o : Option A) → IfSome o (λ _. P) → (P → Q) → IfSome o (λ _. Q)
 if_some-then None is then = tt
 if_some-then (Some a) is then = then is
+
+pub match_option-then : {A P Q : Type 0} (B : Type 0) (o : Option A) → MatchOption o B (λ _. P) → (P → Q) → IfSome o (λ _. Q)
+match_option-then B None is then = tt
+match_option-then B (Some a) is then = then is
 
 -- a member's name, the colon and its value are taken, which is put into place number n, where `of` says what it stands for
 pub taken-into : {X : Type 0} {text after behind rest named : List ℕ} {own : Data} {parts more : Parts} {v : X} {old new : Option X} (n : ℕ) (name : List ℕ) (of : X → Data)
@@ -260,16 +263,14 @@ list-read version owns entries are = record {
 -- ---- a manifest, with either of its members first
 
 module _ (version : Version) (layer : Entries) (own : Data) (is : IsReadAs 3 own (array (entry_items version layer))) where
-  pub entries_first-read : IsReadAs 4 (object (member (codes "entries") own (member (codes "overlay-layer") (whole (version_number version)) no_members))) (layer_value version layer)
-  entries_first-read = record {
-    read = rw (is.read, (version-back version).0) refl;
-    numbers = (is.numbers, ((version-back version).1, tt));
-    shallow = omega (arith, is.shallow);
-  }
-
-  pub number_first-read : IsReadAs 4 (object (member (codes "overlay-layer") (whole (version_number version)) (member (codes "entries") own no_members))) (layer_value version layer)
-  number_first-read = record {
+  pub manifest-read : (numbered : Bool) → IsReadAs 4 (object (manifest_members own version numbered)) (layer_value version layer)
+  manifest-read true = record {
     read = rw (is.read, (version-back version).0) refl;
     numbers = ((version-back version).1, (is.numbers, tt));
+    shallow = omega (arith, is.shallow);
+  }
+  manifest-read false = record {
+    read = rw (is.read, (version-back version).0) refl;
+    numbers = (is.numbers, ((version-back version).1, tt));
     shallow = omega (arith, is.shallow);
   }

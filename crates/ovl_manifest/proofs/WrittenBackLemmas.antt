@@ -1,5 +1,5 @@
 -- The tokens that are written of a layer's value are read as that value.
-use Rattle.std.proofs.Common.{◌≡◌, ◌∙◌, ℕ, ◌≤◌, ◌<◌, ◌^◌, ℤ, pos, negsuc, suc, max, List, [], ◌∷◌, ◌++◌, Bool, true, Option, Some, None, refl, sym, ap, ap₂, arith, append_assoc, append-nil, decimal, subst, ltb-true, leb-true}
+use Rattle.std.proofs.Common.{◌≡◌, ◌∙◌, ℕ, ◌≤◌, ◌<◌, ◌^◌, ℤ, pos, negsuc, suc, max, List, [], ◌∷◌, ◌++◌, Bool, true, false, Option, Some, None, refl, sym, ap, ap₂, arith, append_assoc, append-nil, decimal, subst, ltb-true, leb-true}
 use Rattle.std.specs.Prelude.{option_and_then, nat_le, ◌&&◌, codes}
 use Rattle.std.specs.Option.{option_map}
 use Rattle.std.specs.List.{list_all}
@@ -280,6 +280,11 @@ number-small Two = omega arith
 
 pub version-back : (version : Version) → IsBack (whole (version_number version))
 version-back version = whole-back (version_number version) 2 (number-small version) (omega arith)
+
+-- the members of a manifest, with a list of the entries as it stands, the number before it or behind it
+abbrev pub manifest_members : Data → Version → Bool → Members
+manifest_members own version true = member (codes "overlay-layer") (whole (version_number version)) (member (codes "entries") own no_members)
+manifest_members own version false = member (codes "entries") own (member (codes "overlay-layer") (whole (version_number version)) no_members)
 
 pub layer_numbers : (version : Version) (layer : Entries) → IsLayer layer → HasNumbers (outline (layer_value version layer))
 layer_numbers version layer is = (entries_numbers version layer is.sound, ((version-back version).1, tt))

@@ -1,17 +1,23 @@
 -- The text of a layer as it is written, piece by piece, for private clauses.
-use Rattle.std.specs.Prelude.{◌≡◌, ℕ, ℤ, Bool, true, Option, Some, None, List, [], ◌∷◌, ◌++◌, codes, decimal}
+use Rattle.std.specs.Prelude.{◌≡◌, ℕ, ℤ, Bool, true, false, Option, Some, None, List, [], ◌∷◌, ◌++◌, codes, decimal}
 use Rattle.std.specs.Fmt.{signed_decimal}
 use Rattle.hex.specs.Hex.{encode_lower}
 use Rattle.json.specs.Print.{quoted}
+use Rattle.serde_json.specs.Data.{Data, object}
 use Rattle.serde_json.specs.Written.{comma_if, compact_text}
 use Rattle.ovl_inode.specs.declared.digests.Digest.{Digest}
 use Rattle.ovl_inode.specs.declared.inodes.Inode.{Inode}
 use Rattle.ovl_inode.specs.declared.inodes.Kind.{Kind}
-use Rattle.ovl_inode.specs.declared.inodes.Kind.TheVariants.{File, Symlink, Char, Block}
+use Rattle.ovl_inode.specs.declared.inodes.Kind.TheVariants.{Dir, File, Symlink, Char, Block, Fifo, Socket}
 use Rattle.ovl_inode.specs.Attributes.{Attributes, with_attribute}
 use Rattle.ovl_inode.specs.Kinds.{kind_word}
 use Rattle.ovl_layer.specs.Layers.{Entries}
-use Rattle.ovl_manifest.specs.Text.{entry_value}
+use Rattle.ovl_manifest.specs.AnyOrder.{IsReadAs}
+use Rattle.ovl_manifest.specs.Text.{attribute_members, entry_value}
+use Rattle.ovl_manifest.specs.Versions.{version_number}
+use Rattle.ovl_manifest.specs.declared.compact_entries.Front.{Front}
+use Rattle.ovl_manifest.specs.declared.compact_entries.Word.{Word}
+use Rattle.ovl_manifest.specs.declared.compact_entries.Word.TheVariants as word
 use Rattle.ovl_manifest.specs.declared.versions.Version.{Version}
 use Rattle.ovl_manifest.specs.declared.versions.Version.TheVariants.{One, Two}
 
@@ -65,10 +71,26 @@ device_of_kind (Char major minor) = Some (major, minor)
 device_of_kind (Block major minor) = Some (major, minor)
 device_of_kind _ = None
 
--- the word of a kind and the numbers of a device, up to the mode, which follows them
-abbrev pub word_text : List ℕ → Option (ℕ × ℕ) → List ℕ → List ℕ
-word_text word device mode =
-    codes ",\"kind\":" ++ (quoted word ++ (device_text device ++ (codes ",\"mode\":" ++ mode)))
+-- the text of a word, and the numbers that stand behind it
+abbrev pub word_name : Word → List ℕ
+word_name word.Dir = codes "dir"
+word_name word.File = codes "file"
+word_name word.Symlink = codes "symlink"
+word_name (word.Char major minor) = codes "char"
+word_name (word.Block major minor) = codes "block"
+word_name word.Fifo = codes "fifo"
+word_name word.Socket = codes "socket"
+
+abbrev pub device_of_word : Word → Option (ℕ × ℕ)
+device_of_word (word.Char major minor) = Some (major, minor)
+device_of_word (word.Block major minor) = Some (major, minor)
+device_of_word _ = None
+
+-- the same up to the mode, which follows them
+abbrev pub word_text : Word → List ℕ → List ℕ
+word_text word mode =
+    codes ",\"kind\":" ++ (quoted (word_name word)
+    ++ (device_text (device_of_word word) ++ (codes ",\"mode\":" ++ mode)))
 
 -- the word of a kind and the numbers of a device, and what follows them
 abbrev pub kind_text : Kind → List ℕ → List ℕ
@@ -87,12 +109,33 @@ front_text inode =
     ++ (signed_decimal inode.mtime ++ (codes ",\"mtime-nsec\":" ++ (decimal inode.nsec
     ++ codes ",\"path\":")))))))
 
--- the kind has this word, blob and numbers
-pub record IsKindOf (word : List ℕ) (blob : Option Digest) (device : Option (ℕ × ℕ))
-    (kind : Kind) : Type 0 where
-  pub same_word : kind_word kind ≡ word
+-- what an entry has before its path, and the path's text and what follows it
+abbrev pub before_path : Version → Front → List ℕ → List ℕ
+before_path version front path =
+    let back : List ℕ = nsec_text version front.nsec ++ (codes ",\"path\":" ++ path) in
+    group_text front.blob front.gid
+    ++ word_text front.word (decimal front.mode ++ (mtime_text front.mtime ++ back))
+
+-- the text begins with the members that an entry has behind its path and its contents, and its end
+pub record SpellsBack (uid : ℕ) (attrs : Attributes) (text rest : List ℕ) : Type 0 where
+  pub own : Data
+  pub taken : text ≡ codes ",\"uid\":" ++ (decimal uid ++ (codes ",\"xattrs\":"
+      ++ (compact_text own ++ (codes "}" ++ rest))))
+  pub back : IsReadAs 1 own (object (attribute_members attrs))
+
+-- the kind has this word and blob
+abbrev pub word_of_kind : Kind → Word
+word_of_kind Dir = word.Dir
+word_of_kind (File size blob) = word.File
+word_of_kind (Symlink target) = word.Symlink
+word_of_kind (Char major minor) = word.Char major minor
+word_of_kind (Block major minor) = word.Block major minor
+word_of_kind Fifo = word.Fifo
+word_of_kind Socket = word.Socket
+
+pub record IsKindOf (word : Word) (blob : Option Digest) (kind : Kind) : Type 0 where
+  pub same_word : word_of_kind kind ≡ word
   pub same_blob : blob_of_kind kind ≡ blob
-  pub same_device : device_of_kind kind ≡ device
 
 -- an attribute, and attributes one after another, the first behind a comma if others come `before`
 abbrev pub attribute_text : List ℕ × List ℕ → List ℕ
@@ -116,3 +159,14 @@ entries_text version before [] = []
 entries_text version before (entry ∷ entries) =
     comma_if before
     ++ (compact_text (entry_value version entry) ++ entries_text version true entries)
+
+-- what a manifest has before its entries, and behind them: the number of the version is in one
+abbrev pub before_entries : Version → Bool → List ℕ
+before_entries version true =
+    codes "{\"overlay-layer\":" ++ (decimal (version_number version) ++ codes ",\"entries\":")
+before_entries version false = codes "{\"entries\":"
+
+abbrev pub behind_entries : Version → Bool → List ℕ
+behind_entries version true = codes "}"
+behind_entries version false =
+    codes ",\"overlay-layer\":" ++ (decimal (version_number version) ++ codes "}")

@@ -16,6 +16,7 @@ use Rattle.ovl_inode.specs.Kinds.{kind_word}
 use Rattle.ovl_manifest.specs.AnyOrder.{IsReadAs, IsBack, MayBeReadAs}
 use Rattle.ovl_manifest.specs.Compact.{blob_of_kind, device_of_kind}
 use Rattle.ovl_manifest.specs.Text.{whole, hexadecimal, attribute_members}
+use Rattle.ovl_manifest.specs.declared.unordered_entries.Numbers.{Numbers}
 use Rattle.ovl_manifest.specs.declared.unordered_entries.Parts.{Parts}
 use Rattle.ovl_manifest.specs.declared.versions.Version.{Version}
 use Rattle.ovl_manifest.specs.declared.versions.Version.TheVariants.{One, Two}
@@ -78,6 +79,14 @@ pub record SpellsParts (parts : Parts) (text rest : List ℕ) : Type 0 where
 abbrev pub nsec_place : Version → ℕ → Option ℕ
 nsec_place One nsec = None
 nsec_place Two nsec = Some nsec
+
+-- these are the numbers of an entry's members
+pub record IsNumbered (version : Version) (parts : Parts) (numbers : Numbers) : Type 0 where
+  pub gid : parts.gid ≡ Some numbers.gid
+  pub mode : parts.mode ≡ Some numbers.mode
+  pub mtime : parts.mtime ≡ Some numbers.mtime
+  pub nsec : parts.nsec ≡ nsec_place version numbers.nsec
+  pub uid : parts.uid ≡ Some numbers.uid
 
 -- the kind has this word, and just these members
 abbrev pub size_of_kind : Kind → Option ℕ

@@ -1,13 +1,14 @@
 //! Entries whose members stand in the order in which they are written, without space.
-ghost use Rattle.std.specs.Prelude.{◌≡◌, true, IfSome, ◌++◌};
+ghost use Rattle.std.specs.Prelude.{◌≡◌, true, IfSome, Some, ◌++◌};
 ghost use Rattle.std.specs.Cow.{cow_str_bytes};
+ghost use Rattle.json.specs.Print.{quoted};
 ghost use Rattle.serde_json.specs.Data.{object};
 ghost use Rattle.ovl_names.specs.Paths.{PathNames, path_text};
 ghost use Rattle.ovl_inode.specs.Sound.{is_sound_inode};
 ghost use Rattle.ovl_manifest.specs.AnyOrder.{Spells};
 ghost use Rattle.ovl_manifest.specs.Text.{attribute_members, entry_value};
 ghost use Rattle.ovl_manifest.specs.Versions.{states_nsec};
-ghost use Rattle.ovl_manifest.specs.Compact.{group_text, device_text, word_text, mtime_text, nsec_text, contents_text, IsKindOf, TakesAttribute};
+ghost use Rattle.ovl_manifest.specs.Compact.{group_text, device_text, word_name, word_text, device_of_word, mtime_text, nsec_text, before_path, contents_text, IsKindOf, SpellsBack, TakesAttribute};
 
 use crate::compact_texts::Rest;
 use crate::fields::put_digits;
@@ -18,6 +19,29 @@ use std::borrow::CowStr;
 
 // From so many attributes on each has to come after the others.
 const MANY: usize = 16;
+
+/// The word of a kind, with the two numbers behind that of a device.
+#[derive(Clone, Copy)]
+pub(crate) enum Word {
+    Dir,
+    File,
+    Symlink,
+    Char { major: u32, minor: u32 },
+    Block { major: u32, minor: u32 },
+    Fifo,
+    Socket,
+}
+
+/// What an entry has before its path.
+#[derive(Clone, Copy)]
+pub(crate) struct Front {
+    blob: Option<Digest>,
+    gid: u32,
+    word: Word,
+    mode: u16,
+    mtime: i64,
+    nsec: u32,
+}
 
 /// The text of the path and the inode of the entry that comes next, in a version.
 pub(crate) fn read_entry<'a>(
@@ -31,25 +55,17 @@ pub(crate) fn read_entry<'a>(
     ensures stated { IfSome result (λ entry. states_nsec version entry.1.nsec ≡ true) }
     ensures sound { IfSome result (λ entry. is_sound_inode entry.1 ≡ true) }
 {
-    let (blob, gid) = read_group(rest)?;
-    let (word, device) = read_word(rest)?;
-    let mode = rest.take_natural(MODE_LIMIT as u64)?;
-    let (mtime, nsec) = read_time(version, rest)?;
-    rest.take(",\"path\":")?;
+    let front = read_front(version, rest)?;
     let path = rest.take_text(alloc)?;
-    let kind = read_kind(alloc, rest, word, blob, device)?;
-    rest.take(",\"uid\":")?;
-    let uid = rest.take_natural(u32::MAX as u64)?;
-    rest.take(",\"xattrs\":")?;
-    let attrs = read_attributes(alloc, rest)?;
-    rest.take("}")?;
+    let kind = read_kind(alloc, rest, front.word, front.blob)?;
+    let (uid, attrs) = read_back(alloc, rest)?;
     let inode = Inode {
         kind,
-        mode: mode as u16,
-        uid: uid as u32,
-        gid,
-        mtime,
-        nsec,
+        mode: front.mode,
+        uid,
+        gid: front.gid,
+        mtime: front.mtime,
+        nsec: front.nsec,
         attrs,
     };
     if sound(&inode) {
@@ -57,6 +73,38 @@ pub(crate) fn read_entry<'a>(
     } else {
         None
     }
+}
+
+// What stands before the path of the entry that comes next.
+fn read_front(version: Version, rest: &mut Rest<'_>) -> Option<Front>
+    ensures text { IfSome result (λ front. rest.old ≡ before_path version front rest.new) }
+    ensures stated { IfSome result (λ front. states_nsec version front.nsec ≡ true) }
+{
+    let (blob, gid) = read_group(rest)?;
+    let word = read_word(rest)?;
+    let mode = rest.take_natural(MODE_LIMIT as u64)?;
+    let (mtime, nsec) = read_time(version, rest)?;
+    rest.take(",\"path\":")?;
+    Some(Front {
+        blob,
+        gid,
+        word,
+        mode: mode as u16,
+        mtime,
+        nsec,
+    })
+}
+
+// The end of an entry: the owning user and the attributes.
+fn read_back(alloc: Global, rest: &mut Rest<'_>) -> Option<(u32, Attrs)>
+    ensures { IfSome result (λ read. SpellsBack read.0 read.1 rest.old rest.new) }
+{
+    rest.take(",\"uid\":")?;
+    let uid = rest.take_natural(u32::MAX as u64)?;
+    rest.take(",\"xattrs\":")?;
+    let attrs = read_attributes(alloc, rest)?;
+    rest.take("}")?;
+    Some((uid as u32, attrs))
 }
 
 // The beginning of an entry: the blob, where that member comes first, and the owning group.
@@ -76,20 +124,51 @@ fn read_group(rest: &mut Rest<'_>) -> Option<(Option<Digest>, u32)>
 
 // The word of the kind and the two numbers of a device, up to the mode; most entries are files or
 // directories.
-fn read_word<'a>(rest: &mut Rest<'a>) -> Option<(&'a str, Option<(u32, u32)>)>
-    ensures { IfSome result (λ read. rest.old ≡ word_text read.0.now read.1 rest.new) }
+fn read_word(rest: &mut Rest<'_>) -> Option<Word>
+    ensures { IfSome result (λ word. rest.old ≡ word_text word rest.new) }
 {
     if rest.take(",\"kind\":\"file\",\"mode\":").is_some() {
-        return Some(("file", None));
+        return Some(Word::File);
     }
     if rest.take(",\"kind\":\"dir\",\"mode\":").is_some() {
-        return Some(("dir", None));
+        return Some(Word::Dir);
     }
     rest.take(",\"kind\":")?;
-    let word = rest.take_string()?;
-    let device = read_device(rest, word)?;
+    let word = read_rare_word(rest)?;
     rest.take(",\"mode\":")?;
-    Some((word, device))
+    Some(word)
+}
+
+// The word of a kind that few entries have, and the two numbers of a device.
+fn read_rare_word(rest: &mut Rest<'_>) -> Option<Word>
+    ensures { IfSome result (λ word. rest.old
+        ≡ quoted (word_name word) ++ (device_text (device_of_word word) ++ rest.new)) }
+{
+    match rest.take_string()? {
+        "symlink" => Some(Word::Symlink),
+        "char" => {
+            let (major, minor) = read_device(rest)?;
+            Some(Word::Char { major, minor })
+        }
+        "block" => {
+            let (major, minor) = read_device(rest)?;
+            Some(Word::Block { major, minor })
+        }
+        "fifo" => Some(Word::Fifo),
+        "socket" => Some(Word::Socket),
+        _ => None,
+    }
+}
+
+// The two numbers of a device.
+fn read_device(rest: &mut Rest<'_>) -> Option<(u32, u32)>
+    ensures { IfSome result (λ device. rest.old ≡ device_text (Some device) ++ rest.new) }
+{
+    rest.take(",\"major\":")?;
+    let major = rest.take_natural(u32::MAX as u64)?;
+    rest.take(",\"minor\":")?;
+    let minor = rest.take_natural(u32::MAX as u64)?;
+    Some((major as u32, minor as u32))
 }
 
 // The time of the last change: its seconds, and the nanoseconds past them.
@@ -119,53 +198,39 @@ fn read_nsec(version: Version, rest: &mut Rest<'_>) -> Option<u32>
     }
 }
 
-// The two numbers of a device, and none of another kind.
-fn read_device(rest: &mut Rest<'_>, word: &str) -> Option<Option<(u32, u32)>>
-    ensures { IfSome result (λ device. rest.old ≡ device_text device ++ rest.new) }
-{
-    if word != "char" && word != "block" {
-        return Some(None);
-    }
-    rest.take(",\"major\":")?;
-    let major = rest.take_natural(u32::MAX as u64)?;
-    rest.take(",\"minor\":")?;
-    let minor = rest.take_natural(u32::MAX as u64)?;
-    Some(Some((major as u32, minor as u32)))
-}
-
-// The kind of this word, with the blob and the numbers that were read and the member after `path`.
-fn read_kind(
-    alloc: Global,
-    rest: &mut Rest<'_>,
-    word: &str,
-    blob: Option<Digest>,
-    device: Option<(u32, u32)>,
-) -> Option<Kind>
-    ensures kind { IfSome result (λ kind. IsKindOf word.now blob device kind) }
+// The kind of this word, with the blob that was read and the member after `path`.
+fn read_kind(alloc: Global, rest: &mut Rest<'_>, word: Word, blob: Option<Digest>) -> Option<Kind>
+    ensures kind { IfSome result (λ kind. IsKindOf word blob kind) }
     ensures contents { IfSome result (λ kind. rest.old ≡ contents_text kind ++ rest.new) }
 {
-    match (word, blob, device) {
-        ("file", blob, None) => {
+    match (word, blob) {
+        (Word::File, blob) => {
             rest.take(",\"size\":")?;
             let size = rest.take_natural(SIZE_LIMIT)?;
             Some(Kind::File { size, blob })
         }
-        ("symlink", None, None) => {
+        (Word::Symlink, None) => {
             rest.take(",\"target\":")?;
-            let text = rest.take_text(alloc)?;
-            let Ok(own) = text.into_owned(alloc) else {
-                return None;
-            };
-            Some(Kind::Symlink {
-                target: Target::from(own),
-            })
+            let target = read_target(alloc, rest)?;
+            Some(Kind::Symlink { target })
         }
-        ("char", None, Some((major, minor))) => Some(Kind::Char { major, minor }),
-        ("block", None, Some((major, minor))) => Some(Kind::Block { major, minor }),
-        ("dir", None, None) => Some(Kind::Dir),
-        ("fifo", None, None) => Some(Kind::Fifo),
-        ("socket", None, None) => Some(Kind::Socket),
+        (Word::Char { major, minor }, None) => Some(Kind::Char { major, minor }),
+        (Word::Block { major, minor }, None) => Some(Kind::Block { major, minor }),
+        (Word::Dir, None) => Some(Kind::Dir),
+        (Word::Fifo, None) => Some(Kind::Fifo),
+        (Word::Socket, None) => Some(Kind::Socket),
         _ => None,
+    }
+}
+
+/// The target of a symlink.
+pub(crate) fn read_target(alloc: Global, rest: &mut Rest<'_>) -> Option<Target>
+    ensures { IfSome result (λ target. rest.old ≡ quoted target ++ rest.new) }
+{
+    let text = rest.take_text(alloc)?;
+    match text.into_owned(alloc) {
+        Ok(own) => Some(Target::from(own)),
+        Err(_) => None,
     }
 }
 

@@ -1,18 +1,19 @@
 //! Manifests without space, read by their texts without a value in between.
-ghost use Rattle.std.specs.Prelude.{◌≡◌, ◌<◌, ◌≤◌, Ok, IfSome, true, [], ◌∷◌, ◌++◌, decimal, length};
+ghost use Rattle.std.specs.Prelude.{◌≡◌, ◌<◌, ◌≤◌, Ok, IfSome, true, [], ◌∷◌, ◌++◌, decimal, length, take};
 ghost use Rattle.std.specs.Cow.{cow_str_bytes};
 ghost use Rattle.std.specs.List.{list_all};
 ghost use Rattle.std.specs.Str.{IsUtf8};
 ghost use Rattle.serde_json.specs.Data.{array};
-ghost use Rattle.ovl_names.specs.Paths.{PathNames, path_text};
+ghost use Rattle.ovl_names.specs.Paths.{PathNames, child_path, path_text};
 ghost use Rattle.ovl_inode.specs.Sound.{is_sound_inode};
 ghost use Rattle.ovl_layer.specs.Layers.{IsLayer, entry_limit};
 ghost use Rattle.ovl_manifest.specs.Manifest.{read_layer as layer_stated};
 ghost use Rattle.ovl_manifest.specs.AnyOrder.{Spells};
+ghost use Rattle.ovl_manifest.specs.Compact.{before_entries, behind_entries};
 ghost use Rattle.ovl_manifest.specs.Text.{entry_items, entry_value, layer_value};
 ghost use Rattle.ovl_manifest.specs.Versions.{depth_of, is_stated_by, states_nsec, version_number};
 ghost use Rattle.ovl_layer.specs.TextPaths.{slashed, AreEnds};
-ghost use Rattle.ovl_layer.specs.SheetDrafts.{drafted, last_path, IsSheetDraft};
+ghost use Rattle.ovl_layer.specs.SheetDrafts.{drafted, last_path, CanEnter, IsSheetDraft};
 
 use crate::compact_texts::Rest;
 use crate::text_paths::{go_on, place_beside};
@@ -60,19 +61,34 @@ fn read_manifest(alloc: Global, version: Version, rest: &mut Rest<'_>) -> Option
     ensures layer { IfSome result (λ sheet. IsLayer sheet) }
     ensures stated { IfSome result (λ sheet. list_all (is_stated_by version) sheet ≡ true) }
 {
+    let is_numbered = take_front(version, rest)?;
+    let sheet = read_entries(alloc, version, rest)?;
+    take_back(version, is_numbered, rest)?;
+    Some(sheet)
+}
+
+// Takes what stands before the entries. Gives whether the number of the version is there.
+fn take_front(version: Version, rest: &mut Rest<'_>) -> Option<bool>
+    ensures { IfSome result (λ numbered. rest.old ≡ before_entries version numbered ++ rest.new) }
+{
     if rest.take("{\"entries\":").is_some() {
-        let sheet = read_entries(alloc, version, rest)?;
-        rest.take(",\"overlay-layer\":")?;
-        take_number(version, rest)?;
-        rest.take("}")?;
-        return Some(sheet);
+        return Some(false);
     }
     rest.take("{\"overlay-layer\":")?;
     take_number(version, rest)?;
     rest.take(",\"entries\":")?;
-    let sheet = read_entries(alloc, version, rest)?;
-    rest.take("}")?;
-    Some(sheet)
+    Some(true)
+}
+
+// Takes what stands behind the entries, the number of the version if it didn't stand before them.
+fn take_back(version: Version, is_numbered: bool, rest: &mut Rest<'_>) -> Option<()>
+    ensures { IfSome result (λ _. rest.old ≡ behind_entries version is_numbered ++ rest.new) }
+{
+    if !is_numbered {
+        rest.take(",\"overlay-layer\":")?;
+        take_number(version, rest)?;
+    }
+    rest.take("}")
 }
 
 // Takes the number of the version.
@@ -196,6 +212,37 @@ fn add_beside(
     ensures entries { IfSome result
         (λ _. drafted draft.new ≡ drafted draft.old ++ (last_path draft.new, inode) ∷ []) }
 {
+    let (depth, name) = next_place(alloc, version, draft, last, ends, text, &inode)?;
+    let Ok(()) = draft.enter(alloc, depth, name, inode) else {
+        return None;
+    };
+    match go_on(ends, depth, text.len()) {
+        Ok(()) => Some(()),
+        Err(_) => None,
+    }
+}
+
+// Where that entry comes, if it can be the next: how many names of the last path lead to its
+// directory, and its own name.
+fn next_place(
+    alloc: Global,
+    version: Version,
+    draft: &SheetDraft,
+    last: &str,
+    ends: &[usize],
+    text: &str,
+    inode: &Inode,
+) -> Option<(usize, Name)>
+    requires draft { IsSheetDraft draft.now }
+    requires room { length (drafted draft.now) < entry_limit }
+    requires last { slashed (last_path draft.now) ≡ last.now }
+    requires ends { AreEnds (last_path draft.now) ends.now }
+    requires sound { is_sound_inode inode.now ≡ true }
+    ensures entry { IfSome result (λ place. CanEnter draft.now place.0 place.1 inode.now) }
+    ensures depth { IfSome result (λ place. place.0 < depth_of version) }
+    ensures text { IfSome result (λ place.
+        text.now ≡ slashed (child_path (take place.0 (last_path draft.now)) place.1)) }
+{
     let (depth, name) = place_beside(last, ends, text)?;
     if depth >= version.depth() || text.len() > TEXT_LIMIT || has_escaped_name(&inode.attrs) {
         return None;
@@ -203,14 +250,9 @@ fn add_beside(
     let Ok(name) = Name::of(alloc, name) else {
         return None;
     };
-    if !draft.comes_before_child(depth, &name) || !draft.is_directory_above(depth) {
-        return None;
-    }
-    let Ok(()) = draft.enter(alloc, depth, name, inode) else {
-        return None;
-    };
-    match go_on(ends, depth, text.len()) {
-        Ok(()) => Some(()),
-        Err(_) => None,
+    if draft.comes_before_child(depth, &name) && draft.is_directory_above(depth) {
+        Some((depth, name))
+    } else {
+        None
     }
 }

@@ -74,6 +74,16 @@ impl<'a> Rest<'a> {
         Some(())
     }
 
+    // Takes so many bytes.
+    fn take_front(&mut self, count: usize) -> Option<&'a str>
+        ensures count { IfSome result (λ front. front.now ≡ take count self.old) }
+        ensures text { IfSome result (λ front. self.old ≡ front.now ++ self.new) }
+    {
+        let (front, back) = self.text.split_at_checked(count)?;
+        self.text = back;
+        Some(front)
+    }
+
     /// Takes a string with its quotation marks. It is copied where some of its bytes are escaped.
     pub(crate) fn take_text(&mut self, alloc: Global) -> Option<CowStr<'a, Global>>
         ensures { IfSome result (λ text. self.old ≡ quoted (cow_str_bytes text) ++ self.new) }
@@ -93,10 +103,7 @@ impl<'a> Rest<'a> {
         ensures { IfSome result (λ text. self.old ≡ quoted text.now ++ self.new) }
     {
         self.take("\"")?;
-        let (text, back) = self
-            .text
-            .split_at_checked(plain_length(self.text.as_bytes()))?;
-        self.text = back;
+        let text = self.take_front(plain_length(self.text.as_bytes()))?;
         self.take("\"")?;
         Some(text)
     }
@@ -106,8 +113,7 @@ impl<'a> Rest<'a> {
         ensures { IfSome result (λ digest. self.old ≡ quoted (encode_lower digest) ++ self.new) }
     {
         self.take("\"")?;
-        let (digits, back) = self.text.split_at_checked(DIGEST_DIGITS)?;
-        self.text = back;
+        let digits = self.take_front(DIGEST_DIGITS)?;
         self.take("\"")?;
         match Digest::parse(digits) {
             Ok(digest) => Some(digest),

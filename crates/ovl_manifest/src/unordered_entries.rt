@@ -1,16 +1,15 @@
 //! Entries whose members stand in any order, each at most once, without space.
 ghost use Rattle.std.specs.Prelude.{◌≡◌, ◌++◌, true, IfSome, Some, None, decimal};
 ghost use Rattle.std.specs.Cow.{cow_str_bytes};
-ghost use Rattle.json.specs.Print.{quoted};
 ghost use Rattle.serde_json.specs.Data.{no_members};
 ghost use Rattle.ovl_names.specs.Paths.{PathNames, path_text};
 ghost use Rattle.ovl_inode.specs.Sound.{is_sound_inode};
 ghost use Rattle.ovl_manifest.specs.Text.{common_members, entry_value, with_kind};
 ghost use Rattle.ovl_manifest.specs.Versions.{states_nsec};
 ghost use Rattle.ovl_manifest.specs.AnyOrder.{Spells};
-ghost use Rattle.ovl_manifest.specs.Places.{filled, places, nsec_place, IsKindWith, SpellsParts, TakesPart};
+ghost use Rattle.ovl_manifest.specs.Places.{filled, places, nsec_place, IsKindWith, IsNumbered, SpellsParts, TakesPart};
 
-use crate::compact_entries::read_attributes;
+use crate::compact_entries::{read_attributes, read_target};
 use crate::compact_texts::Rest;
 use crate::versions::Version;
 use ovl_inode::{Attrs, Digest, Inode, Kind, MODE_LIMIT, NSEC_LIMIT, SIZE_LIMIT, Target, sound};
@@ -58,6 +57,16 @@ impl<'a> Parts<'a> {
     }
 }
 
+/// The numbers that entries of all kinds have.
+#[derive(Clone, Copy)]
+pub(crate) struct Numbers {
+    gid: u32,
+    mode: u16,
+    mtime: i64,
+    nsec: u32,
+    uid: u32,
+}
+
 /// The text of the path and the inode of the entry that comes next, in a version.
 pub(crate) fn read_entry<'a>(
     alloc: Global,
@@ -70,22 +79,22 @@ pub(crate) fn read_entry<'a>(
     ensures stated { IfSome result (λ entry. states_nsec version entry.1.nsec ≡ true) }
     ensures sound { IfSome result (λ entry. is_sound_inode entry.1 ≡ true) }
 {
-    let parts = read_parts(alloc, rest)?;
+    let mut parts: Parts<'a> = Parts::none();
+    read_parts(alloc, rest, &mut parts)?;
     entry_of(version, parts)
 }
 
-// The members of the object that comes next.
-fn read_parts<'a>(alloc: Global, rest: &mut Rest<'a>) -> Option<Parts<'a>>
-    ensures { IfSome result (λ parts. SpellsParts parts rest.old rest.new) }
+// Puts the members of the object that comes next into these places, all of which are empty.
+fn read_parts<'a>(alloc: Global, rest: &mut Rest<'a>, parts: &mut Parts<'a>) -> Option<()>
+    requires { filled (places parts.old) ≡ no_members }
+    ensures { IfSome result (λ _. SpellsParts parts.new rest.old rest.new) }
 {
     rest.take("{")?;
-    let mut parts: Parts<'a> = Parts::none();
-    read_part(alloc, rest, &mut parts)?;
+    read_part(alloc, rest, parts)?;
     'parts: while rest.take(",").is_some() {
-        read_part(alloc, rest, &mut parts)?;
+        read_part(alloc, rest, parts)?;
     }
-    rest.take("}")?;
-    Some(parts)
+    rest.take("}")
 }
 
 // Puts the member that comes next to the others, if it is one of an entry and isn't there yet.
@@ -105,7 +114,7 @@ fn read_part<'a>(alloc: Global, rest: &mut Rest<'a>, parts: &mut Parts<'a>) -> O
         "mtime-nsec" => place(&mut parts.nsec, take_nanoseconds(rest)?),
         "path" => place(&mut parts.path, rest.take_text(alloc)?),
         "size" => place(&mut parts.size, rest.take_natural(SIZE_LIMIT)?),
-        "target" => place(&mut parts.target, take_target(alloc, rest)?),
+        "target" => place(&mut parts.target, read_target(alloc, rest)?),
         "uid" => place(&mut parts.uid, take_number(rest)?),
         "xattrs" => place(&mut parts.xattrs, read_attributes(alloc, rest)?),
         _ => None,
@@ -147,17 +156,6 @@ fn take_nanoseconds(rest: &mut Rest<'_>) -> Option<u32>
     Some(nsec as u32)
 }
 
-// The target of a symlink.
-fn take_target(alloc: Global, rest: &mut Rest<'_>) -> Option<Target>
-    ensures { IfSome result (λ target. rest.old ≡ quoted target ++ rest.new) }
-{
-    let text = rest.take_text(alloc)?;
-    match text.into_owned(alloc) {
-        Ok(own) => Some(Target::from(own)),
-        Err(_) => None,
-    }
-}
-
 // The text of the path and the inode that these members state, where they are those of a kind, and
 // no others.
 fn entry_of<'a>(version: Version, parts: Parts<'a>) -> Option<(CowStr<'a, Global>, Inode)>
@@ -168,37 +166,46 @@ fn entry_of<'a>(version: Version, parts: Parts<'a>) -> Option<(CowStr<'a, Global
     ensures stated { IfSome result (λ entry. states_nsec version entry.1.nsec ≡ true) }
     ensures sound { IfSome result (λ entry. is_sound_inode entry.1 ≡ true) }
 {
-    let Parts {
-        blob,
-        gid,
-        kind,
-        major,
-        minor,
-        mode,
-        mtime,
-        nsec,
-        path,
-        size,
-        target,
-        uid,
-        xattrs,
-    } = parts;
-    let kind = kind_of(kind?, blob, size, target, major, minor)?;
-    let path = path?;
+    let numbers = numbers_of(version, &parts)?;
+    let (Some(word), Some(path), Some(attrs)) = (parts.kind, parts.path, parts.xattrs) else {
+        return None;
+    };
+    let kind = kind_of(
+        word,
+        parts.blob,
+        parts.size,
+        parts.target,
+        parts.major,
+        parts.minor,
+    )?;
     let inode = Inode {
         kind,
-        mode: mode?,
-        uid: uid?,
-        gid: gid?,
-        mtime: mtime?,
-        nsec: nsec_of(version, nsec)?,
-        attrs: xattrs?,
+        mode: numbers.mode,
+        uid: numbers.uid,
+        gid: numbers.gid,
+        mtime: numbers.mtime,
+        nsec: numbers.nsec,
+        attrs,
     };
     if sound(&inode) {
         Some((path, inode))
     } else {
         None
     }
+}
+
+// The numbers of these members, where each of them is there.
+fn numbers_of(version: Version, parts: &Parts<'_>) -> Option<Numbers>
+    ensures members { IfSome result (IsNumbered version parts.now) }
+    ensures stated { IfSome result (λ numbers. states_nsec version numbers.nsec ≡ true) }
+{
+    Some(Numbers {
+        gid: parts.gid?,
+        mode: parts.mode?,
+        mtime: parts.mtime?,
+        nsec: nsec_of(version, parts.nsec)?,
+        uid: parts.uid?,
+    })
 }
 
 // The nanoseconds past the second, where that member is there just if the version has it.

@@ -1,5 +1,5 @@
 -- How workers' ends make crews' ends.
-use Rattle.std.proofs.Common.{◌≡◌, ℕ, List, [], ◌∷◌, ◌++◌, length, length-append, map, take, drop, Some, Result, Ok, Err, IfOk, refl, sym, ap, ◌∙◌, arith}
+use Rattle.std.proofs.Common.{◌≡◌, ℕ, List, [], ◌∷◌, ◌++◌, length, length-append, map, take, drop, Some, Result, Ok, Err, IfOk, IsOkAnd, refl, sym, ap, ◌∙◌, arith}
 use Rattle.std.proofs.lemmas.List.{map-append, take-append-drop}
 use Rattle.std.proofs.lemmas.List.Elements.{All-append, All-push, All-pop}
 use Rattle.ovl_board.specs.declared.pieces.Piece.{Piece}
@@ -54,7 +54,9 @@ module _ {W G R O S K D : Type 0} (seen : O → S) (kids_of : W → Piece → Li
 pub parted : (all first later : List Worker) (n : ℕ) → first ≡ take n all → later ≡ drop n all → all ≡ first ++ later
 parted all first later n a b = sym (ap (λ l. l ++ later) a ∙ ap (λ l. take n all ++ l) b ∙ take-append-drop n all)
 
--- what follows at Ok from three facts
-pub from_three : {T E : Type 0} (r : Result T E) (P Q R S : T → Type 0) → ((x : T) → P x → Q x → R x → S x) → IfOk r P → IfOk r Q → IfOk r R → IfOk r S
-from_three (Ok x) P Q R S f p q h = f x p q h
-from_three (Err e) P Q R S f p q h = tt
+-- what holds at Ok of both of two and of what came of them
+pub from_both : {T E : Type 0} (r before after : Result T E) (P Q R : T → Type 0) (S : T → T → T → Type 0) → ((x y z : T) → P x → Q y → S x y z → R z) → IfOk before P → IfOk after Q → IfOk r (λ z. IsOkAnd before (λ x. IsOkAnd after (λ y. S x y z))) → IfOk r R
+from_both (Ok z) (Ok x) (Ok y) P Q R S f p q s = f x y z p q s
+from_both (Ok z) (Ok x) (Err e) P Q R S f p q s = absurd s
+from_both (Ok z) (Err e) after P Q R S f p q s = absurd s
+from_both (Err e) before after P Q R S f p q s = tt

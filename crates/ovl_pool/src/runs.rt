@@ -144,8 +144,8 @@ fn run_noted<
     W: Work + Sync,
     G: Gate + Sync,
     R: Threads + Wait + Sync,
-    K: Ledger + Send + Sync,
-    D: Ledger + Send + Sync,
+    K: Ledger + Send,
+    D: Ledger + Send,
 >(
     rt: &R,
     alloc: Global,

@@ -28,12 +28,12 @@ pub line_in : (dir : PathNames) (name : PathName) (inode : Inode) → marked_lin
 line_in [] name inode = ap (marked_line (mark_of inode)) (sym (shown-child [] name))
 line_in (first ∷ dir) name inode = ap (marked_line (mark_of inode)) (sym (shown-child (first ∷ dir) name))
 
--- the line of a node, by what is called on the way
-pub told : (old new above : List ℕ) (dir : PathNames) (name called : PathName) (inode own : Inode) → above ≡ shown_names dir → called ≡ name → own ≡ inode
-    → new ≡ old ++ marked_line (mark_of own) (above ++ (codes "/" ++ escaped called)) → new ≡ old ++ entry_line (child_path dir name ++ [], inode)
-told old new above dir name called inode own text is same line =
+-- the line of a node, by what stands before its name
+pub told : (old new above : List ℕ) (dir : PathNames) (name : PathName) (inode : Inode) → above ≡ shown_names dir
+    → new ≡ old ++ marked_line (mark_of inode) (above ++ (codes "/" ++ escaped name)) → new ≡ old ++ entry_line (child_path dir name ++ [], inode)
+told old new above dir name inode text line =
     line
-    ∙ ((λ j. old ++ marked_line (mark_of (same j)) (text j ++ (codes "/" ++ escaped (is j))))
+    ∙ ((λ j. old ++ marked_line (mark_of inode) (text j ++ (codes "/" ++ escaped name)))
     ∙ ap (λ (l : List ℕ). old ++ l) (line_in dir name inode ∙ ap (λ (p : PathNames). entry_line (p, inode)) (sym (append-nil (child_path dir name)))))
 
 -- where a node has no children, nothing lies below it

@@ -48,17 +48,33 @@ fn push_under(
     ensures count { OnOk result
         (entries.new ≡ entries.old + length (entries_from node.now.inode node.now.below)) }
 {
-    let name = node.name().as_str();
-    push_entry(alloc, report, above, name, node.inode())?;
-    *entries = one_more(*entries)?;
+    push_counted(alloc, report, entries, above, node)?;
     let children = node.children();
     if children.is_empty() {
         return Ok(());
     }
-    let path = text_of(alloc, above, name)?;
+    let path = text_of(alloc, above, node.name().as_str())?;
     for child in children {
         push_under(alloc, report, entries, path.as_str(), child)?;
     }
+    Ok(())
+}
+
+// Appends the line of the entry at a node, and counts it.
+fn push_counted(
+    alloc: Global,
+    report: &mut String,
+    entries: &mut u64,
+    above: &str,
+    node: &Node,
+) -> Result<(), AllocError>
+    ensures line { OnOk result (string_bytes report.new ≡ string_bytes report.old
+        ++ marked_line (marks.mark_of node.now.inode)
+        (above.now ++ (codes "/" ++ escaped node.now.name))) }
+    ensures count { OnOk result (entries.new ≡ entries.old + 1) }
+{
+    push_entry(alloc, report, above, node.name().as_str(), node.inode())?;
+    *entries = one_more(*entries)?;
     Ok(())
 }
 
@@ -74,9 +90,23 @@ fn push_entry(
         ++ marked_line (marks.mark_of inode.now) (above.now ++ (codes "/" ++ escaped name.now))) }
 {
     let mark = mark_of(alloc, inode)?;
-    push_word(report, mark_word(&mark))?;
+    push_marked(alloc, report, above, name, &mark)
+}
+
+// The same by the mark of its inode.
+fn push_marked(
+    alloc: Global,
+    report: &mut String,
+    above: &str,
+    name: &str,
+    mark: &Mark,
+) -> Result<(), AllocError>
+    ensures { OnOk result (string_bytes report.new ≡ string_bytes report.old
+        ++ marked_line mark.now (above.now ++ (codes "/" ++ escaped name.now))) }
+{
+    push_word(report, mark_word(mark))?;
     push_place(alloc, report, above, name)?;
-    push_redirect_of(alloc, report, &mark)?;
+    push_redirect_of(alloc, report, mark)?;
     report.push_str("\n")
 }
 

@@ -38,7 +38,7 @@ use Rattle.ovl_board.proofs.LawsOfMembers.{In, Rises, AllPairs-Rises, Rises-AllP
 use Rattle.ovl_board.proofs.LawsOfPieces.{before_trans, less_differs, piece_eq}
 use Rattle.ovl_vacuum.specs.Vacuum.{is_idle, is_idle_throughout, vacuumed_layer, removed_paths}
 use Rattle.ovl_vacuum.specs.Directories.{IdleName, idle_name, names_seen, is_idle_at, vacuum_kids, vacuum_out, vacuum_root, IsVacuumWalk}
-use Rattle.ovl_vacuum.specs.Passes.{idle_flags, gone_flags, names_told, IsIdleTold, TellsBelow}
+use Rattle.ovl_vacuum.specs.Passes.{idle_flags, gone_flags, names_told, IsIdleTold, TellsBelow, left_to}
 use Rattle.ovl_vacuum.proofs.VacuumLemmas.{idle-at}
 use Rattle.ovl_vacuum.proofs.KeptLemmas.{root-stays, throughout-child, IsLayer-vacuumed}
 use Rattle.ovl_vacuum.proofs.DirectoryLemmas.{paths_of, PathBefore, paths-rise, entry-path, In-name, kid-path}
@@ -687,10 +687,6 @@ module _ (stack : StackView) (is : IsLayer (top_layer stack)) where
 
 -- ---- the layer that is left, and the paths that go
 
--- the entries of those of the first rows that stay
-abbrev pub left_to : StackView → ℕ → Entries
-left_to stack number = filter (λ entry. not (is_idle_throughout (top_layer stack) (lower_layers stack) entry.0)) (take number (top_layer stack))
-
 module _ (stack : StackView) (is : IsLayer (top_layer stack)) (number : ℕ) (inside : number < length (top_layer stack)) where
   abbrev stays : Entry → Bool
   stays entry = not (is_idle_throughout (top_layer stack) (lower_layers stack) entry.0)
@@ -701,27 +697,25 @@ module _ (stack : StackView) (is : IsLayer (top_layer stack)) (number : ℕ) (in
   here : get_or (top_layer stack) number spot.0 ≡ spot.0
   here = ap (λ (o : Option Entry). unwrap_or o spot.0) (sym (slice_get-get_or (top_layer stack) number spot.0 inside) ∙ spot.1)
 
-  stays-flag : (gone : List Bool) → gone ≡ gone_flags stack → (flag : Bool) → get_or gone number false ≡ flag → stays spot.0 ≡ not flag
-  stays-flag gone are flag e =
-      ap (λ (p : PathNames). not (is_idle_throughout (top_layer stack) (lower_layers stack) p)) spot.2
-      ∙ ap not (sym (flag-at (is_idle_throughout (top_layer stack) (lower_layers stack)) (top_layer stack) number inside) ∙ (ap (λ (fs : List Bool). get_or fs number false) (sym are) ∙ e))
+  stays-at : (flag : Bool) → is_idle_throughout (top_layer stack) (lower_layers stack) (path_at (top_layer stack) number) ≡ flag → stays spot.0 ≡ not flag
+  stays-at flag e = ap (λ (p : PathNames). not (is_idle_throughout (top_layer stack) (lower_layers stack) p)) spot.2 ∙ ap not e
 
   left-step : left_to stack (number + 1) ≡ left_to stack number ++ cond (stays spot.0) (spot.0 ∷ []) []
   left-step =
       filter_more stays (top_layer stack) number spot.0 inside
       ∙ (λ j. left_to stack number ++ cond (stays (here j)) (here j ∷ []) [])
 
-  pub left-passed : (gone : List Bool) (builder : Entries) → gone ≡ gone_flags stack → get_or gone number false ≡ true → builder ≡ left_to stack number → builder ≡ left_to stack (number + 1)
-  left-passed gone builder are goes so_far =
-      so_far ∙ sym (left-step ∙ (ap (λ b. left_to stack number ++ cond b (spot.0 ∷ []) []) (stays-flag gone are true goes) ∙ append-nil (left_to stack number)))
+  pub left-passed : (builder : Entries) → is_idle_throughout (top_layer stack) (lower_layers stack) (path_at (top_layer stack) number) ≡ true → builder ≡ left_to stack number → builder ≡ left_to stack (number + 1)
+  left-passed builder goes so_far =
+      so_far ∙ sym (left-step ∙ (ap (λ b. left_to stack number ++ cond b (spot.0 ∷ []) []) (stays-at true goes) ∙ append-nil (left_to stack number)))
 
   -- an entry that stays is taken
-  left-taken : (gone : List Bool) (before more : Entries) (path : PathNames) (inode : Inode) → gone ≡ gone_flags stack → get_or gone number false ≡ false → before ≡ left_to stack number
+  left-taken : (before more : Entries) (path : PathNames) (inode : Inode) → is_idle_throughout (top_layer stack) (lower_layers stack) (path_at (top_layer stack) number) ≡ false → before ≡ left_to stack number
       → path ≡ path_at (top_layer stack) number → entry_at (top_layer stack) (path_at (top_layer stack) number) ≡ Some inode → entry_after before (stated_pair (path, inode)) ≡ Ok more → more ≡ left_to stack (number + 1)
-  left-taken gone before more path inode are kept so_far is_path at taken =
+  left-taken before more path inode kept so_far is_path at taken =
       let left : Entries = vacuumed_layer (top_layer stack) (lower_layers stack) in
       let rest : Entries = filter stays (drop (number + 1) (top_layer stack)) in
-      let one : left_to stack (number + 1) ≡ left_to stack number ++ spot.0 ∷ [] = left-step ∙ ap (λ b. left_to stack number ++ cond b (spot.0 ∷ []) []) (stays-flag gone are false kept) in
+      let one : left_to stack (number + 1) ≡ left_to stack number ++ spot.0 ∷ [] = left-step ∙ ap (λ b. left_to stack number ++ cond b (spot.0 ∷ []) []) (stays-at false kept) in
       let whole : left ≡ left_to stack number ++ spot.0 ∷ rest =
       ap (filter stays) (sym (take-append-drop (number + 1) (top_layer stack)))
       ∙ (filter-append stays (take (number + 1) (top_layer stack)) (drop (number + 1) (top_layer stack))
@@ -738,11 +732,11 @@ module _ (stack : StackView) (is : IsLayer (top_layer stack)) (number : ℕ) (in
       sym (one ∙ entries)
 
   -- so it is by its name in its directory
-  pub left-child : (gone : List Bool) (before more : Entries) (directory : PathNames) (name : PathName) (inode : Inode) → gone ≡ gone_flags stack → get_or gone number false ≡ false → before ≡ left_to stack number
-      → directory ≡ parent_path (path_at (top_layer stack) number) → last_name (path_at (top_layer stack) number) ≡ Some name → entry_at (top_layer stack) (path_at (top_layer stack) number) ≡ Some inode
+  pub left-child : (before more : Entries) (directory : PathNames) (name : PathName) (inode : Inode) → is_idle_throughout (top_layer stack) (lower_layers stack) (path_at (top_layer stack) number) ≡ false
+      → before ≡ left_to stack number → directory ≡ parent_path (path_at (top_layer stack) number) → last_name (path_at (top_layer stack) number) ≡ Some name → entry_at (top_layer stack) (path_at (top_layer stack) number) ≡ Some inode
       → entry_after before (stated_pair (child_path directory name, inode)) ≡ Ok more → more ≡ left_to stack (number + 1)
-  left-child gone before more directory name inode are kept so_far above named at taken =
-      left-taken gone before more (child_path directory name) inode are kept so_far
+  left-child before more directory name inode kept so_far above named at taken =
+      left-taken before more (child_path directory name) inode kept so_far
       (ap (λ (d : PathNames). child_path d name) above ∙ named-path (path_at (top_layer stack) number) name named) at taken
 
 -- no more stay than there are rows
@@ -755,15 +749,12 @@ left-count stack number =
     )
 
 -- the root stays
-pub left-first : (stack : StackView) (is : IsLayer (top_layer stack)) (gone : List Bool) (more : Entries) (inode : Inode) → gone ≡ gone_flags stack
+pub left-first : (stack : StackView) (is : IsLayer (top_layer stack)) (more : Entries) (inode : Inode)
     → entry_at (top_layer stack) (path_at (top_layer stack) 0) ≡ Some inode → entry_after [] (stated_pair ([], inode)) ≡ Ok more → more ≡ left_to stack 1
-left-first stack is gone more inode are at taken =
-    let some = some-rows (top_layer stack) is in
+left-first stack is more inode at taken =
     let root = root-first (top_layer stack) is in
-    left-taken stack is 0 some gone [] more [] inode are
-    (ap (λ (fs : List Bool). get_or fs 0 false) are
-    ∙ (flag-at (is_idle_throughout (top_layer stack) (lower_layers stack)) (top_layer stack) 0 some
-    ∙ (ap (is_idle_throughout (top_layer stack) (lower_layers stack)) root ∙ root-stays (top_layer stack) (lower_layers stack) is)))
+    left-taken stack is 0 (some-rows (top_layer stack) is) [] more [] inode
+    (ap (is_idle_throughout (top_layer stack) (lower_layers stack)) root ∙ root-stays (top_layer stack) (lower_layers stack) is)
     refl (sym root) at taken
 
 pub left-all : (stack : StackView) (number : ℕ) (entries : Entries) → length (top_layer stack) ≤ number → entries ≡ left_to stack number → entries ≡ vacuumed_layer (top_layer stack) (lower_layers stack)
@@ -795,20 +786,20 @@ module _ (stack : StackView) (number : ℕ) (inside : number < length (top_layer
       choice true e = refl
       choice false e = refl
 
-  flag : (gone : List Bool) → gone ≡ gone_flags stack → get_or gone number false ≡ is_idle_throughout (top_layer stack) (lower_layers stack) (path_at (top_layer stack) number)
-  flag gone are = ap (λ (fs : List Bool). get_or fs number false) are ∙ flag-at (is_idle_throughout (top_layer stack) (lower_layers stack)) (top_layer stack) number inside
+  pub goes-flag : (gone : List Bool) → gone ≡ gone_flags stack → get_or gone number false ≡ is_idle_throughout (top_layer stack) (lower_layers stack) (path_at (top_layer stack) number)
+  goes-flag gone are = ap (λ (fs : List Bool). get_or fs number false) are ∙ flag-at (is_idle_throughout (top_layer stack) (lower_layers stack)) (top_layer stack) number inside
 
   pub gone-pushed : (gone : List Bool) (old new : List PathNames) (path : PathNames) → gone ≡ gone_flags stack → get_or gone number false ≡ true → path ≡ path_at (top_layer stack) number
       → new ≡ old ++ path ∷ [] → old ≡ gone_to stack number → new ≡ gone_to stack (number + 1)
   gone-pushed gone old new path are goes is_path pushed is_old =
       pushed
       ∙ ((λ j. is_old j ++ is_path j ∷ [])
-      ∙ sym (gone-more ∙ ap (λ b. gone_to stack number ++ cond b (path_at (top_layer stack) number ∷ []) []) (sym (flag gone are) ∙ goes)))
+      ∙ sym (gone-more ∙ ap (λ b. gone_to stack number ++ cond b (path_at (top_layer stack) number ∷ []) []) (sym (goes-flag gone are) ∙ goes)))
 
   pub gone-passed : (gone : List Bool) (old : List PathNames) → gone ≡ gone_flags stack → get_or gone number false ≡ false → old ≡ gone_to stack number → old ≡ gone_to stack (number + 1)
   gone-passed gone old are stays is_old =
       is_old
-      ∙ sym (gone-more ∙ (ap (λ b. gone_to stack number ++ cond b (path_at (top_layer stack) number ∷ []) []) (sym (flag gone are) ∙ stays) ∙ append-nil (gone_to stack number)))
+      ∙ sym (gone-more ∙ (ap (λ b. gone_to stack number ++ cond b (path_at (top_layer stack) number ∷ []) []) (sym (goes-flag gone are) ∙ stays) ∙ append-nil (gone_to stack number)))
 
 pub gone-all : (stack : StackView) (number : ℕ) (paths : List PathNames) → length (top_layer stack) ≤ number → paths ≡ gone_to stack number → paths ≡ removed_paths (top_layer stack) (lower_layers stack)
 gone-all stack number paths end are =

@@ -4,12 +4,13 @@ ghost use Rattle.ovl_layer.specs.Layers.{names_below};
 ghost use Rattle.ovl_layer.specs.Sheets.{path_at};
 ghost use Rattle.ovl_inode.specs.Inodes.{visible as visible_inode};
 ghost use Rattle.ovl_lookup.specs.declared.looks.Look.TheVariants.{Shown};
+ghost use Rattle.ovl_lookup.specs.Merged.{look};
 ghost use Rattle.ovl_lookup.specs.Equal.{look_eq};
 ghost use Rattle.ovl_lookup.specs.DirViews.{IsViewOf};
 ghost use Rattle.ovl_lookup.specs.Passes.{IsOwnDirectory};
 ghost use Rattle.ovl_lookup.specs.Words.{top_layer};
 ghost use Rattle.ovl_vacuum.specs.Vacuum.{may_be_idle as idle_mark};
-ghost use Rattle.ovl_vacuum.specs.Directories.{is_idle_at, vacuum_kids, vacuum_out};
+ghost use Rattle.ovl_vacuum.specs.Directories.{is_idle_at, idle_name, vacuum_kids, vacuum_out};
 ghost use Rattle.ovl_vacuum.specs.Visits.{IsTopDirectory, IsBelowTop, is_metacopy as metacopy_mark};
 
 use ovl_board::Piece;
@@ -108,11 +109,31 @@ impl<'a> TopDirectory<'a> {
         let mut names = Vec::with_capacity(alloc, rows.len())?;
         for row in rows {
             if let Some(name) = sheet.name(*row) {
-                let idle = self.is_idle(alloc, &mut whole, *row, name)?;
-                names.push((name.copy(alloc)?, idle))?;
+                names.push(self.idle_name(alloc, &mut whole, *row, name)?)?;
             }
         }
         Ok(names)
+    }
+
+    // A name in it, which is that of a row, with whether its entry is idle.
+    fn idle_name(
+        &self,
+        alloc: Global,
+        whole: &mut Option<DirView<'a>>,
+        row: u32,
+        name: &Name,
+    ) -> Result<(Name, bool), AllocError>
+        requires visited { IsTopDirectory self.now.stack.now self.now.piece.now self.now }
+        requires whole { IfSome whole.old (IsViewOf self.now.stack.now 0 self.now.piece.now.dir) }
+        requires inside { row < length (top_layer self.now.stack.now) }
+        requires stands { path_at (top_layer self.now.stack.now) row
+            ≡ child_path self.now.piece.now.dir name.now }
+        ensures name { IfOk result (λ told. told
+            ≡ idle_name self.now.stack.now self.now.piece.now.dir name.now) }
+        ensures whole { IfSome whole.new (IsViewOf self.now.stack.now 0 self.now.piece.now.dir) }
+    {
+        let idle = self.is_idle(alloc, whole, row, name)?;
+        Ok((name.copy(alloc)?, idle))
     }
 
     // Whether the entry of a row in it, which has this name, is idle.
@@ -140,13 +161,29 @@ impl<'a> TopDirectory<'a> {
         if !may_be_idle(mark) {
             return Ok(false);
         }
-        if !is_metacopy(mark) {
-            let look = below.look(alloc, self.stack, name)?;
-            return is_visible(alloc, &look, sheet.inode(row));
-        }
-        let shown = DirView::look_kept(alloc, self.stack, whole, &self.piece.dir, name)?;
         let lower = below.look(alloc, self.stack, name)?;
-        Ok(lower == shown)
+        if is_metacopy(mark) {
+            self.is_shown(alloc, whole, name, &lower)
+        } else {
+            is_visible(alloc, &lower, sheet.inode(row))
+        }
+    }
+
+    // Whether this is what the whole stack shows at a name in it.
+    fn is_shown(
+        &self,
+        alloc: Global,
+        whole: &mut Option<DirView<'a>>,
+        name: &Name,
+        lower: &Look,
+    ) -> Result<bool, AllocError>
+        requires { IfSome whole.old (IsViewOf self.now.stack.now 0 self.now.piece.now.dir) }
+        ensures same { IfOk result (λ same. same ≡ look_eq lower.now
+            (look self.now.stack.now (child_path self.now.piece.now.dir name.now))) }
+        ensures whole { IfSome whole.new (IsViewOf self.now.stack.now 0 self.now.piece.now.dir) }
+    {
+        let shown = DirView::look_kept(alloc, self.stack, whole, &self.piece.dir, name)?;
+        Ok(*lower == shown)
     }
 }
 

@@ -1,15 +1,16 @@
-ghost use Rattle.std.specs.Prelude.{◌≡◌, ◌<◌, [], Ok, IfOk, length};
+ghost use Rattle.std.specs.Prelude.{◌≡◌, ◌<◌, ◌≤◌, ◌+◌, false, [], Ok, IfOk, length};
 ghost use Rattle.ovl_names.specs.Paths.{child_path};
 ghost use Rattle.ovl_board.specs.Parcels.{parcel_views};
 ghost use Rattle.ovl_lookup.specs.Words.{top_layer, lower_layers};
 ghost use Rattle.ovl_layer.specs.Layers.{entry_limit};
 ghost use Rattle.ovl_layer.specs.Entries.{entry_after, stated_pair};
+ghost use Rattle.ovl_layer.specs.Sheets.{path_at};
 ghost use Rattle.ovl_layer.specs.Drafts.{draft_entries, IsDraft};
 ghost use Rattle.ovl_vacuum.specs.Directories.{names_seen, IsVacuumWalk};
-ghost use Rattle.ovl_vacuum.specs.Passes.{idle_flags, gone_flags, names_told, TellsBelow};
-ghost use Rattle.ovl_vacuum.specs.Vacuum.{vacuumed_layer, removed_paths};
+ghost use Rattle.ovl_vacuum.specs.Passes.{idle_flags, gone_flags, names_told, TellsBelow, IsLeftTo};
+ghost use Rattle.ovl_vacuum.specs.Vacuum.{is_idle_throughout, vacuumed_layer, removed_paths};
 
-use crate::places::{directory_of, path_in, path_of};
+use crate::places::{DirectoryAbove, directory_of, path_in};
 use crate::works::VacuumWork;
 use ovl_board::Parcel;
 use ovl_inode::{Inode, is_directory};
@@ -48,12 +49,21 @@ pub fn finish_vacuum(
     ensures removed { IfOk result
         (λ done. done.removed.items ≡ removed_paths (top_layer work.now) (lower_layers work.now)) }
 {
-    let stack = work.stack;
-    let idle = idle_rows(alloc, stack, &parcels)?;
-    let gone = gone_rows(stack, idle);
+    let idle = idle_rows(alloc, work.stack, &parcels)?;
+    done_by(alloc, work.stack, &gone_rows(work.stack, idle))
+}
+
+// What vacuum gives, by whether each row goes.
+fn done_by(alloc: Global, stack: &Stack, gone: &[bool]) -> Result<VacuumDone, AllocError>
+    requires { gone.now ≡ gone_flags stack.now }
+    ensures layer { IfOk result
+        (λ done. done.layer ≡ vacuumed_layer (top_layer stack.now) (lower_layers stack.now)) }
+    ensures removed { IfOk result (λ done. done.removed.items
+        ≡ removed_paths (top_layer stack.now) (lower_layers stack.now)) }
+{
     Ok(VacuumDone {
-        layer: layer_left(alloc, stack, &gone)?,
-        removed: paths_gone(alloc, stack, &gone)?,
+        layer: layer_left(alloc, stack, gone)?,
+        removed: paths_gone(alloc, stack, gone)?,
     })
 }
 
@@ -119,26 +129,61 @@ fn layer_left(alloc: Global, stack: &Stack, gone: &[bool]) -> Result<Layer, Allo
         (λ layer. layer ≡ vacuumed_layer (top_layer stack.now) (lower_layers stack.now)) }
 {
     let sheet = stack.top();
-    let root = sheet.inode(0).copy(alloc)?;
-    let mut draft = begun(alloc, root)?;
-    let mut count = 1;
-    // The path of a row's directory is kept for the next row.
-    let mut directory = 0;
-    let mut above = Path::root(alloc);
+    let mut rest = Remainder::of_root(alloc, stack)?;
     for number in 1..sheet.len() {
         if !gone[number as usize] {
-            let own = directory_of(sheet, number);
-            if own != directory {
-                above = path_of(alloc, sheet, own)?;
-                directory = own;
-            }
-            let name = sheet.name(number).unwrap().copy(alloc)?;
-            let inode = sheet.inode(number).copy(alloc)?;
-            enter(alloc, &mut draft, count, &above, name, inode)?;
-            count += 1;
+            rest.enter(alloc, stack, number)?;
         }
     }
-    draft.finish()
+    rest.draft.finish()
+}
+
+// The layer of the rows that stay, while it is built.
+#[derive(Drop)]
+struct Remainder {
+    draft: Draft,
+    // How many entries it has.
+    count: u32,
+    above: DirectoryAbove,
+}
+
+impl Remainder {
+    // That of the root alone, which stays.
+    fn of_root(alloc: Global, stack: &Stack) -> Result<Remainder, AllocError>
+        ensures { IfOk result (IsLeftTo stack.now 1) }
+    {
+        let root = stack.top().inode(0).copy(alloc)?;
+        Ok(Remainder {
+            draft: begun(alloc, root)?,
+            count: 1,
+            above: DirectoryAbove::root(alloc),
+        })
+    }
+
+    // Enters the entry of the next row, which stays.
+    fn enter(&mut self, alloc: Global, stack: &Stack, number: u32) -> Result<(), AllocError>
+        requires some { 1 ≤ number }
+        requires inside { number < length (top_layer stack.now) }
+        requires stays { is_idle_throughout (top_layer stack.now) (lower_layers stack.now)
+            (path_at (top_layer stack.now) number) ≡ false }
+        requires left { IsLeftTo stack.now number self.old }
+        ensures { IfOk result (λ _. IsLeftTo stack.now (number + 1) self.new) }
+    {
+        let sheet = stack.top();
+        self.above.go_to(alloc, sheet, number)?;
+        let name = sheet.name(number).unwrap().copy(alloc)?;
+        let inode = sheet.inode(number).copy(alloc)?;
+        enter(
+            alloc,
+            &mut self.draft,
+            self.count,
+            &self.above.path,
+            name,
+            inode,
+        )?;
+        self.count += 1;
+        Ok(())
+    }
 }
 
 // The layer of a root alone. What vacuum leaves is a layer, so that nothing but memory can stand in
@@ -187,17 +232,11 @@ fn paths_gone(alloc: Global, stack: &Stack, gone: &[bool]) -> Result<Vec<Path>, 
 {
     let sheet = stack.top();
     let mut paths = Vec::new(alloc);
-    // The path of a row's directory is kept for the next row.
-    let mut directory = 0;
-    let mut above = Path::root(alloc);
+    let mut above = DirectoryAbove::root(alloc);
     for number in 0..sheet.len() {
         if gone[number as usize] {
-            let own = directory_of(sheet, number);
-            if own != directory {
-                above = path_of(alloc, sheet, own)?;
-                directory = own;
-            }
-            paths.push(path_in(alloc, sheet, number, &above)?)?;
+            above.go_to(alloc, sheet, number)?;
+            paths.push(path_in(alloc, sheet, number, &above.path)?)?;
         }
     }
     Ok(paths)

@@ -1,6 +1,7 @@
-ghost use Rattle.std.specs.Prelude.{◌≡◌, ◌<◌, length, IfOk};
+ghost use Rattle.std.specs.Prelude.{◌≡◌, ◌<◌, [], length, IfOk};
 ghost use Rattle.ovl_layer.specs.Sheets.{path_at};
 ghost use Rattle.ovl_names.specs.Paths.{parent_path};
+ghost use Rattle.ovl_vacuum.specs.Passes.{IsDirectoryAbove};
 
 use ovl_layer::Sheet;
 use ovl_names::Path;
@@ -43,4 +44,47 @@ pub(crate) fn path_of(alloc: Global, sheet: &Sheet, number: u32) -> Result<Path,
     let mut path = path_of(alloc, sheet, directory_of(sheet, number))?;
     path.push(name)?;
     Ok(path)
+}
+
+/// The directory of the last row that was asked for, which mostly is that of the next one too.
+#[derive(Drop)]
+pub(crate) struct DirectoryAbove {
+    // The number of its row.
+    row: u32,
+    /// Its path.
+    pub(crate) path: Path,
+}
+
+impl DirectoryAbove {
+    /// The root.
+    pub(crate) fn root(alloc: Global) -> DirectoryAbove
+        ensures row { result.row ≡ 0 }
+        ensures path { result.path ≡ [] }
+    {
+        DirectoryAbove {
+            row: 0,
+            path: Path::root(alloc),
+        }
+    }
+
+    /// Goes to the directory of a row.
+    pub(crate) fn go_to(
+        &mut self,
+        alloc: Global,
+        sheet: &Sheet,
+        number: u32,
+    ) -> Result<(), AllocError>
+        requires inside { number < length sheet.now }
+        requires path { IsDirectoryAbove sheet.now self.old }
+        ensures path { IfOk result (λ _. IsDirectoryAbove sheet.now self.new) }
+        ensures directory { IfOk result
+            (λ _. self.new.path ≡ parent_path (path_at sheet.now number)) }
+    {
+        let directory = directory_of(sheet, number);
+        if directory != self.row {
+            self.path = path_of(alloc, sheet, directory)?;
+            self.row = directory;
+        }
+        Ok(())
+    }
 }

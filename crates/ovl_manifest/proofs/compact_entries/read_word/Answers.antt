@@ -1,7 +1,7 @@
-use Rattle.std.proofs.Common.{◌∙◌, sym}
+use Rattle.std.proofs.Common.{◌∙◌, ◌++◌, List, ℕ, sym, ap}
 use Rattle.std.specs.Prelude.{codes}
 use Rattle.json.specs.Print.{escape_byte, quoted}
-use Rattle.ovl_manifest.specs.Compact.{device_text}
+use Rattle.ovl_manifest.specs.Compact.{device_text, device_of_word, word_name}
 use Rattle.ovl_manifest.proofs.CompactLemmas.{some-taken, none-taken, piece-then}
 use Rattle.ovl_manifest.proofs.compact_entries.read_word.Goals as goal
 
@@ -17,9 +17,10 @@ returns-then-is_some-2 c =
 
 pub returns : goal.returns
 returns c =
+    let word = c.in_ok-word.word in
     let first = sym (none-taken _ c.take.result c.take.ensures (sym c.is_some.ensures ∙ c.if-is_some.false)) in
     let second = sym (none-taken _ c.take-2.result c.take-2.ensures (sym c.is_some-2.ensures ∙ c.if-is_some-2.false)) in
     first ∙ (second
     ∙ piece-then (codes ",\"kind\":") c.in_ok-take.ensures
-    (piece-then (quoted c.in_ok-word.word.now) c.in_ok-word.ensures
-    (piece-then (device_text c.in_ok-device.device) c.in_ok-device.ensures c.in_ok-take-2.ensures)))
+    (c.in_ok-word.ensures
+    ∙ ap (λ (t : List ℕ). quoted (word_name word) ++ (device_text (device_of_word word) ++ t)) c.in_ok-take-2.ensures))

@@ -27,5 +27,5 @@ spelled bytes version own all text rest taken may (Some entry) are sound = λ pa
 
 pub returns-clause-text : goal.returns-clause-text
 returns-clause-text c =
-    let read = c.in_ok-parts.ensures in
-    spelled cow_str_bytes c.args.version read.members (filled (places c.in_ok-parts.parts)) c.args.rest.now c.read_parts.new.rest read.taken read.are c.entry_of.result c.entry_of.ensures.members c.entry_of.ensures.sound
+    let read = c.in_ok-read_parts.ensures in
+    spelled cow_str_bytes c.args.version read.members (filled (places c.read_parts.new.parts)) c.args.rest.now c.read_parts.new.rest read.taken read.are c.entry_of.result c.entry_of.ensures.members c.entry_of.ensures.sound

@@ -52,9 +52,9 @@ pub returns-in_ok-take_natural-in-size : goal.returns-in_ok-take_natural-in-size
 returns-in_ok-take_natural-in-size c = if_some-then c.place-in-size.result c.place-in-size.ensures (λ placed.
     taken-into 9 (codes "size") whole placed (itself _) c.in_ok-name.ensures c.in_ok-take.ensures c.in-size.is c.in_ok-take_natural-in-size.ensures.text refl refl refl refl)
 
-pub returns-in_ok-take_target-in-target : goal.returns-in_ok-take_target-in-target
-returns-in_ok-take_target-in-target c = if_some-then c.place-in-target.result c.place-in-target.ensures (λ placed.
-    taken-into 10 (codes "target") string placed (itself _) c.in_ok-name.ensures c.in_ok-take.ensures c.in-target.is c.in_ok-take_target-in-target.ensures refl refl refl refl)
+pub returns-in_ok-read_target-in-target : goal.returns-in_ok-read_target-in-target
+returns-in_ok-read_target-in-target c = if_some-then c.place-in-target.result c.place-in-target.ensures (λ placed.
+    taken-into 10 (codes "target") string placed (itself _) c.in_ok-name.ensures c.in_ok-take.ensures c.in-target.is c.in_ok-read_target-in-target.ensures refl refl refl refl)
 
 pub returns-in_ok-take_number-in-uid : goal.returns-in_ok-take_number-in-uid
 returns-in_ok-take_number-in-uid c = if_some-then c.place-in-uid.result c.place-in-uid.ensures (λ placed.

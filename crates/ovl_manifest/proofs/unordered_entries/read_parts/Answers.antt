@@ -5,7 +5,7 @@ use Rattle.serde_json.specs.Written.{compact_text}
 use Rattle.ovl_manifest.specs.AnyOrder.{commas, member_texts}
 use Rattle.ovl_manifest.specs.Places.{filled, places}
 use Rattle.ovl_manifest.proofs.CompactLemmas.{some-taken, none-taken}
-use Rattle.ovl_manifest.proofs.OrderLemmas.{commas-first, commas-onto, members-commas, texts-behind, some-behind, read-none, read-part}
+use Rattle.ovl_manifest.proofs.OrderLemmas.{commas-first, commas-onto, members-commas, texts-behind, some-behind, match_option-then, read-none, read-part}
 use Rattle.ovl_manifest.proofs.WrittenBackLemmas.{behind}
 use Rattle.ovl_manifest.proofs.unordered_entries.read_parts.Goals as goal
 
@@ -20,7 +20,7 @@ parts-init c =
           ∙ ap (λ (t : List ℕ). 123 ∷ t)
           (added.first
           ∙ (sym (append_assoc (quoted added.name) (58 ∷ compact_text added.own) rest) ∙ commas-first (quoted added.name ++ 58 ∷ compact_text added.own) rest));
-      are = read-part no_members added.name added.own added.value (places c.none-parts.result) (places c.read_part.new.parts) (read-none (filled (places c.none-parts.result)) c.none-parts.ensures) added.fills added.back;
+      are = read-part no_members added.name added.own added.value (places c.args.parts.now) (places c.read_part.new.parts) (read-none (filled (places c.args.parts.now)) c.requires) added.fills added.back;
     }
 
 pub parts-preserved : goal.parts-preserved
@@ -43,10 +43,10 @@ parts-preserved c =
     }
 
 pub returns : goal.returns
-returns c =
+returns c = match_option-then _ c.take-2.result c.take-2.ensures (λ brace.
     let members : Members = c.parts.invariant.members in
     let rest : List ℕ = c.take-2.new.self in
-    let ended = sym (none-taken _ c.take-in-parts.result c.take-in-parts.ensures (sym c.is_some.ensures ∙ c.parts-test.false)) ∙ c.in_ok-take-2.ensures in
+    let ended = sym (none-taken _ c.take-in-parts.result c.take-in-parts.ensures (sym c.is_some.ensures ∙ c.parts-test.false)) ∙ brace in
     record {
       members = members;
       taken = c.parts.invariant.taken
@@ -54,4 +54,4 @@ returns c =
           (ap (λ (t : List ℕ). commas false (member_texts members) ++ t) ended
           ∙ (sym (append_assoc (commas false (member_texts members)) (125 ∷ []) rest) ∙ ap (λ (t : List ℕ). t ++ rest) (sym (members-commas false members))));
       are = c.parts.invariant.are;
-    }
+    })

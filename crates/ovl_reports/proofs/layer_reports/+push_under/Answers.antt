@@ -27,14 +27,14 @@ loop-child-preserved t c =
     let child : NodeView = c.child-item.result in
     let done : Entries = entries_of_nodes (take c.loop-child.child-index nodes) in
     let own : Entries = under child.name (entries_from child.inode child.below) in
-    let before : List ℕ = string_bytes c.push_entry.new.report in
+    let before : List ℕ = string_bytes c.push_counted.new.report in
     let more = entries_of_nodes-more nodes c.loop-child.child-index child c.loop-child-test.true c.child-item.is in
     let counted = one_more_counted nodes c.loop-child.child-index child c.loop-child-test.true c.child-item.is in
     record {
       lines = λ dir text.
           let path : PathNames = child_path dir c.args.node.now.name in
-          let there : c.as_str.result.now ≡ shown_names path =
-          c.as_str.ensures.value ∙ (named ∙ (ap (λ (t : List ℕ). t ++ (codes "/" ++ escaped c.args.node.now.name)) text ∙ sym (text-child dir c.args.node.now.name))) in
+          let there : c.as_str-in-loop-child.result.now ≡ shown_names path =
+          c.as_str-in-loop-child.ensures.value ∙ (named ∙ (ap (λ (t : List ℕ). t ++ (codes "/" ++ escaped c.args.node.now.name)) text ∙ sym (text-child dir c.args.node.now.name))) in
           let below = sym (placed-under path child.name (entries_from child.inode child.below)) in
           c.in_ok-push_under.ensures.lines path there
           ∙ ((λ j. c.loop-child.invariant.lines dir text j ++ flat_map entry_line (below j))
@@ -51,8 +51,8 @@ returns-then-is_empty-clause-lines t c dir text =
     let path : PathNames = child_path dir name in
     let own : List ℕ = entry_line (path ++ [], c.args.node.now.inode) in
     let none : [] ≡ c.args.node.now.below = sym (nothing_below c.children-children.result.now c.if-is_empty.ensures) ∙ c.children-children.ensures in
-    let line = told (string_bytes c.args.report.now) (string_bytes c.push_entry.new.report) c.args.above.now dir name c.as_str-name.result.now c.args.node.now.inode c.inode.result.now
-    text (c.as_str-name.ensures.value ∙ c.name.ensures) c.inode.ensures c.in_ok-push_entry.ensures in
+    let line = told (string_bytes c.args.report.now) (string_bytes c.push_counted.new.report) c.args.above.now dir name c.args.node.now.inode
+    text c.in_ok-push_counted.ensures.line in
     line
     ∙ (ap (λ (l : List ℕ). string_bytes c.args.report.now ++ l) (sym (append-nil own))
     ∙ (λ j. string_bytes c.args.report.now ++ flat_map entry_line (placed path (entries_from c.args.node.now.inode (none j)))))
@@ -60,7 +60,7 @@ returns-then-is_empty-clause-lines t c dir text =
 pub returns-then-is_empty-clause-count : goal.returns-then-is_empty-clause-count
 returns-then-is_empty-clause-count t c =
     let none = sym (nothing_below c.children-children.result.now c.if-is_empty.ensures) ∙ c.children-children.ensures in
-    omega (arith, ap length none, c.in_ok-entries.ensures)
+    omega (arith, ap length none, c.in_ok-push_counted.ensures.count)
 
 pub returns-clause-lines : goal.returns-clause-lines
 returns-clause-lines t c dir text =
@@ -68,8 +68,8 @@ returns-clause-lines t c dir text =
     let name = c.args.node.now.name in
     let path : PathNames = child_path dir name in
     let seen : entries_of_nodes (take c.loop-child.child-index nodes) ≡ c.args.node.now.below = ap entries_of_nodes (take_all c.loop-child.child-index nodes c.loop-child-test.false) ∙ c.children-children.ensures in
-    let line = told (string_bytes c.args.report.now) (string_bytes c.push_entry.new.report) c.args.above.now dir name c.as_str-name.result.now c.args.node.now.inode c.inode.result.now
-    text (c.as_str-name.ensures.value ∙ c.name.ensures) c.inode.ensures c.in_ok-push_entry.ensures in
+    let line = told (string_bytes c.args.report.now) (string_bytes c.push_counted.new.report) c.args.above.now dir name c.args.node.now.inode
+    text c.in_ok-push_counted.ensures.line in
     c.loop-child.invariant.lines dir text
     ∙ ((λ j. line j ++ flat_map entry_line (placed path (seen j)))
     ∙ append_assoc (string_bytes c.args.report.now) (entry_line (path ++ [], c.args.node.now.inode)) (flat_map entry_line (placed path c.args.node.now.below)))
@@ -78,4 +78,4 @@ pub returns-clause-count : goal.returns-clause-count
 returns-clause-count t c =
     let nodes : List NodeView = c.children-children.result.now in
     let seen : entries_of_nodes (take c.loop-child.child-index nodes) ≡ c.args.node.now.below = ap entries_of_nodes (take_all c.loop-child.child-index nodes c.loop-child-test.false) ∙ c.children-children.ensures in
-    omega (arith, c.loop-child.invariant.count, ap length seen, c.in_ok-entries.ensures)
+    omega (arith, c.loop-child.invariant.count, ap length seen, c.in_ok-push_counted.ensures.count)

@@ -68,15 +68,16 @@ returns-in_default-clause-idle c =
     hidden c.args.self.now.stack.now c.top-sheet.ensures.each c.top-sheet.ensures.some c.args.self.now.piece.now.dir c.args.name.now c.args.row c.requires.inside c.requires.stands
     (subst (IsBelow c.args.self.now.stack.now c.args.self.now.piece.now.dir) c.in_default.is c.requires.visited.below)
 
-pub returns-then-not-is_metacopy-clause-idle : goal.returns-then-not-is_metacopy-clause-idle
-returns-then-not-is_metacopy-clause-idle c =
-    let told = full c.args.self.now.stack.now c.top-sheet.ensures.each c.top-sheet.ensures.some c.args.self.now.piece.now.dir c.args.name.now c.args.row c.requires.inside c.requires.stands c.top-sheet.result.now c.top-sheet.ensures.value c.mark-mark.result.now c.mark-mark.ensures
-    (sym c.may_be_idle.ensures ∙ c.if-not-may_be_idle.false) c.in-Some.below (subst (IsBelow c.args.self.now.stack.now c.args.self.now.piece.now.dir) c.in-Some.is c.requires.visited.below) c.in_ok-look.look c.in_ok-look.ensures
-    (sym c.is_metacopy.ensures ∙ c.if-not-is_metacopy.true) c.inode.result.now c.inode.ensures in
-    subst (λ (b : Bool). IfOk c.is_visible.result (λ idle. idle ≡ b)) told c.is_visible.ensures
+pub returns-then-is_metacopy-clause-idle : goal.returns-then-is_metacopy-clause-idle
+returns-then-is_metacopy-clause-idle c =
+    let told = beside c.args.self.now.stack.now c.top-sheet.ensures.each c.top-sheet.ensures.some c.args.self.now.piece.now.dir c.args.name.now c.args.row c.requires.inside c.requires.stands c.top-sheet.result.now c.top-sheet.ensures.value c.mark-mark.result.now c.mark-mark.ensures
+    (sym c.may_be_idle.ensures ∙ c.if-not-may_be_idle.false) c.in-Some.below (subst (IsBelow c.args.self.now.stack.now c.args.self.now.piece.now.dir) c.in-Some.is c.requires.visited.below) c.in_ok-lower.lower c.in_ok-lower.ensures
+    (look c.args.self.now.stack.now (child_path c.args.self.now.piece.now.dir c.args.name.now)) refl in
+    subst (λ (b : Bool). IfOk c.is_shown.result (λ idle. idle ≡ b)) told c.is_shown.ensures.same
 
 pub returns-clause-idle : goal.returns-clause-idle
 returns-clause-idle c =
-    let told = beside c.args.self.now.stack.now c.top-sheet.ensures.each c.top-sheet.ensures.some c.args.self.now.piece.now.dir c.args.name.now c.args.row c.requires.inside c.requires.stands c.top-sheet.result.now c.top-sheet.ensures.value c.mark-mark.result.now c.mark-mark.ensures
-    (sym c.may_be_idle.ensures ∙ c.if-not-may_be_idle.false) c.in-Some.below (subst (IsBelow c.args.self.now.stack.now c.args.self.now.piece.now.dir) c.in-Some.is c.requires.visited.below) c.in_ok-lower.lower c.in_ok-lower.ensures in
-    c.eq.ensures ∙ told c.in_ok-shown.shown c.in_ok-shown.ensures.look
+    let told = full c.args.self.now.stack.now c.top-sheet.ensures.each c.top-sheet.ensures.some c.args.self.now.piece.now.dir c.args.name.now c.args.row c.requires.inside c.requires.stands c.top-sheet.result.now c.top-sheet.ensures.value c.mark-mark.result.now c.mark-mark.ensures
+    (sym c.may_be_idle.ensures ∙ c.if-not-may_be_idle.false) c.in-Some.below (subst (IsBelow c.args.self.now.stack.now c.args.self.now.piece.now.dir) c.in-Some.is c.requires.visited.below) c.in_ok-lower.lower c.in_ok-lower.ensures
+    (sym c.is_metacopy.ensures ∙ c.if-is_metacopy.false) c.inode.result.now c.inode.ensures in
+    subst (λ (b : Bool). IfOk c.is_visible.result (λ idle. idle ≡ b)) told c.is_visible.ensures
