@@ -9,6 +9,7 @@ use Rattle.ovl_lookup.specs.Stacks.{StackView}
 use Rattle.ovl_lookup.specs.Merged.{IsMerged, look, is_shown_directory}
 use Rattle.ovl_lookup.specs.Passes.{looks_from, looks_placed}
 use Rattle.ovl_board.specs.Parcels.{ParcelView}
+use Rattle.ovl_reports.specs.declared.listings.Open.{Open}
 use Rattle.ovl_reports.specs.Directories.{NamedLook, IsShowWalk}
 use Rattle.ovl_reports.specs.Reports.{look_line, show_report}
 
@@ -33,6 +34,10 @@ pub record IsTreeOf (stack : StackView) (root : Look)
 -- the line of an entry of a directory, by what stands before the names in it
 abbrev pub name_line : List ℕ → NamedLook → List ℕ
 name_line above entry = look_line (above ++ (codes "/" ++ escaped entry.0)) entry.1
+
+-- an open directory with one more of its entries told
+abbrev pub one_told : Open → Open
+one_told directory = record directory { told = directory.told + 1 }
 
 -- of these entries of a directory the first ones are told, none of which is a directory, and the
 -- others are left; those from number `first` on have their lines

@@ -74,9 +74,23 @@ fn push_entry(
         ++ marked_line (marks.mark_of inode.now) (above.now ++ (codes "/" ++ escaped name.now))) }
 {
     let mark = mark_of(alloc, inode)?;
-    push_word(report, mark_word(&mark))?;
+    push_marked(alloc, report, above, name, &mark)
+}
+
+// The same by the mark of its inode.
+fn push_marked(
+    alloc: Global,
+    report: &mut String,
+    above: &str,
+    name: &str,
+    mark: &Mark,
+) -> Result<(), AllocError>
+    ensures { OnOk result (string_bytes report.new ≡ string_bytes report.old
+        ++ marked_line mark.now (above.now ++ (codes "/" ++ escaped name.now))) }
+{
+    push_word(report, mark_word(mark))?;
     push_place(alloc, report, above, name)?;
-    push_redirect_of(alloc, report, &mark)?;
+    push_redirect_of(alloc, report, mark)?;
     report.push_str("\n")
 }
 

@@ -1,4 +1,4 @@
-ghost use Rattle.std.specs.Prelude.{◌≡◌, ℕ, ◌+◌, ◌*◌, ◌<◌, ◌≤◌, ◌++◌, ◌∷◌, [], List, IfOk, OnOk, codes, drop, if◌then◌else◌, length, string_bytes, take};
+ghost use Rattle.std.specs.Prelude.{◌≡◌, ℕ, ◌+◌, ◌-◌, ◌*◌, ◌<◌, ◌≤◌, ◌++◌, ◌∷◌, [], List, IfOk, OnOk, codes, decimal, drop, if◌then◌else◌, length, string_bytes, take};
 ghost use Rattle.std.specs.Fork.{slice_chunk};
 ghost use Rattle.std.specs.List.{flat_map, sum_by};
 ghost use Rattle.ovl_names.specs.Escapes.{escaped};
@@ -6,7 +6,7 @@ ghost use Rattle.ovl_lookup.specs.Stacks.{StackView};
 ghost use Rattle.ovl_board.specs.Parcels.{parcel_views};
 ghost use Rattle.ovl_reports.specs.declared.listings.Open.{Open};
 ghost use Rattle.ovl_reports.specs.Directories.{ShowParcel};
-ghost use Rattle.ovl_reports.specs.Listings.{IsShowReport, IsTreeOf, StartsAtDirectory, TellsLeaves, merged_tree};
+ghost use Rattle.ovl_reports.specs.Listings.{IsShowReport, IsTreeOf, StartsAtDirectory, TellsLeaves, merged_tree, name_line, one_told};
 ghost use Rattle.ovl_reports.specs.Reports.{line_of, look_line, show_line};
 ghost use Rattle.ovl_reports.specs.Shares.{AreJoined};
 
@@ -35,9 +35,8 @@ fn report_of_tree(
         → IsShowReport stack report.items) }
 {
     let entries = entries_of(parcels)?;
-    let mut report = lines_from(alloc, root, parcels, 0, entries)?;
-    push_count(&mut report, entries as u64)?;
-    Ok(report.into_bytes())
+    let lines = lines_from(alloc, root, parcels, 0, entries)?;
+    with_count(lines, entries)
 }
 
 /// The report of `show` by what is shown at `/` and the parcels of the walk, written by at most as
@@ -63,13 +62,35 @@ pub fn report_by<R: Threads + Sync>(
         return report_of_tree(alloc, root, walk);
     }
     let parts = parts_by(rt, alloc, root, walk, share, entries.div_ceil(share))?;
+    let lines = joined_beside(rt, alloc, workers, parts, parcels)?;
+    with_count(lines, entries)
+}
+
+// The texts of all shares one after another; the parcels are let go beside that.
+fn joined_beside<R: Threads>(
+    rt: &R,
+    alloc: Global,
+    workers: usize,
+    parts: Vec<Result<String, AllocError>>,
+    parcels: Vec<Parcel<Vec<(Name, Look)>>>,
+) -> Result<String, AllocError>
+    ensures { IfOk result (λ whole. AreJoined string_bytes parts.items (string_bytes whole)) }
+{
     let join = || -> Result<String, AllocError>
         ensures { IfOk result (λ whole. AreJoined string_bytes parts.items (string_bytes whole)) }
     { joined(alloc, parts) };
     let (lines, ()) = side_by_side(rt, workers, join, || drop(parcels));
-    let mut report = lines?;
-    push_count(&mut report, entries as u64)?;
-    Ok(report.into_bytes())
+    lines
+}
+
+// The report of these lines, with the number of all paths behind them.
+fn with_count(mut lines: String, entries: usize) -> Result<Vec<u8>, AllocError>
+    ensures { IfOk result
+        (λ report. report.items
+        ≡ string_bytes lines ++ codes "entries " ++ decimal entries ++ codes "\n") }
+{
+    push_count(&mut lines, entries as u64)?;
+    Ok(lines.into_bytes())
 }
 
 // The number of all paths: `/`, and what stands in the directories. Memory can't hold as many as
@@ -134,27 +155,82 @@ fn lines_from(
 {
     let end = first.checked_add(share).ok_or(AllocError)?;
     let mut lines = String::with_capacity(alloc, share.saturating_mul(LINE_ROOM))?;
-    push_wanted(alloc, &mut lines, first == 0, "", "", root)?;
+    push_lines(alloc, &mut lines, root, parcels, first, end)?;
+    Ok(lines)
+}
+
+// Writes the lines of the paths from number `first` up to `end` into an empty text.
+fn push_lines(
+    alloc: Global,
+    lines: &mut String,
+    root: &Look,
+    parcels: &[Parcel<Vec<(Name, Look)>>],
+    first: usize,
+    end: usize,
+) -> Result<(), AllocError>
+    requires empty { string_bytes lines.old ≡ [] }
+    requires some { first < end }
+    ensures { OnOk result ((stack : StackView)
+        → IsTreeOf stack root.now (parcel_views (λ looks. looks.items) parcels.now)
+        → string_bytes lines.new
+        ≡ flat_map show_line (take (end - first) (drop first (merged_tree stack)))) }
+{
+    push_wanted(alloc, lines, first == 0, "", "", root)?;
     let mut told = 1;
     let mut open = Vec::new(alloc);
     let mut rest = enter(&mut open, parcels, String::new(alloc))?;
     while let Some(mut directory) = open.pop() {
-        told = push_leaves(alloc, &mut lines, first, end, told, &mut directory)?;
+        told = push_leaves(alloc, lines, first, end, told, &mut directory)?;
         if told == end {
             break;
         }
-        let Some((name, look)) = directory.parcel.out.get(directory.told) else {
+        let Some(entry) = directory.parcel.out.get(directory.told) else {
             continue;
         };
-        let above = directory.text.as_str();
-        push_wanted(alloc, &mut lines, first <= told, above, name.as_str(), look)?;
-        let text = text_of(alloc, above, name.as_str())?;
+        rest = push_entered(
+            alloc,
+            lines,
+            first <= told,
+            &mut open,
+            directory,
+            entry,
+            rest,
+        )?;
         told += 1;
-        directory.told += 1;
-        open.push(directory)?;
-        rest = enter(&mut open, rest, text)?;
     }
-    Ok(lines)
+    Ok(())
+}
+
+// Tells the next entry of an open directory, which is one itself: appends its line, where it is
+// wanted, and opens it, inside the other. Gives the parcels behind its own.
+fn push_entered<'a>(
+    alloc: Global,
+    lines: &mut String,
+    wanted: bool,
+    opened: &mut Vec<Open<'a>>,
+    mut directory: Open<'a>,
+    entry: &(Name, Look),
+    parcels: &'a [Parcel<Vec<(Name, Look)>>],
+) -> Result<&'a [Parcel<Vec<(Name, Look)>>], AllocError>
+    requires { directory.told < length directory.parcel.now.out.items }
+    ensures line { OnOk result (string_bytes lines.new ≡ string_bytes lines.old
+        ++ (if wanted then name_line (string_bytes directory.entry.text) entry.now else [])) }
+    ensures next { IfOk result
+        (λ rest. (parcel : ShowParcel) (others : List ShowParcel) → parcels.now ≡ parcel ∷ others
+        → (rest.now ≡ others) × ((last : Open)
+        × ((opened.new.items ≡ (opened.old.items ++ one_told directory.entry ∷ []) ++ last ∷ [])
+        × (last.parcel.now ≡ parcel) × (last.told ≡ 0)
+        × (string_bytes last.text
+        ≡ string_bytes directory.entry.text ++ (codes "/" ++ escaped entry.now.0))))) }
+    ensures few { IfOk result (λ _. length opened.new.items ≤ length opened.old.items + 2) }
+{
+    let (name, look) = entry;
+    let above = directory.text.as_str();
+    push_wanted(alloc, lines, wanted, above, name.as_str(), look)?;
+    let text = text_of(alloc, above, name.as_str())?;
+    directory.told += 1;
+    opened.push(directory)?;
+    enter(opened, parcels, text)
 }
 
 // A directory whose entries are being told: its parcel, how many of them are told, and what stands

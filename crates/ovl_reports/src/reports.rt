@@ -1,5 +1,6 @@
 ghost use Rattle.std.specs.Prelude.{◌≡◌, ◌+◌, ◌%◌, ◌++◌, IfOk, OnOk, codes, decimal, replicate, string_bytes};
 ghost use Rattle.std.specs.List.{flat_map};
+ghost use Rattle.hex.specs.Hex.{encode_lower};
 ghost use Rattle.ovl_names.specs.Escapes.{shown_path, escaped};
 ghost use Rattle.ovl_inode.specs.Kinds.{kind_word};
 ghost use Rattle.ovl_reports.specs.Reports.{octal, size_word, blob_word, device_word, what_word, attribute_word, time_word, spaced};
@@ -232,5 +233,13 @@ fn push_attribute(
     report.push_str(" ")?;
     push_escaped(alloc, report, name)?;
     report.push_str("=")?;
+    push_hex(alloc, report, value)
+}
+
+// Appends bytes in hexadecimal digits.
+fn push_hex(alloc: Global, report: &mut String, value: &[u8]) -> Result<(), AllocError>
+    ensures { OnOk result
+        (string_bytes report.new ≡ string_bytes report.old ++ encode_lower value.now) }
+{
     report.push_str(hex::encode(alloc, value)?.as_str())
 }

@@ -1,6 +1,6 @@
 //! Texts of which several threads write a share each, and work of two parts that are done side by
 //! side.
-ghost use Rattle.std.specs.Prelude.{◌≡◌, ◌<◌, ◌≤◌, ◌*◌, ◌++◌, IfOk, Ok, map, string_bytes};
+ghost use Rattle.std.specs.Prelude.{◌≡◌, ◌<◌, ◌≤◌, ◌*◌, ◌++◌, ◌∷◌, [], IfOk, OnOk, Ok, map, string_bytes};
 ghost use Rattle.std.specs.List.{flat_map};
 ghost use Rattle.ovl_reports.specs.Shares.{AreJoined, least_share};
 
@@ -76,9 +76,17 @@ fn texts_of(
 {
     let mut texts = Vec::with_capacity(alloc, parts.len())?;
     for part in parts {
-        texts.push(part?)?;
+        push_text(&mut texts, part)?;
     }
     Ok(texts)
+}
+
+// Puts the text of a share behind those before it, or gives its fault.
+fn push_text(texts: &mut Vec<String>, part: Result<String, AllocError>) -> Result<(), AllocError>
+    ensures { OnOk result (map Ok texts.new.items ≡ map Ok texts.old.items ++ part ∷ []) }
+{
+    texts.push(part?)?;
+    Ok(())
 }
 
 // The bytes of all texts and of a last line.

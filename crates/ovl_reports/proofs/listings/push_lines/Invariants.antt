@@ -3,7 +3,7 @@ use Rattle.ovl_lookup.specs.Stacks.{StackView}
 use Rattle.ovl_reports.specs.Listings.{IsTreeOf}
 use Rattle.ovl_reports.proofs.ListingLemmas.{views_of}
 use Rattle.ovl_reports.proofs.ListingSteps.{IsListing}
-use Rattle.ovl_reports.proofs.listings.lines_from.Given as goal
+use Rattle.ovl_reports.proofs.listings.push_lines.Given as goal
 
 abbrev pub invariant-loop-directory : goal.invariant-loop-directory
 invariant-loop-directory l =
