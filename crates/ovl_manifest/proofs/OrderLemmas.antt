@@ -1,6 +1,6 @@
 -- Members in any order, and entries of them.
 use Rattle.std.proofs.Common.{◌≡◌, ◌∙◌, ℕ, ◌+◌, ◌≤◌, ◌<◌, List, [], ◌∷◌, ◌++◌, Bool, true, false, Option, Some, None, length, map, take, drop, refl, sym, ap, subst, append_assoc, append-nil, arith}
-use Rattle.std.specs.Prelude.{⊤, IfSome, MatchOption}
+use Rattle.std.specs.Prelude.{⊤, IfSome, IsSomeAnd, MatchOption}
 use Rattle.std.specs.Option.{option_map}
 use Rattle.std.specs.List.{list_all}
 use Rattle.std.specs.Ordering.{is_lt, match_ordering}
@@ -118,9 +118,10 @@ read-part ms name own value before after are fills is = λ back low.
 pub itself : (value : Data) → IsBack value → depth value ≤ 1 → IsReadAs 1 value value
 itself value back low = record { read = back.0; numbers = back.1; shallow = low }
 
-pub if_some-then : {A P Q : Type 0} (o : Option A) → IfSome o (λ _. P) → (P → Q) → IfSome o (λ _. Q)
-if_some-then None is then = tt
-if_some-then (Some a) is then = then is
+pub put-then : {A X R : Type 0} {P Q : X → Type 0} (o : Option A) (value : Option X) → IfSome o (λ _. IsSomeAnd value Q) → IfSome value P → ((v : X) → Q v → P v → R) → IfSome o (λ _. R)
+put-then None value put taken then = tt
+put-then (Some a) None put taken then = absurd put
+put-then (Some a) (Some v) put taken then = then v put taken
 
 pub match_option-then : {A P Q : Type 0} (B : Type 0) (o : Option A) → MatchOption o B (λ _. P) → (P → Q) → IfSome o (λ _. Q)
 match_option-then B None is then = tt

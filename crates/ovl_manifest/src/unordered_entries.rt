@@ -1,5 +1,5 @@
 //! Entries whose members stand in any order, each at most once, without space.
-ghost use Rattle.std.specs.Prelude.{◌≡◌, ◌++◌, true, IfSome, Some, None, decimal};
+ghost use Rattle.std.specs.Prelude.{◌≡◌, ◌++◌, true, IfSome, IsSomeAnd, Some, None, decimal};
 ghost use Rattle.std.specs.Cow.{cow_str_bytes};
 ghost use Rattle.serde_json.specs.Data.{no_members};
 ghost use Rattle.ovl_names.specs.Paths.{PathNames, path_text};
@@ -104,31 +104,32 @@ fn read_part<'a>(alloc: Global, rest: &mut Rest<'a>, parts: &mut Parts<'a>) -> O
     let name = rest.take_string()?;
     rest.take(":")?;
     match name {
-        "blob" => place(&mut parts.blob, rest.take_digest()?),
-        "gid" => place(&mut parts.gid, take_number(rest)?),
-        "kind" => place(&mut parts.kind, rest.take_string()?),
-        "major" => place(&mut parts.major, take_number(rest)?),
-        "minor" => place(&mut parts.minor, take_number(rest)?),
-        "mode" => place(&mut parts.mode, take_mode(rest)?),
-        "mtime" => place(&mut parts.mtime, rest.take_integer()?),
-        "mtime-nsec" => place(&mut parts.nsec, take_nanoseconds(rest)?),
-        "path" => place(&mut parts.path, rest.take_text(alloc)?),
-        "size" => place(&mut parts.size, rest.take_natural(SIZE_LIMIT)?),
-        "target" => place(&mut parts.target, read_target(alloc, rest)?),
-        "uid" => place(&mut parts.uid, take_number(rest)?),
-        "xattrs" => place(&mut parts.xattrs, read_attributes(alloc, rest)?),
+        "blob" => place(&mut parts.blob, rest.take_digest()),
+        "gid" => place(&mut parts.gid, take_number(rest)),
+        "kind" => place(&mut parts.kind, rest.take_string()),
+        "major" => place(&mut parts.major, take_number(rest)),
+        "minor" => place(&mut parts.minor, take_number(rest)),
+        "mode" => place(&mut parts.mode, take_mode(rest)),
+        "mtime" => place(&mut parts.mtime, rest.take_integer()),
+        "mtime-nsec" => place(&mut parts.nsec, take_nanoseconds(rest)),
+        "path" => place(&mut parts.path, rest.take_text(alloc)),
+        "size" => place(&mut parts.size, rest.take_natural(SIZE_LIMIT)),
+        "target" => place(&mut parts.target, read_target(alloc, rest)),
+        "uid" => place(&mut parts.uid, take_number(rest)),
+        "xattrs" => place(&mut parts.xattrs, read_attributes(alloc, rest)),
         _ => None,
     }
 }
 
-// Puts the value into a place that is empty.
-fn place<T: Drop>(place: &mut Option<T>, value: T) -> Option<()>
-    ensures { IfSome result (λ _. (place.old ≡ None) × (place.new ≡ Some value)) }
+// Puts the value, if there is one, into a place that is empty.
+fn place<T: Drop>(place: &mut Option<T>, value: Option<T>) -> Option<()>
+    ensures { IfSome result (λ _.
+        IsSomeAnd value (λ own. (place.old ≡ None) × (place.new ≡ Some own))) }
 {
     if place.is_some() {
         return None;
     }
-    *place = Some(value);
+    *place = Some(value?);
     Some(())
 }
 
