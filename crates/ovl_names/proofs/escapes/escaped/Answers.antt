@@ -11,8 +11,8 @@ loop-byte-preserved c =
     let i : ℕ = c.loop-byte.byte-index in
     let inside : i < length bytes = grind (arith, nat_tests, c.loop-byte-test.true) in
     let more : escaped_text (take (i + 1) bytes) ≡ escaped_text (take i bytes) ++ escaped_byte (get_or bytes i 0) =
-        ap escaped_text (take_more bytes i 0 inside)
-        ∙ (flat_map-append escaped_byte (take i bytes) (get_or bytes i 0 ∷ [])
-        ∙ ap (λ own. escaped_text (take i bytes) ++ own) (append-nil (escaped_byte (get_or bytes i 0)))) in
+    ap escaped_text (take_more bytes i 0 inside)
+    ∙ (flat_map-append escaped_byte (take i bytes) (get_or bytes i 0 ∷ [])
+    ∙ ap (λ own. escaped_text (take i bytes) ++ own) (append-nil (escaped_byte (get_or bytes i 0)))) in
     c.in_ok-push_byte.ensures
     ∙ (ap (λ written. written ++ escaped_byte (get_or bytes i 0)) c.loop-byte.invariant ∙ sym more)
