@@ -1,6 +1,7 @@
 -- What is left out of a squeezed text is part of no token.
 use Rattle.std.proofs.Common.{◌≡◌, ℕ, zero, suc, ◌+◌, ◌-◌, ◌<◌, ◌≤◌, Bool, true, false, not, cond, ◌||◌, ◌&&◌, ◌==◌, nat_lt, List, [], ◌∷◌, ◌++◌, length, take, drop, get_or, Some, None, option_and_then, refl, sym, ap, ap₂, ◌∙◌, subst, arith, ltb-true, append_assoc}
 use Rattle.std.proofs.Math.Seq.{take-suc, drop-append_seam}
+use Rattle.std.proofs.Math.Bool.{or-true}
 use Rattle.std.proofs.lemmas.Bool.{true≢false, eqb-true}
 use Rattle.std.proofs.lemmas.Bool.Decides.{nat_tests}
 use Rattle.std.proofs.lemmas.List.{append-nil, drop_more, drop_all, take_all, take-append-drop, length-drop, get_or-drop, length-take-le, take-take, drop-append-le, drop-take}
@@ -329,7 +330,7 @@ run-ends (x ∷ xs) h = by (is_operator x) refl (is_space x) refl
     by false f true g = byte-at in_word x xs space (class-space x g) ∙ sym (ap (behind_piece true) (byte-at between x xs space (class-space x g)))
     by false f false g = absurd (true≢false (sym h ∙ (λ i. f i || g i)))
 
-pub word-ends : (d : List ℕ) (p : ℕ) → p ≤ length d → (p < length d → (is_operator (get_or d p 0) || is_space (get_or d p 0)) ≡ true)
+pub word-ends : (d : List ℕ) (p : ℕ) → p ≤ length d → (p < length d → is_space (get_or d p 0) ≡ true)
     → take p d ++ behind_piece true (squeezed between (drop p d)) ≡ Along in_word d p
 word-ends d p h ends = ap (λ l. take p d ++ l) (sym (run-ends (drop p d) (by (drop p d) refl)))
   where
@@ -337,7 +338,12 @@ word-ends d p h ends = ap (λ l. take p d ++ l) (sym (run-ends (drop p d) (by (d
     by [] is = refl
     by (x ∷ xs) is =
         let more : p < length d = omega (arith, ap length is, length-drop p d) in
-        ap (λ l. ends_word l) (sym is ∙ drop_more d p 0 more) ∙ ends more
+        ap (λ l. ends_word l) (sym is ∙ drop_more d p 0 more)
+        ∙ (ap (λ s. is_operator (get_or d p 0) || s) (ends more) ∙ or-true (is_operator (get_or d p 0)))
+
+-- an operator behind a word
+pub word-closed : (d : List ℕ) (p : ℕ) → p < length d → is_operator (get_or d p 0) ≡ true → Along between d (p + 1) ≡ Along in_word d p
+word-closed d p h e = kept in_word between d p h (λ xs. byte-at in_word (get_or d p 0) xs operator (class-operator (get_or d p 0) e))
 
 same_first : (x : ℕ) (ys : List ℕ) → is_space x ≡ false → ends_word (x ∷ ys) ≡ is_operator x
 same_first x ys g = by (is_operator x) refl
@@ -392,26 +398,19 @@ behind-is true more = by (ends_word more)
     by false = refl
 
 -- behind a word's end, where no space is, no other word begins
-whole-at : (d : List ℕ) (p : ℕ) (is_word : Bool) → is_space (get_or d p 0) ≡ false → (is_word ≡ true → p < length d → (is_operator (get_or d p 0) || is_space (get_or d p 0)) ≡ true)
+whole-at : (d : List ℕ) (p : ℕ) (is_word : Bool) → is_space (get_or d p 0) ≡ false → (is_word ≡ true → p < length d → is_space (get_or d p 0) ≡ true)
     → (is_word && not (ends_word (squeezed between (drop p d)))) ≡ false
 whole-at d p false g ends = refl
 whole-at d p true g ends = by (nat_lt p (length d)) refl
   where
-    x : ℕ
-    x = get_or d p 0
-
-    no-space : (o : Bool) → (o || is_space x) ≡ o
-    no-space true = refl
-    no-space false = g
-
     by : (b : Bool) → nat_lt p (length d) ≡ b → not (ends_word (squeezed between (drop p d))) ≡ false
-    by true e = let h : p < length d = ltb-true p (length d) e in ap not (word-begins d p h g ∙ (sym (no-space (is_operator x)) ∙ ends refl h))
+    by true e = absurd (true≢false (sym (ends refl (ltb-true p (length d) e)) ∙ g))
     by false e = let h : length d ≤ p = grind (arith, nat_tests) in ap not (none-begins d p h)
 
 -- a lexeme behind which nothing is left out
 pub not_copied : (d own : List ℕ) (from place end next : ℕ) (is_word : Bool) → SqueezedTo d own from place
     → take end d ++ behind_piece is_word (squeezed between (drop end d)) ≡ Along between d place
-    → next ≡ end → is_space (get_or d next 0) ≡ false → (is_word ≡ true → end < length d → (is_operator (get_or d end 0) || is_space (get_or d end 0)) ≡ true) → SqueezedTo d own from next
+    → next ≡ end → is_space (get_or d next 0) ≡ false → (is_word ≡ true → end < length d → is_space (get_or d end 0) ≡ true) → SqueezedTo d own from next
 not_copied d own from place end next is_word so_far lexeme same g ends =
     let more = squeezed between (drop end d) in
     let whole = whole-at d end is_word (subst (λ n. is_space (get_or d n 0) ≡ false) same g) ends in

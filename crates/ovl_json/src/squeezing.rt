@@ -46,7 +46,8 @@ fn squeeze_into(own: &mut [u8], text: &[u8]) -> usize
     count + (text.len() - from)
 }
 
-// Where the lexeme ends that begins at a place, and whether it is a word.
+// Where the lexeme ends that begins at a place, with the operator that follows it at once, and
+// whether that is the end of a word.
 #[inline(always)]
 fn lexeme_end(text: &[u8], place: usize) -> (usize, bool)
     requires within { place < length text.now }
@@ -57,16 +58,31 @@ fn lexeme_end(text: &[u8], place: usize) -> (usize, bool)
         ++ behind_piece result.1 (squeezed_in between (drop result.0 text.now))
         ≡ take place text.now ++ squeezed_in between (drop place text.now) }
     ensures ends { result.1 ≡ true → result.0 < length text.now
-        → (word.is_operator (get_or text.now result.0 0)
-        || word.is_space (get_or text.now result.0 0)) ≡ true }
+        → word.is_space (get_or text.now result.0 0) ≡ true }
 {
     let byte = text[place];
     if byte == b'"' {
-        (string_end(text, place + 1), false)
+        (operator_end(text, string_end(text, place + 1)), false)
     } else if is_operator(byte) {
         (place + 1, false)
     } else {
-        (word_end(text, place + 1), true)
+        word_end(text, place + 1)
+    }
+}
+
+// Where the operator ends that may stand at a place.
+#[inline(always)]
+fn operator_end(text: &[u8], from: usize) -> usize
+    requires { from ≤ length text.now }
+    ensures past { from ≤ result }
+    ensures within { result ≤ length text.now }
+    ensures kept { take result text.now ++ squeezed_in between (drop result text.now)
+        ≡ take from text.now ++ squeezed_in between (drop from text.now) }
+{
+    if from < text.len() && is_operator(text[from]) {
+        from + 1
+    } else {
+        from
     }
 }
 
@@ -97,24 +113,27 @@ fn string_end(text: &[u8], from: usize) -> usize
     place
 }
 
-// Where the word ends of which a byte stands before a place.
+// Where the word ends of which a byte stands before a place, with the operator that follows it at
+// once, and whether none does.
 #[inline(always)]
-fn word_end(text: &[u8], from: usize) -> usize
+fn word_end(text: &[u8], from: usize) -> (usize, bool)
     requires { from ≤ length text.now }
-    ensures past { from ≤ result }
-    ensures within { result ≤ length text.now }
-    ensures kept { take result text.now
-        ++ behind_piece true (squeezed_in between (drop result text.now))
+    ensures past { from ≤ result.0 }
+    ensures within { result.0 ≤ length text.now }
+    ensures kept { take result.0 text.now
+        ++ behind_piece result.1 (squeezed_in between (drop result.0 text.now))
         ≡ take from text.now ++ squeezed_in in_word (drop from text.now) }
-    ensures ends { result < length text.now
-        → (word.is_operator (get_or text.now result 0) || word.is_space (get_or text.now result 0))
-        ≡ true }
+    ensures ends { result.1 ≡ true → result.0 < length text.now
+        → word.is_space (get_or text.now result.0 0) ≡ true }
 {
     let mut place = from;
-    while place < text.len() && !is_operator(text[place]) && !is_space(text[place]) {
+    while place < text.len() && !is_space(text[place]) {
+        if is_operator(text[place]) {
+            return (place + 1, false);
+        }
         place += 1;
     }
-    place
+    (place, true)
 }
 
 // Where the white space ends that may stand at a place.
@@ -148,8 +167,8 @@ fn is_word_behind(text: &[u8], place: usize, is_word: bool) -> bool
     place < text.len() && !is_operator(text[place])
 }
 
-// Copies a piece of a text behind the first `count` bytes, and a space where that parts it from a
-// word. Gives how many bytes there are then.
+// Copies a piece of a text, with more behind it, behind the first `count` of as many bytes as the
+// text has, and a space where that parts it from a word. Gives how many bytes there are then.
 #[inline(always)]
 fn put_piece(
     own: &mut [u8],
@@ -159,8 +178,9 @@ fn put_piece(
     end: usize,
     is_parted: bool,
 ) -> usize
-    requires run { (from ≤ end) × (end ≤ length text.now) }
-    requires room { count + (end - from) + 1 ≤ length own.old }
+    requires run { (from ≤ end) × (end < length text.now) }
+    requires room { count ≤ from }
+    requires len { length own.old ≡ length text.now }
     ensures written { take result own.new
         ≡ (take count own.old ++ take (end - from) (drop from text.now))
         ++ (if is_parted then 32 ∷ [] else []) }
@@ -176,18 +196,19 @@ fn put_piece(
     count + 1
 }
 
-// Copies the bytes from one place to another behind the first `count`, by sixteen where both sides
-// have room for more.
+// Copies the bytes from one place to another behind the first `count` of as many as the text has,
+// by sixteen where the text has more.
 #[inline(always)]
 fn put_run(own: &mut [u8], count: usize, text: &[u8], from: usize, end: usize)
     requires run { (from ≤ end) × (end ≤ length text.now) }
-    requires room { count + (end - from) ≤ length own.old }
+    requires room { count ≤ from }
+    requires len { length own.old ≡ length text.now }
     ensures written { take (count + (end - from)) own.new
         ≡ take count own.old ++ take (end - from) (drop from text.now) }
     ensures len { length own.new ≡ length own.old }
 {
     let long = end - from;
-    if text.len() - end < 16 || own.len() - count - long < 16 {
+    if text.len() - end < 16 {
         own[count..count + long].copy_from_slice(&text[from..end]);
         return;
     }
@@ -202,12 +223,7 @@ fn put_run(own: &mut [u8], count: usize, text: &[u8], from: usize, end: usize)
 fn is_operator(byte: u8) -> bool
     ensures { result ≡ word.is_operator byte }
 {
-    (byte == b'{')
-        | (byte == b'}')
-        | (byte == b'[')
-        | (byte == b']')
-        | (byte == b':')
-        | (byte == b',')
+    matches!(byte, b'{' | b'}' | b'[' | b']' | b':' | b',')
 }
 
 #[inline(always)]

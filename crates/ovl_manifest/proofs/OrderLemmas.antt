@@ -127,22 +127,22 @@ pub match_option-then : {A P Q : Type 0} (B : Type 0) (o : Option A) → MatchOp
 match_option-then B None is then = tt
 match_option-then B (Some a) is then = then is
 
--- a member's name, the colon and its value are taken, which is put into place number n, where `of` says what it stands for
-pub taken-into : {X : Type 0} {text after behind rest named : List ℕ} {own : Data} {parts more : Parts} {v : X} {old new : Option X} (n : ℕ) (name : List ℕ) (of : X → Data)
+-- a member's name with its colon and its value are taken, which is put into place number n, where `of` says what it stands for
+pub taken-into : {X : Type 0} {text behind rest : List ℕ} {own : Data} {parts more : Parts} {v : X} {old new : Option X} (n : ℕ) (name : List ℕ) (of : X → Data)
     → (old ≡ None) × (new ≡ Some v) → (IsBack (of v) → depth (of v) ≤ 1 → IsReadAs 1 own (of v))
-    → text ≡ quoted named ++ after → after ≡ 58 ∷ behind → named ≡ name → behind ≡ compact_text own ++ rest
+    → text ≡ quoted name ++ 58 ∷ behind → behind ≡ compact_text own ++ rest
     → places parts ≡ take n (places parts) ++ (name, option_map of old) ∷ drop (n + 1) (places parts)
     → places more ≡ take n (places parts) ++ (name, option_map of new) ∷ drop (n + 1) (places parts)
     → list_all (λ place. is_lt (name_cmp place.0 name)) (take n (places parts)) ≡ true
     → list_all (λ place. is_lt (name_cmp name place.0)) (drop (n + 1) (places parts)) ≡ true
     → TakesPart text parts rest more
-taken-into {X} {own = own} {parts = parts} {v = v} n name of placed back first colon same value before after lesser greater =
+taken-into {X} {own = own} {parts = parts} {v = v} n name of placed back first value before after lesser greater =
     let one : Option X → Places = λ o. take n (places parts) ++ (name, option_map of o) ∷ drop (n + 1) (places parts) in
     record {
       name = name;
       own = own;
       value = of v;
-      first = first ∙ (λ j. quoted (same j) ++ (colon ∙ ap (λ (t : List ℕ). 58 ∷ t) value) j);
+      first = first ∙ ap (λ (t : List ℕ). quoted name ++ 58 ∷ t) value;
       fills = record {
         front = take n (places parts);
         back = drop (n + 1) (places parts);

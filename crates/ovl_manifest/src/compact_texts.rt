@@ -1,5 +1,5 @@
 //! The text of a manifest as it is written, taken from its front piece by piece.
-ghost use Rattle.std.specs.Prelude.{◌≡◌, ◌≤◌, [], ◌++◌, IsTrue, IfSome, MatchOption, decimal, length, string_bytes, take};
+ghost use Rattle.std.specs.Prelude.{◌≡◌, ◌≤◌, [], ◌++◌, IsTrue, IfSome, MatchOption, decimal, get_or, length, string_bytes, take};
 ghost use Rattle.std.specs.Fmt.{signed_decimal};
 ghost use Rattle.std.specs.Cow.{cow_str_bytes};
 ghost use Rattle.std.specs.Str.Parse.{AllDigits, digits_value};
@@ -72,6 +72,14 @@ impl<'a> Rest<'a> {
         }
         self.text = back;
         Some(())
+    }
+
+    /// The first byte of the name that may come next, behind its quotation mark.
+    #[inline(always)]
+    pub(crate) fn letter(&self) -> Option<u8>
+        ensures { MatchOption result (length self.now ≤ 1) (λ byte. get_or self.now 1 0 ≡ byte) }
+    {
+        self.text.as_bytes().get(1).copied()
     }
 
     // Takes so many bytes.

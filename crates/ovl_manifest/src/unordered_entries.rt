@@ -97,27 +97,64 @@ fn read_parts<'a>(alloc: Global, rest: &mut Rest<'a>, parts: &mut Parts<'a>) -> 
     rest.take("}")
 }
 
-// Puts the member that comes next to the others, if it is one of an entry and isn't there yet.
+// Puts the member that comes next to the others, if it is one of an entry and isn't there yet. The
+// first letter tells most names apart.
 fn read_part<'a>(alloc: Global, rest: &mut Rest<'a>, parts: &mut Parts<'a>) -> Option<()>
     ensures { IfSome result (λ _. TakesPart rest.old parts.old rest.new parts.new) }
 {
-    let name = rest.take_string()?;
-    rest.take(":")?;
-    match name {
-        "blob" => place(&mut parts.blob, rest.take_digest()),
-        "gid" => place(&mut parts.gid, take_number(rest)),
-        "kind" => place(&mut parts.kind, rest.take_string()),
-        "major" => place(&mut parts.major, take_number(rest)),
-        "minor" => place(&mut parts.minor, take_number(rest)),
-        "mode" => place(&mut parts.mode, take_mode(rest)),
-        "mtime" => place(&mut parts.mtime, rest.take_integer()),
-        "mtime-nsec" => place(&mut parts.nsec, take_nanoseconds(rest)),
-        "path" => place(&mut parts.path, rest.take_text(alloc)),
-        "size" => place(&mut parts.size, rest.take_natural(SIZE_LIMIT)),
-        "target" => place(&mut parts.target, read_target(alloc, rest)),
-        "uid" => place(&mut parts.uid, take_number(rest)),
-        "xattrs" => place(&mut parts.xattrs, read_attributes(alloc, rest)),
+    match rest.letter()? {
+        b'b' => {
+            rest.take("\"blob\":")?;
+            place(&mut parts.blob, rest.take_digest())
+        }
+        b'g' => {
+            rest.take("\"gid\":")?;
+            place(&mut parts.gid, take_number(rest))
+        }
+        b'k' => {
+            rest.take("\"kind\":")?;
+            place(&mut parts.kind, rest.take_string())
+        }
+        b'm' => read_number(rest, parts),
+        b'p' => {
+            rest.take("\"path\":")?;
+            place(&mut parts.path, rest.take_text(alloc))
+        }
+        b's' => {
+            rest.take("\"size\":")?;
+            place(&mut parts.size, rest.take_natural(SIZE_LIMIT))
+        }
+        b't' => {
+            rest.take("\"target\":")?;
+            place(&mut parts.target, read_target(alloc, rest))
+        }
+        b'u' => {
+            rest.take("\"uid\":")?;
+            place(&mut parts.uid, take_number(rest))
+        }
+        b'x' => {
+            rest.take("\"xattrs\":")?;
+            place(&mut parts.xattrs, read_attributes(alloc, rest))
+        }
         _ => None,
+    }
+}
+
+// The same of a member whose name begins with an `m`: each of these is a number.
+fn read_number<'a>(rest: &mut Rest<'a>, parts: &mut Parts<'a>) -> Option<()>
+    ensures { IfSome result (λ _. TakesPart rest.old parts.old rest.new parts.new) }
+{
+    if rest.take("\"mode\":").is_some() {
+        place(&mut parts.mode, take_mode(rest))
+    } else if rest.take("\"mtime\":").is_some() {
+        place(&mut parts.mtime, rest.take_integer())
+    } else if rest.take("\"mtime-nsec\":").is_some() {
+        place(&mut parts.nsec, take_nanoseconds(rest))
+    } else if rest.take("\"major\":").is_some() {
+        place(&mut parts.major, take_number(rest))
+    } else {
+        rest.take("\"minor\":")?;
+        place(&mut parts.minor, take_number(rest))
     }
 }
 
