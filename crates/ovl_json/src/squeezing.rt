@@ -76,6 +76,7 @@ fn operator_end(text: &[u8], from: usize) -> usize
     requires { from ≤ length text.now }
     ensures past { from ≤ result }
     ensures within { result ≤ length text.now }
+    ensures taken { from < length text.now → word.is_operator (get_or text.now from 0) ≡ true → result ≡ from + 1 }
     ensures kept { take result text.now ++ squeezed_in between (drop result text.now)
         ≡ take from text.now ++ squeezed_in between (drop from text.now) }
 {
