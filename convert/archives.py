@@ -3,7 +3,6 @@
 import contextlib
 import copy
 import functools
-import hashlib
 import os
 from collections.abc import Callable, Hashable, Mapping
 from dataclasses import dataclass, replace
@@ -16,16 +15,16 @@ from .attributes import Unstated, marks_from_user
 from .below import Below
 from .blobs import Digester, Writer
 from .budgets import TooMuch
-from .contents import PIECE, ZEROS, write_all
+from .contents import PIECE
 from .entries import (
     BLOCK, CHAR, DIRECTORY, FIFO, FILE, LINK_MODE, METACOPY, NO_ATTRIBUTES, OVERLAY, SYMLINK, WHITEOUT, Entry,
     is_whiteout,
 )
-from .faults import cannot_read, writing
+from .faults import cannot_read
 from .layer_tree import Attributes, Blocked, Gap, Held, LayerTree, Unfit, whiteout
 from .losses import Loss, Losses
 from .progress import Progress, note
-from .repeats import Contents, Kept, Repeats
+from .repeats import NO_CONTENTS, Contents, Keeping, KeptLayers
 from .room import require_room
 from .streams import Digesting, Source, buffered, read_ahead
 from .tar_headers import HARD_LINK, REGULAR_TYPES, Header
@@ -36,8 +35,8 @@ _KINDS = {
     tar.SYMLINK: SYMLINK, tar.CHAR: CHAR, tar.BLOCK: BLOCK, tar.DIRECTORY: DIRECTORY, tar.FIFO: FIFO,
     HARD_LINK: FILE, **{bytes([kind]): FILE for kind in REGULAR_TYPES},
 }
-_NO_CONTENTS: Contents = ("", 0)
 Store = Callable[[], Contents]  # gives the contents of an entry, which are blobs then
+Take = Callable[[Header, Store], None]  # takes the next entry of an archive
 _GAPS = {
     Gap.UNKNOWN: Loss.UNKNOWN, Gap.OVER_OTHER: Loss.OVER_OTHER, Gap.WHITEOUT: Loss.WHITEOUT,
     Gap.ANEW: Loss.ANEW,
@@ -86,7 +85,59 @@ class Taking:
     is_folder: bool = False
     userxattr: bool = False
     most_contents: int | None = None  # bytes of all its files, where they are bounded
-    repeats: Repeats | None = None  # of an image, which may name a layer again
+    kept: KeptLayers | None = None  # of an image, which may name a layer again
+
+
+class ArchiveReader:
+    """Reads one layer's archive: entry by entry, and the contents of its files into blobs."""
+
+    def __init__(self, layer: Layer, taking: Taking) -> None:
+        self._layer = layer
+        self._taking = taking
+        self._contents = 0
+
+    def read(self, take: Take) -> None:
+        """Gives each entry on, where the layer's bytes are those that the image names."""
+        progress = Progress(f"unpacking bytes of {self._layer.name[-20:]}")
+        try:
+            with self._layer.archive(progress) as stream:
+                self._read_checked(stream, take)
+        except TooMuch as problem:
+            raise cannot_read(self._layer.path, str(problem)) from None
+        finally:
+            progress.end()
+
+    def _read_checked(self, stream: Source, take: Take) -> None:
+        if self._layer.unpacked_digest is None or self._layer.is_checked():
+            with read_ahead(stream) as ahead:
+                self._read(ahead, take)
+            return
+        algorithm, wanted = self._layer.unpacked_digest
+        source = Digesting(stream, algorithm)
+        with read_ahead(source) as ahead:
+            self._read(ahead, take)
+        if source.digest.hexdigest() != wanted:
+            raise cannot_read(self._layer.path, f"its unpacked bytes aren't those of {algorithm}:{wanted}")
+
+    def _read(self, stream: Source, take: Take) -> None:
+        archive = TarReader(buffered(stream), self._taking.held.budget)
+        for header in archive:
+            take(header, functools.partial(self._store, archive, header))
+
+    def _store(self, archive: TarReader, header: Header) -> Contents:
+        """Writes an entry's data as a blob, zeros as holes."""
+        most, writer = self._taking.most_contents, self._taking.writer
+        self._contents += header.size
+        if most is not None and self._contents > most:
+            raise TooMuch(f"its files have over {most:,} bytes, which is more than its own size speaks for")
+        if header.size == 0:
+            return NO_CONTENTS
+        self._require_space(archive.stored())
+        return writer.take(archive.data(), header.size), header.size
+
+    def _require_space(self, size: int) -> None:
+        if size > PIECE and not isinstance(self._taking.writer, Digester):
+            require_room(self._taking.out, self._taking.out, size)
 
 
 class LayerArchive:
@@ -98,58 +149,38 @@ class LayerArchive:
         self._tree = LayerTree(taking.held)
         self._paths = Paths(not taking.is_folder)
         self._losses = Losses()
-        self._contents = 0
         self._aufs_links: dict[str, Entry] = {}
 
     def tree(self) -> LayerTree:
         """The layer, where its bytes are those that the image names."""
         layer = self._layer
-        progress = Progress(f"unpacking bytes of {layer.name[-20:]}")
-        repeats = self._taking.repeats
-        kept = repeats.kept(layer) if repeats else None
         try:
-            if kept is not None:
-                self._take_kept(kept)
-            else:
-                with layer.archive(progress) as stream:
-                    self._read_checked(stream)
+            self._take_all()
             self._tree.settle(self._taking.below.root, lambda gap, path: self._losses.add(_GAPS[gap], path))
         except TooMuch as problem:
             raise cannot_read(layer.path, str(problem)) from None
-        finally:
-            progress.end()
         self._losses.tell(layer.name)
         return self._tree
 
-    def _take_kept(self, kept: Kept) -> None:
-        """Takes the entries of an archive that was read before, whose contents are blobs already."""
-        for header, contents in kept.entries():
-            self._taking.held.budget.headers.take()
-            self._take_fitting(header, _known(contents))
-
-    def _read_checked(self, stream: Source) -> None:
-        if self._layer.unpacked_digest is None or self._layer.is_checked():
-            with read_ahead(stream) as ahead:
-                self._read(ahead)
+    def _take_all(self) -> None:
+        """Takes the entries of its archive, or of one of the same bytes that was read, whose contents are blobs."""
+        layers = self._taking.kept
+        kept = layers.kept(self._layer) if layers else None
+        if kept is not None:
+            for header, contents in kept.entries(self._taking.held.budget):
+                self._take_fitting(header, _known(contents))
             return
-        algorithm, wanted = self._layer.unpacked_digest
-        source = Digesting(stream, algorithm)
-        with read_ahead(source) as ahead:
-            self._read(ahead)
-        if source.digest.hexdigest() != wanted:
-            raise cannot_read(self._layer.path, f"its unpacked bytes aren't those of {algorithm}:{wanted}")
+        keeping = layers.keeping(self._layer) if layers else None
+        reader = ArchiveReader(self._layer, self._taking)
+        if keeping is None:
+            reader.read(self._take_fitting)
+        else:
+            reader.read(functools.partial(self._take_and_keep, keeping))
 
-    def _read(self, stream: Source) -> None:
-        archive = TarReader(buffered(stream), self._taking.held.budget)
-        repeats = self._taking.repeats
-        keeping = repeats.keeping(self._layer) if repeats else None
-        for header in archive:
-            store: Store = functools.partial(self._store, archive, header)
-            if keeping is not None:
-                contents = store() if header.type in REGULAR_TYPES else _NO_CONTENTS
-                keeping.add(header, contents)
-                store = _known(contents)
-            self._take_fitting(header, store)
+    def _take_and_keep(self, keeping: Keeping, header: Header, store: Store) -> None:
+        contents = store() if has_contents(header) else NO_CONTENTS
+        keeping.add(header, contents)
+        self._take_fitting(header, _known(contents))
 
     def _take_fitting(self, header: Header, store: Store) -> None:
         try:
@@ -161,8 +192,7 @@ class LayerArchive:
 
     def _take(self, header: Header, store: Store) -> None:
         names = self._paths.names(header.name)
-        is_special = names and may_be_special(header.name)
-        if is_special and (names[-1].startswith(WHITEOUT_PREFIX) or is_of_aufs(names)):
+        if may_be_special(header.name) and _is_special(names):
             if not self._taking.is_folder:
                 self._take_special(header, names, store)
                 return
@@ -181,7 +211,7 @@ class LayerArchive:
         """What is no entry of the layer: a whiteout, an opaque mark, or what aufs keeps for itself."""
         if is_of_aufs(names):
             self._losses.add(Loss.AUFS, _path(names))
-            if names[0] == AUFS_LINKS and header.type in REGULAR_TYPES:
+            if _is_aufs_link(names) and header.type in REGULAR_TYPES:
                 entry = self._entry(header, names)
                 self._taking.held.grow()
                 _fill(entry, store)
@@ -213,7 +243,7 @@ class LayerArchive:
         """The entry of a header but for a file's contents."""
         _check_place(names)
         kind = _KINDS.get(header.type)
-        if header.type in (b"\0", b"0") and header.name.endswith(b"/"):
+        if is_folder_in_spite(header):
             kind = DIRECTORY
         if kind is None:
             raise Unfit(f"an entry of type {header.type!r}, which can't be stated")
@@ -276,38 +306,6 @@ class LayerArchive:
         own.link = here.link if here else 0
         return own
 
-    def _store(self, archive: TarReader, header: Header) -> Contents:
-        """Writes an entry's data as a blob, zeros as holes."""
-        most, writer = self._taking.most_contents, self._taking.writer
-        self._contents += header.size
-        if most is not None and self._contents > most:
-            raise TooMuch(f"its files have over {most:,} bytes, which is more than its own size speaks for")
-        if header.size == 0:
-            return _NO_CONTENTS
-        if isinstance(writer, Digester):
-            return writer.take(archive.data())
-        digest, size, scratch = hashlib.sha256(), 0, writer.scratch()
-        self._require_space(archive.stored())
-        for piece in archive.data():
-            digest.update(piece)
-            size += len(piece)
-            with self._writing():
-                if piece == ZEROS[:len(piece)]:
-                    os.lseek(scratch, len(piece), os.SEEK_CUR)
-                else:
-                    write_all(scratch, piece)
-        with self._writing():
-            os.ftruncate(scratch, size)
-            writer.keep(digest.hexdigest(), size)
-        return digest.hexdigest(), size
-
-    def _writing(self) -> contextlib.AbstractContextManager[None]:
-        return writing(self._taking.out)
-
-    def _require_space(self, size: int) -> None:
-        if size > PIECE:
-            require_room(self._taking.out, self._taking.out, size)
-
     def _refuse_or_note(self, header: Header, problem: str) -> None:
         name = os.fsdecode(header.name)
         if not self._taking.skip_unsupported:
@@ -317,6 +315,34 @@ class LayerArchive:
 
 def _known(contents: Contents) -> Store:
     return lambda: contents
+
+
+def is_folder_in_spite(header: Header) -> bool:
+    """Whether an entry is a directory by its name, whatever its type says, as in the oldest archives."""
+    return header.type in (b"\0", b"0") and header.name.endswith(b"/")
+
+
+def has_contents(header: Header) -> bool:
+    """Whether what an entry of an image's layer has as data are contents of a file, where it can be stated at all."""
+    if header.type not in REGULAR_TYPES or is_folder_in_spite(header):
+        return False
+    if not may_be_special(header.name):
+        return True
+    try:
+        names = Paths().names(header.name)
+    except Unfit:
+        return False
+    return not _is_special(names) or _is_aufs_link(names)
+
+
+def _is_special(names: list[str]) -> bool:
+    """Whether a name stands for something else than an entry of the layer."""
+    return bool(names) and (names[-1].startswith(WHITEOUT_PREFIX) or is_of_aufs(names))
+
+
+def _is_aufs_link(names: list[str]) -> bool:
+    """Whether it is a file to which names of aufs' layers link."""
+    return names[0] == AUFS_LINKS and is_of_aufs(names)
 
 
 def _fill(entry: Entry, store: Store) -> None:

@@ -2,13 +2,13 @@
 
 import contextlib
 import hashlib
+import itertools
 import os
 import stat
-import tempfile
 from collections.abc import Callable, Iterable, Iterator
 from types import TracebackType
 
-from .contents import PIECE, PRIVATE_MODE, Copier, digest_and_size, read_small, write_all
+from .contents import PIECE, PRIVATE_MODE, Copier, Piece, digest_and_size, is_zeros, read_small, write_all
 from .faults import cannot_read, is_of_writing, writing
 from .places import CREATE, READ
 from .progress import note
@@ -30,6 +30,7 @@ class BlobStore:
         self._stage: Stage | None = None
         self._is_new = False
         self._was_empty = False
+        self._numbers = itertools.count(1)
 
     def __enter__(self) -> "BlobStore":
         try:
@@ -74,33 +75,31 @@ class BlobStore:
     def writer(self) -> "BlobWriter":
         """One that puts contents in. Several may write at the same time, each in a process of its own."""
         assert self._stage is not None
-        with writing(self.folder):
-            own = tempfile.mkdtemp(dir=self._stage.path)
-        return BlobWriter(self.folder, own, not self._was_empty)
+        scratch = f"{_SCRATCH}-{os.getpid()}-{next(self._numbers)}"
+        return BlobWriter(self.folder, self._stage.path, scratch, not self._was_empty)
 
     def _publish(self) -> None:
         assert self._stage is not None
-        for writer in os.listdir(self._stage.path):
-            folder = f"{self._stage.path}/{writer}"
-            for name in os.listdir(folder):
-                if name != _SCRATCH:
-                    os.rename(f"{folder}/{name}", f"{self.folder}/{name}")
+        for name in os.listdir(self._stage.path):
+            if not name.startswith(_SCRATCH):
+                os.rename(f"{self._stage.path}/{name}", f"{self.folder}/{name}")
 
 
 class BlobWriter:
-    """Writes blobs into a folder of its own, each once, but for those that the folder of blobs has.
+    """Writes blobs into a stage, each once, but for those that the folder of blobs has.
 
-    What that has is trusted only once its bytes were digested; otherwise it is written anew.
+    What that has is trusted only once its bytes were digested; otherwise it is written anew. Others may write
+    into the same stage, each with a scratch file of its own.
     """
 
-    def __init__(self, folder: str, own: str, has_others: bool) -> None:
+    def __init__(self, folder: str, stage: str, scratch: str, has_others: bool) -> None:
         self._blobs = folder
-        self._path = own
+        self._scratch_name = scratch
         self._has_others = has_others
         self._copier = Copier()
         self._scratch = -1
         with writing(folder):
-            self._folder = os.open(own, os.O_RDONLY | os.O_DIRECTORY | os.O_CLOEXEC)
+            self._folder = os.open(stage, os.O_RDONLY | os.O_DIRECTORY | os.O_CLOEXEC)
 
     def close(self) -> None:
         """Closes what is open."""
@@ -111,19 +110,41 @@ class BlobWriter:
         """An empty open file, for contents that `keep` takes."""
         if self._scratch < 0:
             with writing(self._blobs):
-                self._scratch = os.open(_SCRATCH, CREATE, PRIVATE_MODE, dir_fd=self._folder)
+                self._scratch = os.open(self._scratch_name, CREATE, PRIVATE_MODE, dir_fd=self._folder)
         return self._scratch
 
     def keep(self, digest: str, size: int) -> None:
         """Makes the scratch file the blob of this digest, or empties it where that is there."""
-        scratch = self.scratch()
         with writing(self._blobs):
             if size == 0 or self._is_written(digest) or self._has(digest, size):
-                os.ftruncate(scratch, 0)
-                os.lseek(scratch, 0, os.SEEK_SET)
+                self._empty()
             else:
-                os.rename(_SCRATCH, digest, src_dir_fd=self._folder, dst_dir_fd=self._folder)
+                os.rename(self._scratch_name, digest, src_dir_fd=self._folder, dst_dir_fd=self._folder)
                 self._drop_scratch()
+
+    def take(self, pieces: Iterable[Piece], size: int) -> str:
+        """Writes contents of this size that come in pieces, zeros as holes; gives their digest."""
+        if size <= PIECE:
+            whole = bytearray()
+            for piece in pieces:
+                whole += piece  # at once, as it is there until the next one is
+            if not is_zeros(whole):
+                return self._put_piece(whole)
+            pieces = [whole]
+        digest, scratch = hashlib.sha256(), self.scratch()
+        with writing(self._blobs):
+            self._empty()  # of what reading was cut off at, where it began again
+        for piece in pieces:
+            digest.update(piece)
+            with writing(self._blobs):
+                if is_zeros(piece):
+                    os.lseek(scratch, len(piece), os.SEEK_CUR)
+                else:
+                    write_all(scratch, piece)
+        with writing(self._blobs):
+            os.ftruncate(scratch, size)
+        self.keep(digest.hexdigest(), size)
+        return digest.hexdigest()
 
     def put(self, source: int, size: int) -> str | None:
         """Copies an open file of this size in and gives its digest; nothing where its size is another.
@@ -151,10 +172,12 @@ class BlobWriter:
     def _put_small(self, source: int, size: int) -> str | None:
         """Reads a file once, for its digest and for the blob."""
         piece = read_small(source, size)
-        if len(piece) != size:
-            return None
+        return self._put_piece(piece) if len(piece) == size else None
+
+    def _put_piece(self, piece: Piece) -> str:
+        """Writes contents that are there as a whole, at once by their digest; gives it."""
         digest = hashlib.sha256(piece).hexdigest()
-        if not self._has(digest, size):
+        if piece and not self._has(digest, len(piece)):
             with writing(self._blobs), contextlib.suppress(FileExistsError):
                 file = os.open(digest, CREATE, PRIVATE_MODE, dir_fd=self._folder)
                 try:
@@ -164,7 +187,7 @@ class BlobWriter:
         return digest
 
     def _is_written(self, digest: str) -> bool:
-        """Whether this run has written the blob, which nobody else can reach."""
+        """Whether this run has written the blob, or is about to, which nobody else can reach."""
         return os.access(digest, os.F_OK, dir_fd=self._folder, follow_symlinks=False)
 
     def _has(self, digest: str, size: int) -> bool:
@@ -183,6 +206,10 @@ class BlobWriter:
         finally:
             os.close(file)
 
+    def _empty(self) -> None:
+        os.ftruncate(self._scratch, 0)
+        os.lseek(self._scratch, 0, os.SEEK_SET)
+
     def _drop_scratch(self) -> None:
         if self._scratch >= 0:
             os.close(self._scratch)
@@ -197,13 +224,12 @@ class Digester:
         digest, found = digest_and_size(source)
         return digest if found == size else None
 
-    def take(self, pieces: Iterable[bytes]) -> tuple[str, int]:
-        """The digest of contents that come in pieces, and how many bytes they are."""
-        digest, size = hashlib.sha256(), 0
+    def take(self, pieces: Iterable[Piece], size: int) -> str:
+        """The digest of contents of this size that come in pieces."""
+        digest = hashlib.sha256()
         for piece in pieces:
             digest.update(piece)
-            size += len(piece)
-        return digest.hexdigest(), size
+        return digest.hexdigest()
 
     def close(self) -> None:
         """Nothing is open."""

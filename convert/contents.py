@@ -13,7 +13,8 @@ from types import TracebackType
 PIECE = 1 << 18
 ZEROS = bytes(PIECE)
 PRIVATE_MODE = 0o600  # of what has the contents of files, secret ones too
-Write = Callable[[bytes], object]  # takes all bytes that it is given
+Piece = bytes | bytearray | memoryview
+Write = Callable[[Piece], object]  # takes all bytes that it is given
 LARGE_PIECE = 1 << 20  # bytes that one thread hands to another, so that they seldom wait for each other
 LARGE_PIECES = 4  # that are on their way at once
 _COPY_AT_ONCE = 1 << 30
@@ -98,23 +99,65 @@ def read_small(file: int, size: int) -> bytes:
     return piece
 
 
-def write_all(target: int, piece: bytes) -> None:
+def is_zeros(piece: Piece) -> bool:
+    """Whether a piece of contents is of zeros alone."""
+    return piece[:1] == b"\0" and piece == ZEROS[:len(piece)]
+
+
+def write_all(target: int, piece: Piece) -> None:
     """Writes all bytes, however many the system takes at once."""
     view = memoryview(piece)
     while view:
         view = view[os.write(target, view):]
 
 
+class OtherContents(Exception):
+    """The contents of a file, of this path, have another digest than they should."""
+
+
+class _Contents:
+    """A file's contents on their way, which are to have a digest."""
+
+    def __init__(self, wanted: str, path: str) -> None:
+        self._digest = hashlib.sha256()
+        self._wanted = wanted
+        self._path = path
+
+    def take(self, part: memoryview, is_last: bool) -> None:
+        """The next part of them."""
+        self._digest.update(part)
+        if is_last and self._digest.hexdigest() != self._wanted:
+            raise OtherContents(self._path)
+
+
+class _LargePiece:
+    """A large piece on its way, and what has to be done before it is filled again."""
+
+    def __init__(self) -> None:
+        self.bytes = memoryview(bytearray(LARGE_PIECE))
+        self.parts: list[tuple[_Contents, memoryview, bool]] = []
+        self.tasks: list[Future[object]] = []
+
+    def digest_parts(self) -> None:
+        """Digests the contents of files that are in it."""
+        for contents, part, is_last in self.parts:
+            contents.take(part, is_last)
+
+    def wait(self) -> None:
+        """Waits until it can be filled again; raises what went wrong."""
+        for task in self.tasks:
+            task.result()
+        self.tasks, self.parts = [], []
+
+
 class DigestedBeside:
-    """Hands bytes on in large pieces, of which a thread makes a digest meanwhile."""
+    """Takes bytes into large pieces. A thread writes them, one makes a digest of them, and one those of files in them."""
 
     def __init__(self, write: Write) -> None:
         self._write = write
         self._digest = hashlib.sha256()
-        self._thread = ThreadPoolExecutor(1)
-        self._pieces: deque[tuple[memoryview, Future[None] | None]] = deque(
-            (memoryview(bytearray(LARGE_PIECE)), None) for _ in range(LARGE_PIECES)
-        )
+        self._threads = ThreadPoolExecutor(1), ThreadPoolExecutor(1), ThreadPoolExecutor(1)
+        self._pieces = deque(_LargePiece() for _ in range(LARGE_PIECES))
         self._size = 0  # of what is in the first piece
 
     def __enter__(self) -> "DigestedBeside":
@@ -123,35 +166,74 @@ class DigestedBeside:
     def __exit__(
         self, kind: type[BaseException] | None, error: BaseException | None, trace: TracebackType | None
     ) -> None:
-        self._thread.shutdown(cancel_futures=True)
+        try:
+            if isinstance(error, Exception):
+                self._wait()  # what went wrong before is told first
+        finally:
+            for thread in self._threads:
+                thread.shutdown(cancel_futures=True)
 
-    def write(self, data: bytes) -> None:
+    def write(self, data: Piece) -> None:
         """Takes all bytes."""
+        begin = self._size
+        if begin + len(data) < LARGE_PIECE:
+            self._size = begin + len(data)
+            self._pieces[0].bytes[begin:self._size] = data
+            return
         view = memoryview(data)
         while view:
-            piece = self._pieces[0][0]
-            count = min(len(view), LARGE_PIECE - self._size)
-            piece[self._size:self._size + count] = view[:count]
-            self._size += count
-            view = view[count:]
-            if self._size == LARGE_PIECE:
-                self._hand_on()
+            place = self._room()[:len(view)]
+            place[:] = view[:len(place)]
+            view = view[len(place):]
+            self._fill(len(place))
+
+    def copy(self, read: Callable[[memoryview], int], size: int, wanted: str | None, path: str) -> bool:
+        """Takes so many bytes of a file, which may have to have a digest; fails later where they have another.
+
+        Says whether there were as many.
+        """
+        contents, left = None if wanted is None else _Contents(wanted, path), size
+        while left:
+            place = self._room()[:left]
+            count = read(place)
+            if count == 0:
+                return False
+            left -= count
+            if contents is not None:
+                self._pieces[0].parts.append((contents, place[:count], left == 0))
+            self._fill(count)
+        return True
+
+    def _room(self) -> memoryview:
+        """What is left of the first piece."""
+        return self._pieces[0].bytes[self._size:]
+
+    def _fill(self, count: int) -> None:
+        """So many bytes of it are there now."""
+        self._size += count
+        if self._size == LARGE_PIECE:
+            self._hand_on()
 
     def _hand_on(self) -> None:
-        piece = self._pieces.popleft()[0]
-        filled = piece[:self._size]
-        self._pieces.append((piece, self._thread.submit(self._digest.update, filled)))
-        self._write(filled)
+        piece = self._pieces[0]
+        filled = piece.bytes[:self._size]
+        writing, digesting, checking = self._threads
+        piece.tasks = [writing.submit(self._write, filled), digesting.submit(self._digest.update, filled)]
+        if piece.parts:
+            piece.tasks.append(checking.submit(piece.digest_parts))
+        self._pieces.rotate(-1)
         self._size = 0
-        digested = self._pieces[0][1]
-        if digested is not None:
-            digested.result()
+        self._pieces[0].wait()
 
     def end(self) -> str:
-        """Hands on what is left; gives the digits of the digest of all."""
+        """Has what is left written; gives the digits of the digest of all."""
         self._hand_on()
-        self._thread.shutdown()
+        self._wait()
         return self._digest.hexdigest()
+
+    def _wait(self) -> None:
+        for piece in self._pieces:
+            piece.wait()
 
 
 def digest_and_size(file: int, begin: int = 0) -> tuple[str, int]:

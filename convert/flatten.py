@@ -153,7 +153,7 @@ class _Doing(Doing):
         with timed("pack") as words:
             pack(PackOptions(
                 layers=[self.path(layer) for layer in layers], blobs=blobs, out=self._target(), tag=self._name,
-                config=config, compress=self._options.compress, links=links,
+                config=config, compress=self._options.compress, links=links, has_checked_blobs=True,
                 annotations=self.path(_ANNOTATIONS) if self._has_annotations else None,
             ))
             words.append(counted(len(layers), "layer", "layers"))

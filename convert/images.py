@@ -16,7 +16,8 @@ from .configuration import (
 from .faults import ReadFault, UsageFault, cannot_read, reading
 from .members import Members, opened_members
 from .progress import Progress
-from .streams import Slice, Source, Watched, unpacked
+from .quick_gzip import find_program, unpacked_quickly
+from .streams import Slice, Source, Watched, digest_of, unpacked
 from .targets import TRANSPORTS
 
 MAX_DOCUMENTS = 1 << 24  # bytes of an image's documents together, each as often as it is named
@@ -64,9 +65,28 @@ class ImageLayer:
         with self.opened() as part, unpacked(Watched(part, progress), self.path) as stream:
             yield stream
 
+    @contextlib.contextmanager
+    def archive_quickly(self, progress: Progress) -> Iterator[Source]:
+        """The same of a gzip stream, by a program that is quicker and less strict than zlib; see `quick_gzip`."""
+        with self.opened() as part:
+            progress.expect(part.size())
+            with unpacked_quickly(part, progress) as stream:
+                yield stream
+
     def is_checked(self) -> bool:
         """Whether the digest of its bytes, which are looked at before they are read, is that of the unpacked ones."""
         return self.digest is not None and self.digest == self.unpacked_digest and self.packed_size() is None
+
+    def bytes_read(self) -> int:
+        """How many bytes of the image it takes to read it, those that are digested before."""
+        return self.size * (1 if self.digest is None else 2)
+
+    def may_be_quick(self) -> bool:
+        """Whether it can be unpacked by that program: what comes of it is checked by its digest."""
+        if self.unpacked_digest is None or find_program() is None:
+            return False
+        with self.members.opened(self.name) as part, reading(self.path):
+            return part.is_gzip()
 
     def packed_size(self) -> int | None:
         """How many bytes it has in the image, where these are compressed."""
@@ -216,9 +236,9 @@ def _wrong_bytes(path: str, digest: Digest) -> ReadFault:
 def _require_digest(layer: ImageLayer, part: Slice, digest: Digest) -> None:
     progress = Progress(f"checking bytes of {layer.name[-20:]}")
     with reading(layer.path):
-        found = hashlib.file_digest(Watched(part, progress), digest[0])
+        found = digest_of(Watched(part, progress), digest[0])
     progress.end()
-    if found.hexdigest() != digest[1]:
+    if found != digest[1]:
         raise _wrong_bytes(layer.path, digest)
 
 

@@ -64,8 +64,8 @@ class Gap(Enum):
 class Held:
     """What the layers of an image hold in memory, within bounds."""
 
-    def __init__(self) -> None:
-        self.budget = Budget()
+    def __init__(self, budget: Budget | None = None) -> None:
+        self.budget = budget or Budget()
         self._entries = 0
         self._bytes = 0
         self._sets: dict[RawAttributes, Attributes] = {}

@@ -28,6 +28,14 @@ _MORE: dict[str, frozenset[str]] = {
     "fifo": frozenset(),
     "socket": frozenset(),
 }
+_NUMBERS = (
+    ("mode", 0, rules.MAX_MODE), ("uid", 0, rules.MAX_NUMBER), ("gid", 0, rules.MAX_NUMBER),
+    ("mtime", rules.MIN_TIME, rules.MAX_TIME),
+)
+_DEVICE_NUMBERS = (("major", 0, rules.MAX_NUMBER), ("minor", 0, rules.MAX_NUMBER))
+_NUMBERS_OF = {
+    FILE: (*_NUMBERS, ("size", 0, rules.MAX_SIZE)), CHAR: _NUMBERS + _DEVICE_NUMBERS, BLOCK: _NUMBERS + _DEVICE_NUMBERS,
+}
 _KINDS = {kind: kind for kind in _MORE}  # so that each text of a kind stands once
 
 
@@ -164,7 +172,7 @@ class _Sequence:
         number = self._count
         if number == rules.MAX_ENTRIES:
             raise _Refused("entry count")
-        entry = _entry_of(value, number, self.version)
+        entry = _entry_of(value, number, self.version, self._directories)
         key = rules.path_key(entry.path)
         if number == 0:
             if entry.path != "/" or entry.kind != DIRECTORY:
@@ -179,8 +187,8 @@ class _Sequence:
         return entry
 
 
-def _entry_of(value: Any, number: int, version: _Version) -> Entry:
-    entry = _sound_entry(value, version)
+def _entry_of(value: Any, number: int, version: _Version, directories: set[str]) -> Entry:
+    entry = _sound_entry(value, version, directories)
     if entry is None:
         raise _Refused(f"entry {number}: wrong entry")
     if any(rules.attribute_problem(name) for name in entry.attributes):
@@ -188,14 +196,14 @@ def _entry_of(value: Any, number: int, version: _Version) -> Entry:
     return entry
 
 
-def _sound_entry(value: Any, version: _Version) -> Entry | None:
+def _sound_entry(value: Any, version: _Version, directories: set[str]) -> Entry | None:
     """The entry of a JSON value, or nothing where one of its members isn't as it must be."""
     if not isinstance(value, dict):
         return None
     kind = value.get("kind")
     if not isinstance(kind, str) or kind not in _MORE:
         return None
-    if set(value) - {"blob"} != version.members[kind] or not _is_path(value["path"], version):
+    if set(value) - {"blob"} != version.members[kind] or not _is_path(value["path"], version, directories):
         return None
     attributes = _attributes_of(value["xattrs"])
     if attributes is None or not _numbers_fit(value, kind):
@@ -218,13 +226,15 @@ def _sound_entry(value: Any, version: _Version) -> Entry | None:
     return entry
 
 
-def _is_path(text: Any, version: _Version) -> bool:
+def _is_path(text: Any, version: _Version, directories: set[str]) -> bool:
+    """Whether a text is a path; of one below a directory that came before the last name alone is looked at."""
     if not isinstance(text, str) or not text.startswith("/"):
         return False
     if text == "/":
         return True
-    names = text[1:].split("/")
-    return not any(map(rules.name_problem, names)) and not rules.path_problem(text, len(names), version.names)
+    folder, _, name = text.rpartition("/")
+    names = [name] if folder != "/" and folder in directories else text[1:].split("/")
+    return not any(map(rules.name_problem, names)) and not rules.path_problem(text, text.count("/"), version.names)
 
 
 def _attributes_of(value: Any) -> dict[str, bytes] | None:
@@ -242,21 +252,12 @@ def _attributes_of(value: Any) -> dict[str, bytes] | None:
 
 
 def _numbers_fit(value: dict[str, Any], kind: str) -> bool:
-    def fits(name: str, least: int, most: int) -> bool:
-        return type(value[name]) is int and least <= value[name] <= most
-
-    return (
-        fits("mode", 0, rules.MAX_MODE)
-        and fits("uid", 0, rules.MAX_NUMBER)
-        and fits("gid", 0, rules.MAX_NUMBER)
-        and fits("mtime", rules.MIN_TIME, rules.MAX_TIME)
-        and (_BELOW_SECOND not in value or fits(_BELOW_SECOND, 0, ONE_SECOND - 1))
-        and (kind != FILE or fits("size", 0, rules.MAX_SIZE))
-        and (
-            kind not in (CHAR, BLOCK)
-            or (fits("major", 0, rules.MAX_NUMBER) and fits("minor", 0, rules.MAX_NUMBER))
-        )
-    )
+    for name, least, most in _NUMBERS_OF.get(kind, _NUMBERS):
+        number = value[name]
+        if type(number) is not int or not least <= number <= most:
+            return False
+    below = value.get(_BELOW_SECOND, 0)
+    return type(below) is int and 0 <= below < ONE_SECOND
 
 
 def written(entries: Iterable[Entry]) -> Iterator[str]:

@@ -15,12 +15,12 @@ from .compression import NONE, media_type, packing, require_program
 from .configuration import (
     USUAL_PLATFORM, Document, for_layers, platform_of, platform_text, read_annotations, read_configuration,
 )
-from .contents import PIECE, PRIVATE_MODE, DigestedBeside, Write, digest_and_size
+from .contents import PIECE, PRIVATE_MODE, DigestedBeside, OtherContents, digest_and_size
 from .entries import (
     DIRECTORY, IS_OPAQUE, OPAQUE, SOCKET, Entry, drop_host_marks, is_opaque, is_whiteout, needs_lower_layers,
     only_in_manifests,
 )
-from .faults import UsageFault, cannot_read, reading, writing
+from .faults import ReadFault, UsageFault, cannot_read, reading, writing
 from .image_files import BLOBS, ArchiveFiles, FolderFiles, ImageFiles
 from .images import REF_NAME
 from .links import FirstNames, take_links
@@ -54,6 +54,7 @@ class PackOptions:
     compress: str = NONE
     links: str | None = None
     annotations: str | None = None
+    has_checked_blobs: bool = False  # and what is written is read again, so that digests needn't be made here
 
 
 @dataclass(frozen=True)
@@ -197,9 +198,12 @@ def _write_layer(files: ImageFiles, entries: list[Entry], options: PackOptions) 
 
     def fill(file: IO[bytes]) -> str:
         begin = file.tell()
-        with packing(options.compress, file) as write, DigestedBeside(write) as archive:
-            _write_archive(entries, options.blobs, archive.write)
-            unpacked = archive.end()
+        try:
+            with packing(options.compress, file) as write, DigestedBeside(write) as archive:
+                _write_archive(entries, options, archive)
+                unpacked = archive.end()
+        except OtherContents as wrong:
+            raise _other_contents(str(wrong)) from None
         digest, size = unpacked, file.seek(0, os.SEEK_END) - begin
         if options.compress != NONE:
             digest, size = digest_and_size(file.fileno(), begin)
@@ -210,16 +214,15 @@ def _write_layer(files: ImageFiles, entries: list[Entry], options: PackOptions) 
     return packed[0]
 
 
-def _write_archive(entries: list[Entry], blobs: str, write: Write) -> None:
+def _write_archive(entries: list[Entry], options: PackOptions, out: DigestedBeside) -> None:
     """The archive of a layer. A directory's `.wh..wh..opq` comes right after it."""
-    archive, firsts = TarWriter(write), FirstNames()
+    archive, firsts = TarWriter(out.write), FirstNames()
     progress = Progress("packing entries", len(entries))
     for entry in entries:
         first = firsts.before(entry)
         archive.entry(_header(entry) if first is None else _link_header(entry, first))
         if first is None and entry.names_contents():
-            for piece in contents_of(entry, blobs):
-                archive.data(piece)
+            _copy_contents(entry, options, out)
             archive.end_data(entry.size)
         if is_opaque(entry):
             name = f"{entry.path[1:]}/{OPAQUE_NAME}".encode()
@@ -252,6 +255,24 @@ def _link_header(entry: Entry, first: str) -> Header:
     return replace(_header(entry), type=tar.HARD_LINK, target=first[1:].encode(), size=0, major=0, minor=0)
 
 
+def _copy_contents(entry: Entry, options: PackOptions, out: DigestedBeside) -> None:
+    """A file's contents, which are those of its digest; where they aren't, that is told a little later."""
+    blob = str(entry.blob)
+    path = blob_path(options.blobs, blob)
+    with opened_blob(options.blobs, blob, entry.size) as file:
+
+        def read(place: memoryview) -> int:
+            with reading(path):
+                return os.readv(file, [place])
+
+        if not out.copy(read, entry.size, None if options.has_checked_blobs else blob, path):
+            raise _other_contents(path)
+
+
+def _other_contents(path: str) -> ReadFault:
+    return cannot_read(path, "its contents have another digest")
+
+
 def contents_of(entry: Entry, blobs: str) -> Iterator[bytes]:
     """A file's contents, which are those of its digest."""
     digest, left, path = hashlib.sha256(), entry.size, blob_path(blobs, str(entry.blob))
@@ -265,7 +286,7 @@ def contents_of(entry: Entry, blobs: str) -> Iterator[bytes]:
             yield piece
             left -= len(piece)
     if left or digest.hexdigest() != entry.blob:
-        raise cannot_read(path, "its contents have another digest")
+        raise _other_contents(path)
 
 
 def _json(value: Any) -> bytes:

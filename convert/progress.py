@@ -8,6 +8,15 @@ from .texts import printable
 _EVERY = 0.2
 
 
+_told: memoryview | None = None
+
+
+def tell_progress(count: memoryview) -> None:
+    """Has this process show no progress, but add it to a number of another one, which does."""
+    global _told  # pylint: disable=global-statement
+    _told = count
+
+
 class Progress:
     """A line that counts, rewritten in place; silent where standard error is no terminal."""
 
@@ -15,7 +24,7 @@ class Progress:
         self._doing = printable(doing)
         self._count = 0
         self.expect(total)
-        self._is_shown = sys.stderr.isatty()
+        self._is_shown = _told is None and sys.stderr.isatty()
         self._next = time.monotonic() + _EVERY
         self._width = 0
 
@@ -26,11 +35,21 @@ class Progress:
     def step(self, by: int = 1) -> None:
         """Counts on, and now and then says so."""
         self._count += by
+        if _told is not None:
+            _told[0] += by
         if self._is_shown and time.monotonic() >= self._next:
             self._next = time.monotonic() + _EVERY
             line = f"{self._doing}: {self._count:,}{self._total}"
             self._width = max(self._width, len(line))
             print(f"\r{line.ljust(self._width)}", end="", file=sys.stderr, flush=True)
+
+    def step_to(self, count: int) -> None:
+        """Counts on to a number."""
+        self.step(count - self._count)
+
+    def seconds(self) -> float | None:
+        """How long to wait before the next step, where it is shown."""
+        return _EVERY if self._is_shown else None
 
     def end(self) -> None:
         """Takes the line away."""

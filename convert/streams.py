@@ -21,6 +21,7 @@ from .progress import Progress
 from .tar_headers import EndsEarly, TarFault
 
 _GZIP = b"\x1f\x8b"
+_RESERVED = 0xE0  # flags in the fourth byte
 _GZIP_WINDOW = 31  # zlib's number for a gzip header and trailer
 _GZIP_PIECE = 1 << 18
 _ZSTD = b"\x28\xb5\x2f\xfd"
@@ -70,14 +71,28 @@ class Slice(Reader):
 
     def is_packed(self) -> bool:
         """Whether its first bytes are those of a packed one."""
-        return is_packed(os.pread(self._file, min(HEAD_BYTES, self._end - self._begin), self._begin))
+        return is_packed(self._head())
+
+    def is_gzip(self) -> bool:
+        """Whether they are those of a gzip stream, of no form that isn't defined yet."""
+        head = self._head()
+        return head.startswith(_GZIP) and len(head) == HEAD_BYTES and not head[3] & _RESERVED
+
+    def _head(self) -> bytes:
+        return os.pread(self._file, min(HEAD_BYTES, self._end - self._begin), self._begin)
 
     def readinto(self, buffer: bytearray | memoryview) -> int:  # type: ignore[override]
         """Reads what fits."""
-        data = os.pread(self._file, min(len(buffer), self._end - self.place), self.place)
-        buffer[:len(data)] = data
-        self.place += len(data)
-        return len(data)
+        count = os.preadv(self._file, [memoryview(buffer)[:self._end - self.place]], self.place)
+        self.place += count
+        return count
+
+
+    def send(self, pipe: int, most: int) -> int:
+        """Hands the next bytes to a pipe, inside the kernel; tells how many."""
+        count = os.sendfile(pipe, self._file, self.place, min(most, self.size())) if self.size() else 0
+        self.place += count
+        return count
 
 
 class SeekingSlice(Slice):
@@ -122,6 +137,18 @@ class Gunzip(Reader):
                     raise EOFError("it ends too early")
 
 
+class Plain(Reader):
+    """Bytes that weren't packed, of which the first were looked at."""
+
+    def __init__(self, stream: io.BufferedReader) -> None:
+        super().__init__()
+        self._stream = stream
+
+    def readinto(self, buffer: bytearray | memoryview) -> int:  # type: ignore[override]
+        """Reads what fits."""
+        return self._stream.readinto(buffer)
+
+
 class Watched(Reader):
     """Reads a part of a file, and tells the progress how many of its bytes were read."""
 
@@ -153,7 +180,7 @@ class Digesting(Reader):
         return count
 
 
-class _Ahead(Reader):
+class Ahead(Reader):
     """A stream of which a thread reads pieces before they are asked for."""
 
     def __init__(self, stream: Source, thread: Executor) -> None:
@@ -161,43 +188,69 @@ class _Ahead(Reader):
         self._stream = stream
         self._thread = thread
         self._pieces: deque[tuple[memoryview, Future[int | None]]] = deque()
-        self._place = 0  # in the first piece
         for _ in range(LARGE_PIECES):
             self._have_filled(memoryview(bytearray(LARGE_PIECE)))
+        self._piece = memoryview(b"")  # the one that is read from
+        self._place = 0
+        self._size = 0
 
     def _have_filled(self, piece: memoryview) -> None:
         self._pieces.append((piece, self._thread.submit(self._stream.readinto, piece)))
 
-    def readinto(self, buffer: bytearray | memoryview) -> int:  # type: ignore[override]
-        """Gives of the next piece what fits; what went wrong with it is raised here."""
+    def read(self, count: int = -1, /) -> bytes:
+        """Gives of the next piece as many as are asked for at most; what went wrong with it is raised here."""
+        return bytes(self.view(count))
+
+    def view(self, count: int, /) -> memoryview:
+        """The same bytes where they are, until more of them are read."""
+        if self._place == self._size and not self._has_next():
+            return self._piece[:0]
+        begin, self._place = self._place, min(self._place + count, self._size)
+        return self._piece[begin:self._place]
+
+    def _has_next(self) -> bool:
+        """Goes on to the next piece, where there is one."""
         piece, filled = self._pieces[0]
         size = filled.result() or 0
-        count = min(len(buffer), size - self._place)
-        buffer[:count] = piece[self._place:self._place + count]
-        self._place += count
-        if 0 < size == self._place:
+        if size > 0:
             self._pieces.popleft()
-            self._have_filled(piece)
-            self._place = 0
-        return count
+            if self._size > 0:
+                self._have_filled(self._piece)
+            self._piece, self._place, self._size = piece, 0, size
+        return size > 0
 
 
 @contextlib.contextmanager
 def read_ahead(stream: Source) -> Iterator[Source]:
     """The same bytes. A thread reads, unpacks and digests pieces of them before they are asked for."""
     if isinstance(stream, Reader):
-        thread = ThreadPoolExecutor(1)
-        try:
-            yield _Ahead(stream, thread)
-        finally:
-            thread.shutdown(cancel_futures=True)
+        with _ahead_of(stream) as ahead:
+            yield ahead
     else:
         yield stream
 
 
+@contextlib.contextmanager
+def _ahead_of(stream: Reader) -> Iterator[Ahead]:
+    thread = ThreadPoolExecutor(1)
+    try:
+        yield Ahead(stream, thread)
+    finally:
+        thread.shutdown(cancel_futures=True)
+
+
+def digest_of(stream: Reader, algorithm: str) -> str:
+    """The digits of the digest of all bytes, of which a thread reads the next meanwhile."""
+    digest = hashlib.new(algorithm)
+    with _ahead_of(stream) as ahead:
+        while piece := ahead.view(LARGE_PIECE):
+            digest.update(piece)
+    return digest.hexdigest()
+
+
 def buffered(stream: Source) -> Source:
-    """A stream that gives as many bytes as are asked for, fewer at the end."""
-    return io.BufferedReader(stream, PIECE) if isinstance(stream, Reader) else stream
+    """A stream of which few bytes can be read at once."""
+    return io.BufferedReader(stream, PIECE) if isinstance(stream, Reader) and not isinstance(stream, Ahead) else stream
 
 
 def is_packed(head: bytes) -> bool:
@@ -223,7 +276,7 @@ def unpacked(part: io.RawIOBase, name: str, *, may_wait: bool = False) -> Iterat
             for magic, program in _OTHERS.items():
                 if head.startswith(magic):
                     raise cannot_read(name, f"it is packed by {program}, which images don't have")
-            yield packed
+            yield Plain(packed)
     except (EOFError, zlib.error) as error:
         raise cannot_read(name, f"its gzip stream is broken: {error}") from error
     except TarFault as error:

@@ -237,6 +237,7 @@ def header_block(header: Header) -> bytes:
     return block[:148] + b"%06o\0 " % sum(block) + block[156:]
 
 
+@functools.lru_cache(maxsize=4096)  # as above
 def _octal(number: int, width: int) -> bytes:
     """Octal digits, or base 256 where they have no place."""
     if 0 <= number < 8 ** (width - 1):

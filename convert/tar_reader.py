@@ -1,10 +1,10 @@
 """Reading a tar archive from its front to its end, a piece at a time."""
 
-from collections.abc import Iterator
+from collections.abc import Callable, Iterator
 from typing import Protocol, runtime_checkable
 
 from .budgets import Budget
-from .contents import PIECE, ZEROS
+from .contents import PIECE, ZEROS, Piece
 from .sparse import Places, old_places, record_places
 from .streams import Source
 from .tar_headers import (
@@ -19,6 +19,13 @@ _SMALL = 1 << 12  # bytes of a piece that is put together with others
 
 
 @runtime_checkable
+class Viewed(Protocol):
+    """Bytes that can be seen where they are, until more of them are read."""
+
+    def view(self, count: int, /) -> memoryview: ...
+
+
+@runtime_checkable
 class Skipping(Protocol):
     """Bytes that can be passed over without reading them."""
 
@@ -30,6 +37,7 @@ class TarReader:
 
     def __init__(self, source: Source, budget: Budget) -> None:
         self._source = source
+        self._view: Callable[[int], Piece] = source.view if isinstance(source, Viewed) else source.read
         self._budget = budget
         self._skipping = isinstance(source, Skipping)
         self._left = 0
@@ -47,8 +55,8 @@ class TarReader:
             yield header
         self._drain()
 
-    def data(self) -> Iterator[bytes]:
-        """The data of the entry that was given last, its holes as zeros."""
+    def data(self) -> Iterator[Piece]:
+        """The data of the entry that was given last, its holes as zeros. Each piece is there until the next one is."""
         if self._places is None:
             yield from self._stored(self._left)
         else:
@@ -63,7 +71,7 @@ class TarReader:
         """How many bytes of its data stand in the archive."""
         return self._left
 
-    def _with_holes(self, places: Places) -> Iterator[bytes]:
+    def _with_holes(self, places: Places) -> Iterator[Piece]:
         at = 0
         for begin, length in [*places, (self._size, 0)]:
             for start in range(at, begin, PIECE):
@@ -71,9 +79,11 @@ class TarReader:
             yield from self._stored(length)
             at = begin + length
 
-    def _stored(self, count: int) -> Iterator[bytes]:
+    def _stored(self, count: int) -> Iterator[Piece]:
         while count:
-            piece = self._exactly(min(PIECE, count))
+            piece = self._view(min(PIECE, count))
+            if not piece:
+                raise EndsEarly
             self._left -= len(piece)
             count -= len(piece)
             yield piece
@@ -85,10 +95,12 @@ class TarReader:
         while True:
             if not self._skip():
                 return None
-            block = self._source.read(BLOCK_BYTES)
+            block = self._up_to(BLOCK_BYTES)
             if not block:
                 return None
-            header = parse_header(self._whole(block, BLOCK_BYTES))
+            if len(block) < BLOCK_BYTES:
+                raise EndsEarly
+            header = parse_header(block)
             if header is None:
                 return None
             self._budget.headers.take()
@@ -163,7 +175,7 @@ class TarReader:
                 pass
         self._left = 0
         self._places = None
-        missing = self._padding - len(self._source.read(self._padding)) if self._padding else 0
+        missing = self._padding - len(self._up_to(self._padding)) if self._padding else 0
         self._padding = 0
         return not missing
 
@@ -173,15 +185,20 @@ class TarReader:
             pass
 
     def _exactly(self, count: int) -> bytes:
-        return self._whole(self._source.read(count), count) if count else b""
-
-    def _whole(self, data: bytes, count: int) -> bytes:
+        data = self._up_to(count) if count else b""
         if len(data) < count:
             raise EndsEarly
         return data
 
+    def _up_to(self, count: int) -> bytes:
+        """So many bytes, fewer at the end of the archive. A source may give fewer at once."""
+        data = self._source.read(count)
+        while 0 < len(data) < count and (more := self._source.read(count - len(data))):
+            data += more
+        return data
 
-def _gathered(pieces: Iterator[bytes]) -> Iterator[bytes]:
+
+def _gathered(pieces: Iterator[Piece]) -> Iterator[Piece]:
     """The same bytes, small pieces put together, since each that is taken costs time."""
     held: list[bytes] = []
     size = 0
@@ -190,7 +207,7 @@ def _gathered(pieces: Iterator[bytes]) -> Iterator[bytes]:
             yield b"".join(held)
             held, size = [], 0
         if len(piece) < _SMALL:
-            held.append(piece)
+            held.append(bytes(piece))
             size += len(piece)
         else:
             if held:

@@ -77,6 +77,8 @@ def _has_seconds(header: Header) -> bool:
 
 def _fitting(header: Header) -> Header:
     """The header with what has no place put to zero; a record tells it."""
+    if _fits(header):
+        return header
     return Header(
         header.name if header.name.isascii() else header.name.decode().encode("ascii", "replace"),
         header.type, header.mode,
@@ -86,4 +88,11 @@ def _fitting(header: Header) -> Header:
         header.mtime_ns if _has_seconds(header) else 0,
         header.target if header.target.isascii() else header.target.decode().encode("ascii", "replace"),
         header.major, header.minor,
+    )
+
+
+def _fits(header: Header) -> bool:
+    return (
+        header.name.isascii() and header.target.isascii() and header.uid <= _MAX_FIELD and header.gid <= _MAX_FIELD
+        and header.size <= _MAX_WIDE_FIELD and _has_seconds(header)
     )

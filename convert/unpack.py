@@ -1,12 +1,13 @@
 """`unpack`: the layers of an image as manifests and blobs, and its configuration."""
 
 import os
-from dataclasses import dataclass
+from dataclasses import dataclass, replace
 
 from . import rules, stacks
+from .ahead import NewWriter, layers_read
 from .archives import LayerArchive, Taking
 from .below import Below, write_shown_links
-from .blobs import Writer, writers
+from .blobs import writers
 from .configuration import text_of
 from .faults import cannot_read
 from .images import Image, ImageLayer, image_place, opened_image
@@ -14,7 +15,6 @@ from .layer_tree import Held
 from .links import LinkNames, links_path
 from .manifests import write_manifest
 from .outputs import new_folder, write_text
-from .repeats import Repeats
 from .room import require_room
 
 
@@ -49,32 +49,37 @@ def unpack_opened(options: UnpackOptions, image: Image) -> None:
         require_room(options.out, options.out, max(layer.size for layer in image.layers))
     with new_folder(options.out) as stage:
         with writers(None if options.digests_only else f"{stage}/{stacks.BLOBS}") as new_writer:
-            _unpack_layers(options, image.layers, stage, new_writer())
+            _unpack_layers(options, image.layers, stage, new_writer)
         write_text(f"{stage}/{stacks.CONFIG}", [text_of(image.configuration)])
         if image.annotations:
             write_text(f"{stage}/{stacks.ANNOTATIONS}", [text_of(image.annotations)])
 
 
-def _unpack_layers(options: UnpackOptions, layers: list[ImageLayer], stage: str, writer: Writer) -> None:
-    held, below, repeats = Held(), Below(), Repeats(layers, stage, options.out)
+def _unpack_layers(options: UnpackOptions, layers: list[ImageLayer], stage: str, new_writer: NewWriter) -> None:
+    below, writer = Below(), new_writer()
     taking = Taking(
         out=options.out, skip_unsupported=options.skip_unsupported, overlay_marks=options.overlay_marks, writer=writer,
-        held=held, below=below, repeats=repeats,
+        held=Held(), below=below,
     )
-    written = 0
     try:
-        for number, layer in zip(reversed(range(len(layers))), layers):
-            tree = LayerArchive(layer, taking).tree()
-            path, names = f"{stage}/{stacks.layer_name(number)}", LinkNames()
-            write_manifest(path, names.passing(tree.entries()), layer.path)
-            names.write(links_path(path), tree.entries, path)
-            written += os.path.getsize(path)
-            if written > rules.MAX_IMAGE_MANIFESTS:
-                raise cannot_read(
-                    layer.path, f"the manifests of the layers have over {rules.MAX_IMAGE_MANIFESTS:,} bytes"
-                )
-            below.cover(tree.root)
+        with layers_read(layers, taking, stage, new_writer) as kept:
+            _take_layers(layers, replace(taking, kept=kept), stage)
         write_shown_links(stage, below)
     finally:
-        repeats.close()
         writer.close()
+
+
+def _take_layers(layers: list[ImageLayer], taking: Taking, stage: str) -> None:
+    """Writes the manifest of each layer, and its links, and puts it above those below."""
+    written = 0
+    for number, layer in zip(reversed(range(len(layers))), layers):
+        tree = LayerArchive(layer, taking).tree()
+        path, names = f"{stage}/{stacks.layer_name(number)}", LinkNames()
+        write_manifest(path, names.passing(tree.entries()), layer.path)
+        names.write(links_path(path), tree.entries, path)
+        written += os.path.getsize(path)
+        if written > rules.MAX_IMAGE_MANIFESTS:
+            raise cannot_read(
+                layer.path, f"the manifests of the layers have over {rules.MAX_IMAGE_MANIFESTS:,} bytes"
+            )
+        taking.below.cover(tree.root)

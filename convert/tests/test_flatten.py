@@ -460,6 +460,20 @@ class Images(ImageTest):
                 self.require_done(self.flatten("--layers", layers, image=image, out=f"flat{layers}.tar"))
                 self.assertEqual(self.shown(self.path("all", f"flat{layers}.tar")), wanted)
 
+    def test_contents_that_change_after_they_were_checked(self) -> None:
+        """They are packed without being digested again, so the new image that is read again tells of them."""
+        digest = hashlib.sha256(b"topmost").hexdigest()
+        with open(self.program, encoding="utf-8") as file:
+            real = file.read().replace("exec ", "")
+        blob = self.path("in", "kept", "stack", "blobs", digest)
+        with open(self.program, "w", encoding="utf-8") as file:
+            file.write(f"{real}[ $1 != show ] || printf TOPMOST > {blob}\n")
+        for out in ("flat", "flat.tar"):
+            result = self.flatten("--keep", self.path("in", "kept"), out=out)
+            self.require_fault((result[0], "", result[2].splitlines()[-1]), 5, "the new layers show something else")
+            self.left()
+            shutil.rmtree(self.path("in", "kept"))
+
     def test_faults_of_an_image(self) -> None:
         moved = folder("new", pax={"SCHILY.xattr.trusted.overlay.redirect": "/lost"})
         write_layout(self.path("in", "faulty"), [archive([folder("d")]), archive([moved])])
