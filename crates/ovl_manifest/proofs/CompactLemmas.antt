@@ -2,6 +2,8 @@
 use Rattle.std.proofs.Common.{◌≡◌, ◌∙◌, ℕ, ℤ, pos, negsuc, zero, suc, ◌+◌, ◌*◌, ◌/◌, ◌%◌, ◌≤◌, ◌<◌, ◌^◌, append-nil, List, [], ◌∷◌, ◌++◌, length, length-take, take, get_or, Bool, true, false, Option, Some, None, Result, Ok, Err, refl, sym, ap, ap₂, subst, append_assoc, arith, ltb-true, eqb-true, decimal}
 use Rattle.std.specs.Prelude.{◌==◌, not, ◌&&◌, ◌||◌, nat_eq, nat_lt, slice_index, codes, option_and_then, if◌then◌else◌, is_some, unwrap_or, MatchOption}
 use Rattle.std.specs.List.{list_all}
+use Rattle.std.specs.Ordering.{is_lt}
+use Rattle.std.specs.Cmp.Lexicographic.{nat_list_cmp_total}
 use Rattle.std.specs.Fmt.{signed_decimal}
 use Rattle.std.specs.Str.{IsUtf8}
 use Rattle.std.proofs.lemmas.Option.{option_and_then_some}
@@ -25,29 +27,28 @@ use Rattle.serde_json.specs.Find.{as_str, of_integer}
 use Rattle.serde_json.specs.Read.{read, max_depth, of_json}
 use Rattle.serde_json.specs.Written.{outline, number_text, comma_if, compact_text, items_text, members_text}
 use Rattle.serde_json.proofs.Texts.{print-outline}
+use Rattle.ovl_names.specs.Names.{name_cmp}
 use Rattle.ovl_names.specs.Order.{ascends}
 use Rattle.ovl_names.specs.Paths.{PathNames, path_text}
-use Rattle.ovl_names.proofs.Ascending.{both}
+use Rattle.ovl_names.proofs.Ascending.{both, ascends-across, is_lt-Less}
 use Rattle.ovl_inode.specs.declared.digests.Digest.{Digest}
 use Rattle.ovl_inode.specs.declared.inodes.Inode.{Inode}
 use Rattle.ovl_inode.specs.declared.inodes.Kind.{Kind}
 use Rattle.ovl_inode.specs.declared.inodes.Kind.TheVariants.{Dir, File, Symlink, Char, Block, Fifo, Socket}
-use Rattle.ovl_inode.specs.Attributes.{Attributes, attribute_cmp, is_attribute_name, with_attribute}
+use Rattle.ovl_inode.specs.Attributes.{Attributes, attribute_cmp, all_before, is_attribute_name, with_attribute}
+use Rattle.ovl_inode.proofs.AttributeLemmas.{put-last}
 use Rattle.ovl_inode.specs.Hexadecimal.{is_lower_digit, bytes_of_digits, digest_of_text}
-use Rattle.ovl_layer.specs.Layers.{Entries, IsLayer}
+use Rattle.ovl_layer.specs.Layers.{Entry, Entries, IsLayer}
 use Rattle.ovl_manifest.specs.Manifest.{read_layer}
-use Rattle.ovl_manifest.specs.Versions.{version_number, is_stated_by}
+use Rattle.ovl_manifest.specs.Versions.{version_number, written}
 use Rattle.ovl_manifest.specs.declared.compact_entries.Word.{Word}
-use Rattle.ovl_manifest.specs.declared.versions.Version.{Version}
-use Rattle.ovl_manifest.specs.declared.versions.Version.TheVariants.{One, Two}
-use Rattle.ovl_manifest.specs.AnyOrder.{IsReadAs}
-use Rattle.ovl_manifest.specs.Text.{with_kind, attribute_members, entry_value, entry_items, layer_value}
-use Rattle.ovl_manifest.specs.Compact.{group_text, word_text, nsec_text, contents_text, before_entries, behind_entries, blob_of_kind, word_of_kind, attribute_text, attributes_text, entries_text}
+use Rattle.ovl_manifest.specs.Text.{attribute_members, entry_value, entry_items, layer_value}
+use Rattle.ovl_manifest.specs.Compact.{group_text, word_text, contents_text, back_text, blob_of_kind, word_of_kind, attribute_text, attributes_text, entries_text}
 use Rattle.ovl_manifest.specs.Fields.{attribute_after}
 use Rattle.ovl_manifest.proofs.ReadLemmas.{if-Some, text_read}
 use Rattle.ovl_manifest.proofs.TextLemmas.{attributes_in_turn, attribute_members-in_turn, layer-shallow}
 use Rattle.ovl_manifest.proofs.TailLemmas.{tokens-ended}
-use Rattle.ovl_manifest.proofs.WrittenBackLemmas.{common_with, manifest_members, layer_states, layer_numbers, outline-depth}
+use Rattle.ovl_manifest.proofs.WrittenBackLemmas.{layer_states, layer_numbers, outline-depth}
 use Rattle.ovl_manifest.proofs.StatedLemmas.{layer-back}
 
 -- ---- whether something was taken
@@ -189,40 +190,32 @@ digest-quoted digits blob is = ap quoted (digest-spelled digits blob is) ∙ ap 
 
 -- ---- an entry
 
--- the pieces of an entry's text, with a value of its attributes, and what follows it
-abbrev pub in_turn : Version → Option Digest → Word → Inode → List ℕ → List ℕ → Data → List ℕ → List ℕ
-in_turn version blob word inode seconds path own rest =
+-- the pieces of an entry's text, and what follows it
+abbrev pub in_turn : Option Digest → Word → Inode → List ℕ → List ℕ → List ℕ → List ℕ
+in_turn blob word inode seconds path rest =
     group_text blob inode.gid ++ word_text word (decimal inode.mode
-    ++ (codes ",\"mtime\":" ++ (seconds ++ (nsec_text version inode.nsec ++ (codes ",\"path\":" ++ (quoted path ++ (contents_text inode.kind ++ (codes ",\"uid\":" ++ (decimal inode.uid
-    ++ (codes ",\"xattrs\":" ++ (compact_text own ++ (codes "}" ++ rest))))))))))))
+    ++ (codes ",\"mtime\":" ++ (seconds ++ (codes ",\"mtime-nsec\":" ++ (decimal inode.nsec ++ (codes ",\"path\":" ++ (quoted path ++ (contents_text inode.kind
+    ++ back_text inode.uid inode.attrs rest)))))))))
 
 -- those of an entry of this kind
-abbrev pub pieces : Version → PathNames → Inode → Kind → Data → List ℕ → List ℕ
-pieces version path inode kind own rest =
-    in_turn version (blob_of_kind kind) (word_of_kind kind) (record inode { kind = kind }) (number_text (of_integer inode.mtime)) (path_text path) own rest
+abbrev pub pieces : PathNames → Inode → Kind → List ℕ → List ℕ
+pieces path inode kind rest =
+    in_turn (blob_of_kind kind) (word_of_kind kind) (record inode { kind = kind }) (number_text (of_integer inode.mtime)) (path_text path) rest
 
-kind_text : (version : Version) (path : PathNames) (inode : Inode) (kind : Kind) (own : Data) (rest : List ℕ)
-    → pieces version path inode kind own rest ≡ compact_text (object (with_kind kind (common_with version path (record inode { kind = kind }) own))) ++ rest
+kind_text : (path : PathNames) (inode : Inode) (kind : Kind) (rest : List ℕ)
+    → pieces path inode kind rest ≡ compact_text (entry_value (path, record inode { kind = kind })) ++ rest
 unfolding escape_byte
-kind_text One path inode Dir own rest = simp append_assoc
-kind_text One path inode (File size None) own rest = simp append_assoc
-kind_text One path inode (File size (Some blob)) own rest = simp append_assoc
-kind_text One path inode (Symlink target) own rest = simp append_assoc
-kind_text One path inode (Char major minor) own rest = simp append_assoc
-kind_text One path inode (Block major minor) own rest = simp append_assoc
-kind_text One path inode Fifo own rest = simp append_assoc
-kind_text One path inode Socket own rest = simp append_assoc
-kind_text Two path inode Dir own rest = simp append_assoc
-kind_text Two path inode (File size None) own rest = simp append_assoc
-kind_text Two path inode (File size (Some blob)) own rest = simp append_assoc
-kind_text Two path inode (Symlink target) own rest = simp append_assoc
-kind_text Two path inode (Char major minor) own rest = simp append_assoc
-kind_text Two path inode (Block major minor) own rest = simp append_assoc
-kind_text Two path inode Fifo own rest = simp append_assoc
-kind_text Two path inode Socket own rest = simp append_assoc
+kind_text path inode Dir rest = simp append_assoc
+kind_text path inode (File size None) rest = simp append_assoc
+kind_text path inode (File size (Some blob)) rest = simp append_assoc
+kind_text path inode (Symlink target) rest = simp append_assoc
+kind_text path inode (Char major minor) rest = simp append_assoc
+kind_text path inode (Block major minor) rest = simp append_assoc
+kind_text path inode Fifo rest = simp append_assoc
+kind_text path inode Socket rest = simp append_assoc
 
-pub entry_text : (version : Version) (path : PathNames) (inode : Inode) (own : Data) (rest : List ℕ) → pieces version path inode inode.kind own rest ≡ compact_text (object (with_kind inode.kind (common_with version path inode own))) ++ rest
-entry_text version path inode own rest = kind_text version path inode inode.kind own rest
+pub entry_text : (path : PathNames) (inode : Inode) (rest : List ℕ) → pieces path inode inode.kind rest ≡ compact_text (entry_value (path, inode)) ++ rest
+entry_text path inode rest = kind_text path inode inode.kind rest
 
 -- ---- piece after piece
 
@@ -258,62 +251,80 @@ pub attributes-onto : (attrs : Attributes) (attr : List ℕ × List ℕ) (rest :
 attributes-onto attrs attr rest some =
     sym (append_assoc (attributes_text false attrs) (44 ∷ attribute_text attr) rest) ∙ ap (λ (t : List ℕ). t ++ rest) (sym (attributes-more attrs attr some))
 
--- an attribute that is put, with the digits of its value
-pub attribute-put : (attrs more : Attributes) (name digits : List ℕ) → attribute_after attrs name (string digits) ≡ Some more → (bytes : List ℕ) × (encode_lower bytes ≡ digits) × (more ≡ with_attribute attrs name bytes)
-attribute-put attrs more name digits is =
+-- where the last name comes before another, all do
+pub all_before-last : (front : Attributes) (last : List ℕ × List ℕ) (name : List ℕ) → ascends attribute_cmp (front ++ last ∷ []) ≡ true → is_lt (name_cmp last.0 name) ≡ true → all_before (front ++ last ∷ []) name ≡ true
+all_before-last front last name up before = through front (ascends-across attribute_cmp front last [] up)
+  where
+    through : (attrs : Attributes) → list_all (λ other. is_lt (attribute_cmp other last)) attrs ≡ true → all_before (attrs ++ last ∷ []) name ≡ true
+    through [] all = rw before refl
+    through (attr ∷ attrs) all =
+        let parts = both {a = is_lt (attribute_cmp attr last)} {b = list_all (λ other. is_lt (attribute_cmp other last)) attrs} all in
+        let less : is_lt (name_cmp attr.0 name) ≡ true = ap is_lt (nat_list_cmp_total.trans attr.0 last.0 name (is_lt-Less (name_cmp attr.0 last.0) parts.0) (is_lt-Less (name_cmp last.0 name) before)) in
+        rw less (through attrs parts.1)
+
+-- an attribute that is put after all others, with the digits of its value
+pub attribute-behind : (attrs more : Attributes) (name digits : List ℕ) → all_before attrs name ≡ true → attribute_after attrs name (string digits) ≡ Some more → (bytes : List ℕ) × (encode_lower bytes ≡ digits) × (more ≡ attrs ++ (name, bytes) ∷ [])
+attribute-behind attrs more name digits before is =
     option_and_then_some (λ bytes. if is_attribute_name name then Some (with_attribute attrs name bytes) else None) (bytes_of_digits digits) more is (λ bytes spelled made.
-    (bytes, bytes-spelled digits bytes spelled, sym (if-Some (is_attribute_name name) (with_attribute attrs name bytes) more made).1))
+    let same = (if-Some (is_attribute_name name) (with_attribute attrs name bytes) more made).1 in
+    (bytes, bytes-spelled digits bytes spelled, sym same ∙ put-last attrs name bytes before))
 
--- the object of attributes in some order, and of ascending ones
-pub attributes_object-stood : (stood : Attributes) → compact_text (object (attributes_in_turn stood)) ≡ 123 ∷ (attributes_text false stood ++ 125 ∷ [])
-attributes_object-stood stood = ap (λ (t : List ℕ). 123 ∷ t) (members-attributes false stood)
-
+-- the object of ascending attributes
 pub attributes_object : (attrs : Attributes) → ascends attribute_cmp attrs ≡ true → compact_text (object (attribute_members attrs)) ≡ 123 ∷ (attributes_text false attrs ++ 125 ∷ [])
-attributes_object attrs up = ap (λ (ms : Members). compact_text (object ms)) (attribute_members-in_turn attrs up) ∙ attributes_object-stood attrs
+attributes_object attrs up = ap (λ (ms : Members). compact_text (object ms)) (attribute_members-in_turn attrs up) ∙ ap (λ (t : List ℕ). 123 ∷ t) (members-attributes false attrs)
 
 -- ---- the list of entries
 
-pub items-entries : (version : Version) (before : Bool) (entries : Entries) → items_text before (entry_items version entries) ≡ entries_text version before entries ++ 93 ∷ []
-items-entries version before [] = refl
-items-entries version before (entry ∷ entries) =
-    ap (λ (t : List ℕ). comma_if before ++ (compact_text (entry_value version entry) ++ t)) (items-entries version true entries)
-    ∙ sym (append_assoc (comma_if before) (compact_text (entry_value version entry) ++ entries_text version true entries) (93 ∷ []) ∙ ap (λ (t : List ℕ). comma_if before ++ t) (append_assoc (compact_text (entry_value version entry)) (entries_text version true entries) (93 ∷ [])))
+pub items-entries : (before : Bool) (entries : Entries) → items_text before (entry_items entries) ≡ entries_text before entries ++ 93 ∷ []
+items-entries before [] = refl
+items-entries before (entry ∷ entries) =
+    ap (λ (t : List ℕ). comma_if before ++ (compact_text (entry_value entry) ++ t)) (items-entries true entries)
+    ∙ sym (append_assoc (comma_if before) (compact_text (entry_value entry) ++ entries_text true entries) (93 ∷ []) ∙ ap (λ (t : List ℕ). comma_if before ++ t) (append_assoc (compact_text (entry_value entry)) (entries_text true entries) (93 ∷ [])))
+
+-- one entry more, behind others
+entries-more : (entries : Entries) (entry : Entry) → 0 < length entries → entries_text false (entries ++ entry ∷ []) ≡ entries_text false entries ++ 44 ∷ compact_text (entry_value entry)
+entries-more [] entry some = absurd (omega (arith, some))
+entries-more (first ∷ entries) entry some = ap (λ (t : List ℕ). compact_text (entry_value first) ++ t) (behind entries) ∙ sym (append_assoc (compact_text (entry_value first)) (entries_text true entries) (44 ∷ compact_text (entry_value entry)))
+  where
+    behind : (entries : Entries) → entries_text true (entries ++ entry ∷ []) ≡ entries_text true entries ++ 44 ∷ compact_text (entry_value entry)
+    behind [] = ap (λ (t : List ℕ). 44 ∷ t) (append-nil (compact_text (entry_value entry)))
+    behind (next ∷ entries) = ap (λ (t : List ℕ). 44 ∷ (compact_text (entry_value next) ++ t)) (behind entries) ∙ ap (λ (t : List ℕ). 44 ∷ t) (sym (append_assoc (compact_text (entry_value next)) (entries_text true entries) (44 ∷ compact_text (entry_value entry))))
 
 -- entries behind others, all of them behind commas
-pub entries-append : (version : Version) (entries more : Entries) → entries_text version true (entries ++ more) ≡ entries_text version true entries ++ entries_text version true more
-entries-append version [] more = refl
-entries-append version (entry ∷ entries) more =
-    ap (λ (t : List ℕ). 44 ∷ (compact_text (entry_value version entry) ++ t)) (entries-append version entries more)
-    ∙ ap (λ (t : List ℕ). 44 ∷ t) (sym (append_assoc (compact_text (entry_value version entry)) (entries_text version true entries) (entries_text version true more)))
+pub entries-append : (entries more : Entries) → entries_text true (entries ++ more) ≡ entries_text true entries ++ entries_text true more
+entries-append [] more = refl
+entries-append (entry ∷ entries) more =
+    ap (λ (t : List ℕ). 44 ∷ (compact_text (entry_value entry) ++ t)) (entries-append entries more)
+    ∙ ap (λ (t : List ℕ). 44 ∷ t) (sym (append_assoc (compact_text (entry_value entry)) (entries_text true entries) (entries_text true more)))
+
+-- the same in front of what follows
+pub entries-onto : (entries : Entries) (entry : Entry) (rest : List ℕ) → 0 < length entries → entries_text false entries ++ 44 ∷ (compact_text (entry_value entry) ++ rest) ≡ entries_text false (entries ++ entry ∷ []) ++ rest
+entries-onto entries entry rest some =
+    sym (append_assoc (entries_text false entries) (44 ∷ compact_text (entry_value entry)) rest) ∙ ap (λ (t : List ℕ). t ++ rest) (sym (entries-more entries entry some))
 
 -- ---- manifests
 
-in_brackets : (version : Version) (layer : Entries) → compact_text (layer_value version layer)
-    ≡ codes "{\"entries\":[" ++ (items_text false (entry_items version layer) ++ (codes ",\"overlay-layer\":" ++ (decimal (version_number version) ++ codes "}")))
+in_brackets : (layer : Entries) → compact_text (layer_value layer)
+    ≡ codes "{\"entries\":[" ++ (items_text false (entry_items layer) ++ (codes ",\"overlay-layer\":" ++ (decimal (version_number written) ++ codes "}")))
 unfolding escape_byte
-in_brackets version layer = refl
+in_brackets layer = refl
 
 -- the list of its entries, between what begins and what ends it
-pub layer_text : (version : Version) (layer : Entries) (rest : List ℕ)
-    → codes "{\"entries\":[" ++ (items_text false (entry_items version layer) ++ (codes ",\"overlay-layer\":" ++ (decimal (version_number version) ++ (codes "}" ++ rest)))) ≡ compact_text (layer_value version layer) ++ rest
-layer_text version layer rest =
+pub layer_text : (layer : Entries) (rest : List ℕ)
+    → codes "{\"entries\":[" ++ (items_text false (entry_items layer) ++ (codes ",\"overlay-layer\":" ++ (decimal (version_number written) ++ (codes "}" ++ rest)))) ≡ compact_text (layer_value layer) ++ rest
+layer_text layer rest =
     let begin : List ℕ = codes "{\"entries\":[" in
-    let items : List ℕ = items_text false (entry_items version layer) in
+    let items : List ℕ = items_text false (entry_items layer) in
     let named : List ℕ = codes ",\"overlay-layer\":" in
-    let own : List ℕ = decimal (version_number version) in
-    sym (ap (λ (t : List ℕ). t ++ rest) (in_brackets version layer)
+    let own : List ℕ = decimal (version_number written) in
+    sym (ap (λ (t : List ℕ). t ++ rest) (in_brackets layer)
     ∙ ap (λ (t : List ℕ). begin ++ t) (append_assoc items (named ++ (own ++ codes "}")) rest ∙ ap (λ (t : List ℕ). items ++ (named ++ t)) (append_assoc own (codes "}") rest)))
 
--- the same with a list of the entries as it stands, and the number before it or behind it
-pub manifest_text : (own : Data) (version : Version) (numbered : Bool) (rest : List ℕ)
-    → before_entries version numbered ++ (compact_text own ++ (behind_entries version numbered ++ rest))
-    ≡ compact_text (object (manifest_members own version numbered)) ++ rest
-unfolding escape_byte
-manifest_text own version true rest = simp append_assoc
-manifest_text own version false rest = simp append_assoc
+-- the text of a layer states it, with a newline and without
+module _ (layer : Entries) (is : IsLayer layer) where
+  abbrev value : Data
+  value = layer_value layer
 
--- a text of a layer states it, with a newline and without
-module _ (version : Version) (layer : Entries) (value : Data) (back : IsReadAs 4 value (layer_value version layer)) (is : IsLayer layer) (stated : list_all (is_stated_by version) layer ≡ true) where
   abbrev text : List ℕ
   text = compact_text value
 
@@ -321,22 +332,18 @@ module _ (version : Version) (layer : Entries) (value : Data) (back : IsReadAs 4
   printed = sym (print-outline value)
 
   own : tokens text ≡ json_tokens (outline value)
-  own = ap tokens printed ∙ tokens-print (json_tokens (outline value)) (ArePrintable-json_tokens (outline value) back.numbers)
+  own = ap tokens printed ∙ tokens-print (json_tokens (outline value)) (ArePrintable-json_tokens (outline value) (layer_numbers layer is))
 
   told : (bytes : List ℕ) → IsUtf8 bytes → tokens bytes ≡ json_tokens (outline value) → read_layer bytes ≡ Ok layer
   told bytes utf8 spelled =
-      let shallow : tree_depth (outline value) ≤ 4 = omega (arith, outline-depth value, back.shallow) in
+      let shallow : tree_depth (outline value) ≤ 4 = omega (arith, outline-depth value, layer-shallow layer) in
       let parsed : json.value max_depth (tokens bytes) ≡ Some (outline value, []) =
       ap (json.value max_depth) (spelled ∙ sym (append-nil (json_tokens (outline value)))) ∙ value-json_tokens (outline value) max_depth [] (omega (arith, shallow)) in
-      let reads : read bytes ≡ Some (layer_value version layer) = ap (λ o. option_and_then of_json (option_and_then (λ p. json.if_last p.0 p.1) o)) parsed ∙ back.read in
-      text_read bytes (layer_value version layer) utf8 reads ∙ layer-back version layer is stated
+      let reads : read bytes ≡ Some value = ap (λ o. option_and_then of_json (option_and_then (λ p. json.if_last p.0 p.1) o)) parsed ∙ layer_states layer is in
+      text_read bytes value utf8 reads ∙ layer-back layer is
 
   pub text-alone : IsUtf8 text → read_layer text ≡ Ok layer
   text-alone utf8 = told text utf8 own
 
   pub text-back : IsUtf8 (text ++ codes "\n") → read_layer (text ++ codes "\n") ≡ Ok layer
   text-back utf8 = told (text ++ codes "\n") utf8 (tokens-ended text value own (printed ∙ ap print (sym own)) ∙ own)
-
--- the text that is written of a layer is one
-pub layer-itself : (version : Version) (layer : Entries) → IsLayer layer → IsReadAs 4 (layer_value version layer) (layer_value version layer)
-layer-itself version layer is = record { read = layer_states version layer is; numbers = layer_numbers version layer is; shallow = layer-shallow version layer }

@@ -1,4 +1,4 @@
--- What goes by the members of an entry, one by one: that their texts are UTF-8, that they are few, and that they state the inode.
+-- What goes by the members of an entry, one by one: that their texts are UTF-8, and that they state the inode.
 use Rattle.std.proofs.Common.{◌≡◌, ℕ, ◌-◌, ◌^◌, ◌≤◌, ◌<◌, ◌∙◌, List, [], ◌∷◌, length, Bool, true, false, Option, Some, None, refl, sym, ap, arith, eqb-true, leb-true}
 use Rattle.std.specs.Prelude.{◌&&◌, not, nat_le, nat_lt, codes, is_none, option_and_then}
 use Rattle.std.specs.Option.{option_map}
@@ -23,29 +23,11 @@ use Rattle.ovl_inode.specs.Kinds.{kind_word}
 use Rattle.ovl_inode.specs.Marks.{has_metacopy}
 use Rattle.ovl_inode.specs.Sound.{is_sound_inode, is_sound_kind, has_sound_blob, is_word, mode_limit, nsec_limit, size_limit}
 use Rattle.ovl_inode.proofs.SoundLaws.{HasSoundValues, sound_values}
-use Rattle.ovl_json.specs.Kept.{member_limit}
-use Rattle.ovl_manifest.specs.Fields.{has_exactly, up_to, natural_field, seconds_field, nsec_field, kind_field, kind_members, inode_with}
-use Rattle.ovl_manifest.specs.Versions.{version_number, version_of, depth_of, states_nsec, is_stated_by}
-use Rattle.ovl_manifest.specs.declared.versions.Version.{Version}
-use Rattle.ovl_manifest.specs.declared.versions.Version.TheVariants.{One, Two}
-use Rattle.ovl_manifest.specs.Text.{whole, hexadecimal, with_nsec, with_numbers, with_kind, attribute_members, common_members, entry_value}
+use Rattle.ovl_manifest.specs.Fields.{has_exactly, up_to, natural_field, kind_field, kind_members, inode_with}
+use Rattle.ovl_manifest.specs.Versions.{written}
+use Rattle.ovl_manifest.specs.Text.{whole, hexadecimal, with_numbers, with_kind, attribute_members, common_members, entry_value}
 use Rattle.ovl_manifest.proofs.MemberLemmas.{IsText, AreTexts, Texts, no-texts, put-texts, with-text, object-text, hexadecimal-text, whole-text, word-text, seconds-text}
 use Rattle.ovl_manifest.proofs.ValueLemmas.{up_to-within, word-within, seconds-back, digest-back}
-
--- ---- versions
-
-pub version_of-number : (version : Version) → version_of (version_number version) ≡ Some version
-version_of-number One = refl
-version_of-number Two = refl
-
-pub number-small : (version : Version) → version_number version < 2 ^ 64
-number-small One = omega arith
-number-small Two = omega arith
-
--- no version has paths deeper than those of a layer
-pub depth-limited : (version : Version) → depth_of version ≤ depth_limit
-depth-limited One = omega arith
-depth-limited Two = omega arith
 
 -- ---- the members of an entry are texts
 
@@ -82,18 +64,14 @@ attributes-texts (attr ∷ attrs) are =
 tested-text : (n limit : ℕ) → nat_le n limit ≡ true → limit < 2 ^ 64 → IsText (whole n)
 tested-text n limit within small = whole-text n limit (leb-true n limit within) small
 
-nsec-texts : {members : Members} (version : Version) (nsec : ℕ) → nat_le nsec nsec_limit ≡ true → Texts members → Texts (with_nsec version nsec members)
-nsec-texts One nsec small others = others
-nsec-texts Two nsec small others = with-text (codes "mtime-nsec") (whole nsec) refl (tested-text nsec nsec_limit small (omega arith)) others
-
-common-texts : (version : Version) (path : PathNames) (inode : Inode) → has_names path ≡ true → is_sound_inode inode ≡ true → Texts (common_members version (path, inode))
-common-texts version path inode named sound =
+common-texts : (path : PathNames) (inode : Inode) → has_names path ≡ true → is_sound_inode inode ≡ true → Texts (common_members (path, inode))
+common-texts path inode named sound =
     let own = sound_values inode sound in
     let gid = with-text (codes "gid") (whole inode.gid) refl (word-text inode.gid own.gid) no-texts in
     let kind = with-text (codes "kind") (string (kind_word inode.kind)) refl (IsUtf8-quoted (kind_word inode.kind) (word-of inode.kind)) gid in
     let mode = with-text (codes "mode") (whole inode.mode) refl (tested-text inode.mode mode_limit own.mode (omega arith)) kind in
     let mtime = with-text (codes "mtime") (number (of_integer inode.mtime)) refl (seconds-text inode.mtime own.mtime) mode in
-    let nsec = nsec-texts version inode.nsec own.nsec mtime in
+    let nsec = with-text (codes "mtime-nsec") (whole inode.nsec) refl (tested-text inode.nsec nsec_limit own.nsec (omega arith)) mtime in
     let placed = with-text (codes "path") (string (path_text path)) refl (IsUtf8-quoted (path_text path) (path-text path named)) nsec in
     let uid = with-text (codes "uid") (whole inode.uid) refl (word-text inode.uid own.uid) placed in
     with-text (codes "xattrs") (object (attribute_members inode.attrs)) refl (object-text (attribute_members inode.attrs) (attributes-texts inode.attrs (both own.attrs).0)) uid
@@ -120,30 +98,10 @@ kind-texts (File size None) metacopy sound others = size-texts size None metacop
 kind-texts (File size (Some blob)) metacopy sound others =
     with-text (codes "blob") (hexadecimal blob) refl (hexadecimal-text blob) (size-texts size (Some blob) metacopy sound others)
 
-pub entry-text : (version : Version) (path : PathNames) (inode : Inode) → has_names path ≡ true → is_sound_inode inode ≡ true → IsText (entry_value version (path, inode))
-entry-text version path inode named sound =
-    let members : Members = with_kind inode.kind (common_members version (path, inode)) in
-    object-text members (kind-texts inode.kind (has_metacopy inode) (sound_values inode sound).kind (common-texts version path inode named sound)).are
-
--- ---- no entry has more members than are kept of an object
-
-pub few_members : (version : Version) (kind : Kind) → length (kind_members version kind) ≤ member_limit
-few_members One Dir = omega arith
-few_members One (File size None) = omega arith
-few_members One (File size (Some blob)) = omega arith
-few_members One (Symlink target) = omega arith
-few_members One (Char major minor) = omega arith
-few_members One (Block major minor) = omega arith
-few_members One Fifo = omega arith
-few_members One Socket = omega arith
-few_members Two Dir = omega arith
-few_members Two (File size None) = omega arith
-few_members Two (File size (Some blob)) = omega arith
-few_members Two (Symlink target) = omega arith
-few_members Two (Char major minor) = omega arith
-few_members Two (Block major minor) = omega arith
-few_members Two Fifo = omega arith
-few_members Two Socket = omega arith
+pub entry-text : (path : PathNames) (inode : Inode) → has_names path ≡ true → is_sound_inode inode ≡ true → IsText (entry_value (path, inode))
+entry-text path inode named sound =
+    let members : Members = with_kind inode.kind (common_members (path, inode)) in
+    object-text members (kind-texts inode.kind (has_metacopy inode) (sound_values inode sound).kind (common-texts path inode named sound)).are
 
 -- ---- the members of an entry state its inode
 
@@ -188,73 +146,42 @@ kind_back (File size (Some blob)) metacopy sound =
     ap (option_and_then (λ n. option_map (λ (own : Option Digest). File n own) (option_map (λ d. Some d) (digest_of_text (encode_lower blob))))) (up_to-within size_limit size parts.0)
     ∙ ap (λ (o : Option Digest). option_map (λ (own : Option Digest). File size own) (option_map (λ d. Some d) o)) digest
 
--- nanoseconds, which a version states or means to be 0
-abbrev nsec_member : Version → ℕ → Option Data
-nsec_member One nsec = None
-nsec_member Two nsec = Some (whole nsec)
-
--- the value has the members of an entry's kind and of its version, and no more
-abbrev pub HasMembers : Version → PathNames → Inode → Data → Type 0
-HasMembers version path inode value =
+-- the value has the members of an entry's kind, and no more
+abbrev pub HasMembers : PathNames → Inode → Data → Type 0
+HasMembers path inode value =
     (get (codes "path") value ≡ Some (string (path_text path)))
     × (get (codes "xattrs") value ≡ Some (object (attribute_members inode.attrs)))
-    × (has_exactly (kind_members version inode.kind) value ≡ true)
+    × (has_exactly (kind_members written inode.kind) value ≡ true)
     × (kind_field value ≡ kind_read inode.kind)
     × (get (codes "mode") value ≡ Some (whole inode.mode))
     × (get (codes "uid") value ≡ Some (whole inode.uid))
     × (get (codes "gid") value ≡ Some (whole inode.gid))
     × (get (codes "mtime") value ≡ Some (number (of_integer inode.mtime)))
-    × (get (codes "mtime-nsec") value ≡ nsec_member version inode.nsec)
-
--- the version can state how deep an entry's path is
-pub depth-stated : (version : Version) (path : PathNames) (inode : Inode) → is_stated_by version (path, inode) ≡ true → nat_le (length path) (depth_of version) ≡ true
-depth-stated version path inode stated = (both {a = nat_le (length path) (depth_of version)} stated).0
+    × (get (codes "mtime-nsec") value ≡ Some (whole inode.nsec))
 
 module _ (value : Data) where
   natural : (name : List ℕ) (limit n : ℕ) → get name value ≡ Some (whole n) → nat_le n limit ≡ true → natural_field name limit value ≡ Some n
   natural name limit n has within = ap (λ (o : Option Data). option_and_then (up_to limit) (option_and_then as_u64 (option_and_then as_number o))) has ∙ up_to-within limit n within
 
-  nsec-back : (version : Version) (nsec : ℕ) → get (codes "mtime-nsec") value ≡ nsec_member version nsec → states_nsec version nsec ≡ true → nat_le nsec nsec_limit ≡ true → nsec_field version value ≡ Some nsec
-  nsec-back One nsec has stated small = ap (λ (n : ℕ). Some n) (sym (eqb-true nsec 0 stated))
-  nsec-back Two nsec has stated small = natural (codes "mtime-nsec") nsec_limit nsec has small
-
-  pub inode-stated : (version : Version) (path : PathNames) (inode : Inode) → HasMembers version path inode value → is_stated_by version (path, inode) ≡ true → HasSoundValues inode → inode_with version inode.kind inode.attrs value ≡ Some inode
-  inode-stated version path inode has stated sound =
-      let own = both {a = nat_le (length path) (depth_of version)} {b = states_nsec version inode.nsec} stated in
+  pub inode-stated : (path : PathNames) (inode : Inode) → HasMembers path inode value → HasSoundValues inode → inode_with written inode.kind inode.attrs value ≡ Some inode
+  inode-stated path inode has sound =
       let seconds = ap (λ (o : Option Data). option_and_then as_i64 (option_and_then as_number o)) has.7 ∙ seconds-back inode.mtime sound.mtime in
       rw (natural (codes "mode") mode_limit inode.mode has.4 sound.mode)
       (rw (natural (codes "uid") (2 ^ 32 - 1) inode.uid has.5 (word-within inode.uid sound.uid))
       (rw (natural (codes "gid") (2 ^ 32 - 1) inode.gid has.6 (word-within inode.gid sound.gid))
-      (rw seconds (rw (nsec-back version inode.nsec has.8 own.1 sound.nsec) refl))))
+      (rw seconds (rw (natural (codes "mtime-nsec") nsec_limit inode.nsec has.8 sound.nsec) refl))))
 
 module _ (inode : Inode) (path : PathNames) where
   abbrev of_kind : Kind → Inode
   of_kind kind = record inode { kind = kind }
 
   -- the members of its value
-  pub has_members : (version : Version) (kind : Kind) → HasMembers version path (of_kind kind) (entry_value version (path, of_kind kind))
-  has_members One Dir = (refl, refl, refl, refl, refl, refl, refl, refl, refl)
-  has_members One (File size None) = (refl, refl, refl, refl, refl, refl, refl, refl, refl)
-  has_members One (File size (Some blob)) = (refl, refl, refl, refl, refl, refl, refl, refl, refl)
-  has_members One (Symlink target) = (refl, refl, refl, refl, refl, refl, refl, refl, refl)
-  has_members One (Char major minor) = (refl, refl, refl, refl, refl, refl, refl, refl, refl)
-  has_members One (Block major minor) = (refl, refl, refl, refl, refl, refl, refl, refl, refl)
-  has_members One Fifo = (refl, refl, refl, refl, refl, refl, refl, refl, refl)
-  has_members One Socket = (refl, refl, refl, refl, refl, refl, refl, refl, refl)
-  has_members Two Dir = (refl, refl, refl, refl, refl, refl, refl, refl, refl)
-  has_members Two (File size None) = (refl, refl, refl, refl, refl, refl, refl, refl, refl)
-  has_members Two (File size (Some blob)) = (refl, refl, refl, refl, refl, refl, refl, refl, refl)
-  has_members Two (Symlink target) = (refl, refl, refl, refl, refl, refl, refl, refl, refl)
-  has_members Two (Char major minor) = (refl, refl, refl, refl, refl, refl, refl, refl, refl)
-  has_members Two (Block major minor) = (refl, refl, refl, refl, refl, refl, refl, refl, refl)
-  has_members Two Fifo = (refl, refl, refl, refl, refl, refl, refl, refl, refl)
-  has_members Two Socket = (refl, refl, refl, refl, refl, refl, refl, refl, refl)
-
--- two values of the same numbers state the same inode of a kind and attributes
-module _ (one other : Data) (naturals : (name : List ℕ) (limit : ℕ) → natural_field name limit one ≡ natural_field name limit other) (seconds : (name : List ℕ) → seconds_field name one ≡ seconds_field name other) where
-  nsec-same : (version : Version) → nsec_field version one ≡ nsec_field version other
-  nsec-same One = refl
-  nsec-same Two = naturals (codes "mtime-nsec") nsec_limit
-
-  pub numbers-same : (version : Version) (kind : Kind) (attrs : Attributes) → inode_with version kind attrs one ≡ inode_with version kind attrs other
-  numbers-same version kind attrs = rw (naturals (codes "mode") mode_limit, naturals (codes "uid") (2 ^ 32 - 1), naturals (codes "gid") (2 ^ 32 - 1), seconds (codes "mtime"), nsec-same version) refl
+  pub has_members : (kind : Kind) → HasMembers path (of_kind kind) (entry_value (path, of_kind kind))
+  has_members Dir = (refl, refl, refl, refl, refl, refl, refl, refl, refl)
+  has_members (File size None) = (refl, refl, refl, refl, refl, refl, refl, refl, refl)
+  has_members (File size (Some blob)) = (refl, refl, refl, refl, refl, refl, refl, refl, refl)
+  has_members (Symlink target) = (refl, refl, refl, refl, refl, refl, refl, refl, refl)
+  has_members (Char major minor) = (refl, refl, refl, refl, refl, refl, refl, refl, refl)
+  has_members (Block major minor) = (refl, refl, refl, refl, refl, refl, refl, refl, refl)
+  has_members Fifo = (refl, refl, refl, refl, refl, refl, refl, refl, refl)
+  has_members Socket = (refl, refl, refl, refl, refl, refl, refl, refl, refl)

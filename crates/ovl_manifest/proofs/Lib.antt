@@ -1,5 +1,3 @@
-pub mod KeptLemmas
-pub mod ListLemmas
 pub mod FieldLemmas
 mod Rows
 pub mod ReadLemmas
@@ -11,5 +9,6 @@ pub mod TailLemmas
 pub mod ValueLemmas
 pub mod StatedLemmas
 pub mod CompactLemmas
-pub mod OrderLemmas
 pub mod Utf8Lemmas
+pub mod RunLemmas
+pub mod ListLemmas

@@ -22,12 +22,12 @@ use Rattle.ovl_inode.specs.Sound.{is_sound_inode}
 use Rattle.ovl_layer.specs.Layers.{Entry, Entries, is_within_limits}
 use Rattle.ovl_manifest.specs.Versions.{depth_of}
 use Rattle.ovl_manifest.specs.declared.versions.Version.{Version}
+use Rattle.ovl_manifest.specs.declared.versions.Version.TheVariants.{One, Two}
 use Rattle.ovl_layer.specs.Entries.{is_statable}
 use Rattle.ovl_manifest.specs.Manifest.{layer_of_value, read_layer}
 use Rattle.ovl_layer.specs.declared.faults.LayerFault.{LayerFault}
 use Rattle.ovl_layer.specs.declared.faults.LayerFault.TheVariants.{NotJson}
 use Rattle.ovl_manifest.specs.Fields.{entry_of, entry_with, is_entry, inode_field, path_field, path_of_text, text_field}
-use Rattle.ovl_manifest.proofs.EntryLemmas.{depth-limited}
 
 -- ---- a path that is read keeps the limits
 
@@ -70,6 +70,11 @@ none_of true false false false false none = (refl, refl, refl)
 
 not_past : (limit n : ℕ) → nat_lt limit n ≡ false → nat_le n limit ≡ true
 not_past limit n past = grind (arith, nat_tests)
+
+-- no version has paths deeper than those of a layer
+depth-limited : (version : Version) → depth_of version ≤ depth_limit
+depth-limited One = omega arith
+depth-limited Two = omega arith
 
 within : (version : Version) (text : List ℕ) → path_fault (depth_of version) text ≡ None → is_within_limits (text_parts text) ≡ true
 within version text none =
@@ -122,31 +127,3 @@ no_text bytes none = let is = by (is_utf8 bytes) refl in rw (is, read_layer) ref
     by : (b : Bool) → is_utf8 bytes ≡ b → (if is_utf8 bytes then read bytes else None) ≡ None
     by true e = ap (λ b. if b then read bytes else None) e ∙ none (IsUtf8-from_is_utf8 bytes e)
     by false e = ap (λ b. if b then read bytes else None) e
-
--- what is stated by texts of the same tokens
-
-abbrev of_read : Option Data → Result Entries LayerFault
-of_read None = Err NotJson
-of_read (Some value) = layer_of_value value
-
-layer_is : (bytes : List ℕ) → read_layer bytes ≡ of_read (if is_utf8 bytes then read bytes else None)
-layer_is bytes = by (if is_utf8 bytes then read bytes else None) refl
-  where
-    by : (o : Option Data) → (if is_utf8 bytes then read bytes else None) ≡ o → read_layer bytes ≡ of_read o
-    by None is = rw (is, read_layer) refl
-    by (Some value) is = rw (is, read_layer) refl
-
-pub same_tokens : (own text : List ℕ) → IsUtf8 text → tokens own ≡ tokens text → (sheet : Option Entries) → IfSome sheet (λ s. read_layer own ≡ Ok s) → IfSome sheet (λ s. read_layer text ≡ Ok s)
-same_tokens own text utf8 same None h = tt
-same_tokens own text utf8 same (Some s) h = by (is_utf8 own) refl
-  where
-    same_read : read own ≡ read text
-    same_read = ap (λ (ts : List Token). option_and_then of_json (option_and_then (λ p. json.if_last p.0 p.1) (json.value max_depth ts))) same
-
-    by : (b : Bool) → is_utf8 own ≡ b → read_layer text ≡ Ok s
-    by true e =
-        layer_is text
-        ∙ (ap₂ (λ b r. of_read (if b then r else None)) (is_utf8-from_IsUtf8 text utf8 ∙ sym e) (sym same_read)
-        ∙ (sym (layer_is own) ∙ h))
-    by false e =
-        let bad : Err NotJson ≡ Ok s = sym (layer_is own ∙ ap (λ b. of_read (if b then read own else None)) e) ∙ h in cc

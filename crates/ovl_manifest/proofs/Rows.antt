@@ -129,15 +129,6 @@ alone-length : length (manifest_text (([], dir) ∷ [])) ≡ 122
 unfolding serde_json_on_literals inode_on_literals digits encode_with
 alone-length = refl
 
--- the same in the first version: 106 bytes before the newline
-alone-first : compact_text (layer_value One (([], dir) ∷ [])) ≡ codes "{\"entries\":[{\"gid\":0,\"kind\":\"dir\",\"mode\":493,\"mtime\":0,\"path\":\"/\",\"uid\":0,\"xattrs\":{}}],\"overlay-layer\":1}"
-unfolding serde_json_on_literals inode_on_literals digits encode_with
-alone-first = refl
-
-alone-first-length : length (compact_text (layer_value One (([], dir) ∷ []))) ≡ 106
-unfolding serde_json_on_literals inode_on_literals digits encode_with
-alone-first-length = refl
-
 -- an opaque directory, and a symlink and a device in it
 abbrev small : Entries
 small =

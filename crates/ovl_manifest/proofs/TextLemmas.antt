@@ -12,8 +12,6 @@ use Rattle.ovl_names.proofs.Ascending.{both, is_lt-Less}
 use Rattle.ovl_inode.specs.Attributes.{Attributes, attribute_cmp}
 use Rattle.ovl_layer.specs.Layers.{Entry, Entries}
 use Rattle.ovl_manifest.specs.Text.{whole, hexadecimal, with_kind, attribute_members, common_members, entry_value, entry_items, layer_value}
-use Rattle.ovl_manifest.specs.declared.versions.Version.{Version}
-use Rattle.ovl_manifest.specs.declared.versions.Version.TheVariants.{One, Two}
 use Rattle.ovl_inode.specs.declared.inodes.Kind.{Kind}
 use Rattle.ovl_inode.specs.declared.inodes.Kind.TheVariants.{Dir, File, Symlink, Char, Block, Fifo, Socket}
 
@@ -55,11 +53,11 @@ put-shallow n k d (member l e ms) own others = by (slice_cmp nat_cmp k l) (put-s
     by Equal later = omega (arith, own, others)
     by Greater later = omega (arith, later, others)
 
-pub attributes-shallow : (attrs : Attributes) → members_depth (attribute_members attrs) ≤ 0
+attributes-shallow : (attrs : Attributes) → members_depth (attribute_members attrs) ≤ 0
 attributes-shallow [] = omega arith
 attributes-shallow (attr ∷ attrs) = put-shallow 0 attr.0 (hexadecimal attr.1) (attribute_members attrs) (omega arith) (attributes-shallow attrs)
 
-pub kind-shallow : (kind : Kind) (ms : Members) → members_depth ms ≤ 1 → members_depth (with_kind kind ms) ≤ 1
+kind-shallow : (kind : Kind) (ms : Members) → members_depth ms ≤ 1 → members_depth (with_kind kind ms) ≤ 1
 kind-shallow Dir ms low = low
 kind-shallow (File size None) ms low = put-shallow 1 (codes "size") (whole size) ms (omega arith) low
 kind-shallow (File size (Some blob)) ms low = put-shallow 1 (codes "blob") (hexadecimal blob) (put (codes "size") (whole size) ms) (omega arith) (put-shallow 1 (codes "size") (whole size) ms (omega arith) low)
@@ -69,13 +67,12 @@ kind-shallow (Block major minor) ms low = put-shallow 1 (codes "minor") (whole m
 kind-shallow Fifo ms low = low
 kind-shallow Socket ms low = low
 
-pub entry-shallow : (version : Version) (entry : Entry) → depth (entry_value version entry) ≤ 2
-entry-shallow One entry = omega (arith, kind-shallow entry.1.kind (common_members One entry) (omega (arith, attributes-shallow entry.1.attrs)))
-entry-shallow Two entry = omega (arith, kind-shallow entry.1.kind (common_members Two entry) (omega (arith, attributes-shallow entry.1.attrs)))
+entry-shallow : (entry : Entry) → depth (entry_value entry) ≤ 2
+entry-shallow entry = omega (arith, kind-shallow entry.1.kind (common_members entry) (omega (arith, attributes-shallow entry.1.attrs)))
 
-entries-shallow : (version : Version) (entries : Entries) → items_depth (entry_items version entries) ≤ 2
-entries-shallow version [] = omega arith
-entries-shallow version (entry ∷ entries) = omega (arith, entry-shallow version entry, entries-shallow version entries)
+entries-shallow : (entries : Entries) → items_depth (entry_items entries) ≤ 2
+entries-shallow [] = omega arith
+entries-shallow (entry ∷ entries) = omega (arith, entry-shallow entry, entries-shallow entries)
 
-pub layer-shallow : (version : Version) (layer : Entries) → depth (layer_value version layer) ≤ 4
-layer-shallow version layer = omega (arith, entries-shallow version layer)
+pub layer-shallow : (layer : Entries) → depth (layer_value layer) ≤ 4
+layer-shallow layer = omega (arith, entries-shallow layer)

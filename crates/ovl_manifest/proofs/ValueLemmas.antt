@@ -22,8 +22,7 @@ use Rattle.ovl_inode.specs.Attributes.{Attributes, attribute_cmp, is_attribute, 
 use Rattle.ovl_inode.specs.Hexadecimal.{is_lower_digit, bytes_of_digits, digest_of_text}
 use Rattle.ovl_inode.specs.Sound.{is_word, is_seconds}
 use Rattle.ovl_layer.specs.Layers.{is_within_limits}
-use Rattle.ovl_manifest.specs.Versions.{depth_of}
-use Rattle.ovl_manifest.specs.declared.versions.Version.{Version}
+use Rattle.ovl_manifest.specs.Versions.{written}
 use Rattle.ovl_manifest.specs.Fields.{up_to, path_of_text, attribute_after, attributes_after}
 use Rattle.ovl_manifest.specs.Text.{hexadecimal, attribute_members}
 use Rattle.ovl_layer.specs.TextPaths.{slashed}
@@ -148,17 +147,17 @@ no_fault a b c d e ea eb ec ed ee = rw (ea, eb, ec, ed, ee) refl
 within-not_past : (limit n : ℕ) → nat_le n limit ≡ true → nat_lt limit n ≡ false
 within-not_past limit n within = grind (arith, nat_tests)
 
-pub path-back : (version : Version) (path : PathNames) → has_names path ≡ true → is_within_limits path ≡ true → nat_le (length path) (depth_of version) ≡ true → path_of_text version (path_text path) ≡ Some path
-path-back version path named limited deep =
+pub path-back : (path : PathNames) → has_names path ≡ true → is_within_limits path ≡ true → path_of_text written (path_text path) ≡ Some path
+path-back path named limited =
     let text : List ℕ = path_text path in
     let parts = parts-back path named in
     let limits = both {a = nat_le (length path) depth_limit} {b = nat_le (length text) text_limit} limited in
-    let none : path_fault (depth_of version) text ≡ None =
-    no_fault (starts_with nat_eq text (slash ∷ [])) (list_any (λ part. length part == 0) (text_parts text)) (list_any (λ part. is_some (name_fault part)) (text_parts text)) (nat_lt (depth_of version) (length (text_parts text))) (nat_lt text_limit (length text))
+    let none : path_fault depth_limit text ≡ None =
+    no_fault (starts_with nat_eq text (slash ∷ [])) (list_any (λ part. length part == 0) (text_parts text)) (list_any (λ part. is_some (name_fault part)) (text_parts text)) (nat_lt depth_limit (length (text_parts text))) (nat_lt text_limit (length text))
     (starts path)
     (ap (list_any (λ part. length part == 0)) parts ∙ no_empty path named)
     (ap (list_any (λ part. is_some (name_fault part))) parts ∙ no_bad path named)
-    (ap (λ (ps : PathNames). nat_lt (depth_of version) (length ps)) parts ∙ within-not_past (depth_of version) (length path) deep)
+    (ap (λ (ps : PathNames). nat_lt depth_limit (length ps)) parts ∙ within-not_past depth_limit (length path) limits.0)
     (within-not_past text_limit (length text) limits.1) in
     ap (λ (o : Option PathFault). if is_none o then Some (text_parts text) else None) none ∙ ap (λ (p : PathNames). Some p) parts
 

@@ -1,25 +1,21 @@
 -- The text of a layer as it is written, piece by piece, for private clauses.
-use Rattle.std.specs.Prelude.{◌≡◌, ℕ, ℤ, Bool, true, false, Option, Some, None, List, [], ◌∷◌, ◌++◌, codes, decimal}
+use Rattle.std.specs.Prelude.{◌≡◌, ℕ, ℤ, Bool, true, Option, Some, None, List, [], ◌∷◌, ◌++◌, codes, decimal}
 use Rattle.std.specs.Fmt.{signed_decimal}
 use Rattle.hex.specs.Hex.{encode_lower}
 use Rattle.json.specs.Print.{quoted}
-use Rattle.serde_json.specs.Data.{Data, object}
+use Rattle.serde_json.specs.Data.{object}
 use Rattle.serde_json.specs.Written.{comma_if, compact_text}
 use Rattle.ovl_inode.specs.declared.digests.Digest.{Digest}
 use Rattle.ovl_inode.specs.declared.inodes.Inode.{Inode}
 use Rattle.ovl_inode.specs.declared.inodes.Kind.{Kind}
 use Rattle.ovl_inode.specs.declared.inodes.Kind.TheVariants.{Dir, File, Symlink, Char, Block, Fifo, Socket}
-use Rattle.ovl_inode.specs.Attributes.{Attributes, with_attribute}
+use Rattle.ovl_inode.specs.Attributes.{Attributes}
 use Rattle.ovl_inode.specs.Kinds.{kind_word}
 use Rattle.ovl_layer.specs.Layers.{Entries}
-use Rattle.ovl_manifest.specs.AnyOrder.{IsReadAs}
 use Rattle.ovl_manifest.specs.Text.{attribute_members, entry_value}
-use Rattle.ovl_manifest.specs.Versions.{version_number}
 use Rattle.ovl_manifest.specs.declared.compact_entries.Front.{Front}
 use Rattle.ovl_manifest.specs.declared.compact_entries.Word.{Word}
 use Rattle.ovl_manifest.specs.declared.compact_entries.Word.TheVariants as word
-use Rattle.ovl_manifest.specs.declared.versions.Version.{Version}
-use Rattle.ovl_manifest.specs.declared.versions.Version.TheVariants.{One, Two}
 
 -- how an entry begins: its blob, if it has one, and its group
 abbrev pub group_text : Option Digest → ℕ → List ℕ
@@ -38,14 +34,10 @@ abbrev pub blob_text : Option Digest → List ℕ
 blob_text None = []
 blob_text (Some blob) = codes "{\"blob\":" ++ quoted (encode_lower blob)
 
--- the member that says the seconds of a time
-abbrev pub mtime_text : ℤ → List ℕ
-mtime_text seconds = codes ",\"mtime\":" ++ signed_decimal seconds
-
--- the member that a version has between `mtime` and `path`
-abbrev pub nsec_text : Version → ℕ → List ℕ
-nsec_text One nsec = []
-nsec_text Two nsec = codes ",\"mtime-nsec\":" ++ decimal nsec
+-- the members that say a time
+abbrev pub time_text : ℤ → ℕ → List ℕ
+time_text seconds nsec =
+    codes ",\"mtime\":" ++ (signed_decimal seconds ++ (codes ",\"mtime-nsec\":" ++ decimal nsec))
 
 -- the members that a kind has between `path` and `uid`
 abbrev pub contents_text : Kind → List ℕ
@@ -110,18 +102,17 @@ front_text inode =
     ++ codes ",\"path\":")))))))
 
 -- what an entry has before its path, and the path's text and what follows it
-abbrev pub before_path : Version → Front → List ℕ → List ℕ
-before_path version front path =
-    let back : List ℕ = nsec_text version front.nsec ++ (codes ",\"path\":" ++ path) in
+abbrev pub before_path : Front → List ℕ → List ℕ
+before_path front path =
     group_text front.blob front.gid
-    ++ word_text front.word (decimal front.mode ++ (mtime_text front.mtime ++ back))
+    ++ word_text front.word (decimal front.mode
+    ++ (time_text front.mtime front.nsec ++ (codes ",\"path\":" ++ path)))
 
--- the text begins with the members that an entry has behind its path and its contents, and its end
-pub record SpellsBack (uid : ℕ) (attrs : Attributes) (text rest : List ℕ) : Type 0 where
-  pub own : Data
-  pub taken : text ≡ codes ",\"uid\":" ++ (decimal uid ++ (codes ",\"xattrs\":"
-      ++ (compact_text own ++ (codes "}" ++ rest))))
-  pub back : IsReadAs 1 own (object (attribute_members attrs))
+-- what an entry has behind its path and its contents, and what follows it
+abbrev pub back_text : ℕ → Attributes → List ℕ → List ℕ
+back_text uid attrs rest =
+    codes ",\"uid\":" ++ (decimal uid ++ (codes ",\"xattrs\":"
+    ++ (compact_text (object (attribute_members attrs)) ++ (codes "}" ++ rest))))
 
 -- the kind has this word and blob
 abbrev pub word_of_kind : Kind → Word
@@ -146,27 +137,15 @@ attributes_text before [] = []
 attributes_text before (attr ∷ attrs) =
     comma_if before ++ (attribute_text attr ++ attributes_text true attrs)
 
--- the text begins with an attribute, which is put to the others
+-- the text begins with an attribute, which is put behind the others
 pub record TakesAttribute (text : List ℕ) (attrs : Attributes) (rest : List ℕ)
     (more : Attributes) : Type 0 where
   pub attr : List ℕ × List ℕ
   pub first : text ≡ attribute_text attr ++ rest
-  pub put : more ≡ with_attribute attrs attr.0 attr.1
+  pub behind : more ≡ attrs ++ attr ∷ []
 
 -- the same of entries
-abbrev pub entries_text : Version → Bool → Entries → List ℕ
-entries_text version before [] = []
-entries_text version before (entry ∷ entries) =
-    comma_if before
-    ++ (compact_text (entry_value version entry) ++ entries_text version true entries)
-
--- what a manifest has before its entries, and behind them: the number of the version is in one
-abbrev pub before_entries : Version → Bool → List ℕ
-before_entries version true =
-    codes "{\"overlay-layer\":" ++ (decimal (version_number version) ++ codes ",\"entries\":")
-before_entries version false = codes "{\"entries\":"
-
-abbrev pub behind_entries : Version → Bool → List ℕ
-behind_entries version true = codes "}"
-behind_entries version false =
-    codes ",\"overlay-layer\":" ++ (decimal (version_number version) ++ codes "}")
+abbrev pub entries_text : Bool → Entries → List ℕ
+entries_text before [] = []
+entries_text before (entry ∷ entries) =
+    comma_if before ++ (compact_text (entry_value entry) ++ entries_text true entries)

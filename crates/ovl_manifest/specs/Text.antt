@@ -13,8 +13,6 @@ use Rattle.ovl_inode.specs.Attributes.{Attributes}
 use Rattle.ovl_inode.specs.Kinds.{kind_word}
 use Rattle.ovl_layer.specs.Layers.{Entry, Entries}
 use Rattle.ovl_manifest.specs.Versions.{version_number, written}
-use Rattle.ovl_manifest.specs.declared.versions.Version.{Version}
-use Rattle.ovl_manifest.specs.declared.versions.Version.TheVariants.{One, Two}
 
 -- a whole number, and bytes as lower-case hexadecimal digits
 abbrev pub whole : ℕ → Data
@@ -46,38 +44,32 @@ abbrev pub attribute_members : Attributes → Members
 attribute_members [] = no_members
 attribute_members (attr ∷ attrs) = put attr.0 (hexadecimal attr.1) (attribute_members attrs)
 
--- the members with the nanoseconds, where the version has a member for them
-abbrev pub with_nsec : Version → ℕ → Members → Members
-with_nsec One nsec members = members
-with_nsec Two nsec members = put (codes "mtime-nsec") (whole nsec) members
-
 -- the members that entries of all kinds have
-abbrev pub common_members : Version → Entry → Members
-common_members version entry =
+abbrev pub common_members : Entry → Members
+common_members entry =
     let inode = entry.1 in
     put (codes "xattrs") (object (attribute_members inode.attrs))
     (put (codes "uid") (whole inode.uid)
     (put (codes "path") (string (path_text entry.0))
-    (with_nsec version inode.nsec
+    (put (codes "mtime-nsec") (whole inode.nsec)
     (put (codes "mtime") (number (of_integer inode.mtime))
     (put (codes "mode") (whole inode.mode)
     (put (codes "kind") (string (kind_word inode.kind))
     (put (codes "gid") (whole inode.gid) no_members)))))))
 
--- the value of an entry, and of a layer, in a version that can state it
-abbrev pub entry_value : Version → Entry → Data
-entry_value version entry = object (with_kind entry.1.kind (common_members version entry))
+-- the value of an entry, and of a layer, in the version that is written
+abbrev pub entry_value : Entry → Data
+entry_value entry = object (with_kind entry.1.kind (common_members entry))
 
-abbrev pub entry_items : Version → Entries → Items
-entry_items version [] = no_items
-entry_items version (entry ∷ entries) =
-    item (entry_value version entry) (entry_items version entries)
+abbrev pub entry_items : Entries → Items
+entry_items [] = no_items
+entry_items (entry ∷ entries) = item (entry_value entry) (entry_items entries)
 
-abbrev pub layer_value : Version → Entries → Data
-layer_value version layer =
-    object (put (codes "overlay-layer") (whole (version_number version))
-    (put (codes "entries") (array (entry_items version layer)) no_members))
+abbrev pub layer_value : Entries → Data
+layer_value layer =
+    object (put (codes "overlay-layer") (whole (version_number written))
+    (put (codes "entries") (array (entry_items layer)) no_members))
 
 -- the text that is written of a layer: that of its value, and a newline
 abbrev pub manifest_text : Entries → List ℕ
-manifest_text layer = compact_text (layer_value written layer) ++ codes "\n"
+manifest_text layer = compact_text (layer_value layer) ++ codes "\n"

@@ -1,8 +1,7 @@
 -- The versions of a manifest's form: what entries of all kinds have in each, and how deep a path
 -- may be.
-use Rattle.std.specs.Prelude.{ℕ, ◌==◌, Bool, true, ◌&&◌, Option, Some, None, List, [], ◌∷◌, if◌then◌else◌, codes, length, nat_le}
-use Rattle.ovl_names.specs.Paths.{PathNames, depth_limit}
-use Rattle.ovl_inode.specs.declared.inodes.Inode.{Inode}
+use Rattle.std.specs.Prelude.{ℕ, ◌==◌, Option, Some, None, List, [], ◌∷◌, if◌then◌else◌, codes}
+use Rattle.ovl_names.specs.Paths.{depth_limit}
 use Rattle.ovl_manifest.specs.declared.versions.Version.{Version}
 use Rattle.ovl_manifest.specs.declared.versions.Version.TheVariants.{One, Two}
 
@@ -31,13 +30,3 @@ common_members One =
 common_members Two =
     codes "gid" ∷ codes "kind" ∷ codes "mode" ∷ codes "mtime" ∷ codes "mtime-nsec" ∷ codes "path"
     ∷ codes "uid" ∷ codes "xattrs" ∷ []
-
--- the version can state these nanoseconds: the first has no member for them, and means 0
-abbrev pub states_nsec : Version → ℕ → Bool
-states_nsec One nsec = nsec == 0
-states_nsec Two nsec = true
-
--- an entry of a layer is one that the version can state
-abbrev pub is_stated_by : Version → PathNames × Inode → Bool
-is_stated_by version entry =
-    nat_le (length entry.0) (depth_of version) && states_nsec version entry.1.nsec

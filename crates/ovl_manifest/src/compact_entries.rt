@@ -1,24 +1,20 @@
-//! Entries whose members stand in the order in which they are written, without space.
-ghost use Rattle.std.specs.Prelude.{◌≡◌, true, IfSome, Some, ◌++◌};
+//! Entries as their texts are written: members in the order of their names, without space.
+ghost use Rattle.std.specs.Prelude.{◌≡◌, true, IsTrue, IfSome, Some, ◌++◌};
 ghost use Rattle.std.specs.Cow.{cow_str_bytes};
 ghost use Rattle.json.specs.Print.{quoted};
 ghost use Rattle.serde_json.specs.Data.{object};
+ghost use Rattle.serde_json.specs.Written.{compact_text};
 ghost use Rattle.ovl_names.specs.Paths.{PathNames, path_text};
+ghost use Rattle.ovl_inode.specs.Attributes.{all_before};
 ghost use Rattle.ovl_inode.specs.Sound.{is_sound_inode};
-ghost use Rattle.ovl_manifest.specs.AnyOrder.{Spells};
 ghost use Rattle.ovl_manifest.specs.Text.{attribute_members, entry_value};
-ghost use Rattle.ovl_manifest.specs.Versions.{states_nsec};
-ghost use Rattle.ovl_manifest.specs.Compact.{group_text, device_text, word_name, word_text, device_of_word, mtime_text, nsec_text, before_path, contents_text, IsKindOf, SpellsBack, TakesAttribute};
+ghost use Rattle.ovl_manifest.specs.Compact.{group_text, device_text, word_name, word_text, device_of_word, time_text, before_path, contents_text, back_text, IsKindOf, TakesAttribute};
 
 use crate::compact_texts::Rest;
 use crate::fields::put_digits;
-use crate::versions::Version;
 use ovl_inode::{Attrs, Digest, Inode, Kind, MODE_LIMIT, NSEC_LIMIT, SIZE_LIMIT, Target, sound};
 use std::alloc::Global;
 use std::borrow::CowStr;
-
-// From so many attributes on each has to come after the others.
-const MANY: usize = 16;
 
 /// The word of a kind, with the two numbers behind that of a device.
 #[derive(Clone, Copy)]
@@ -43,19 +39,17 @@ pub(crate) struct Front {
     nsec: u32,
 }
 
-/// The text of the path and the inode of the entry that comes next, in a version.
+/// The text of the path and the inode of the entry that comes next.
 pub(crate) fn read_entry<'a>(
     alloc: Global,
-    version: Version,
     rest: &mut Rest<'a>,
 ) -> Option<(CowStr<'a, Global>, Inode)>
     ensures text { IfSome result
         (λ entry. (path : PathNames) → path_text path ≡ cow_str_bytes entry.0
-        → Spells 2 (entry_value version (path, entry.1)) rest.old rest.new) }
-    ensures stated { IfSome result (λ entry. states_nsec version entry.1.nsec ≡ true) }
+        → rest.old ≡ compact_text (entry_value (path, entry.1)) ++ rest.new) }
     ensures sound { IfSome result (λ entry. is_sound_inode entry.1 ≡ true) }
 {
-    let front = read_front(version, rest)?;
+    let front = read_front(rest)?;
     let path = rest.take_text(alloc)?;
     let kind = read_kind(alloc, rest, front.word, front.blob)?;
     let (uid, attrs) = read_back(alloc, rest)?;
@@ -76,14 +70,13 @@ pub(crate) fn read_entry<'a>(
 }
 
 // What stands before the path of the entry that comes next.
-fn read_front(version: Version, rest: &mut Rest<'_>) -> Option<Front>
-    ensures text { IfSome result (λ front. rest.old ≡ before_path version front rest.new) }
-    ensures stated { IfSome result (λ front. states_nsec version front.nsec ≡ true) }
+fn read_front(rest: &mut Rest<'_>) -> Option<Front>
+    ensures { IfSome result (λ front. rest.old ≡ before_path front rest.new) }
 {
     let (blob, gid) = read_group(rest)?;
     let word = read_word(rest)?;
     let mode = rest.take_natural(MODE_LIMIT as u64)?;
-    let (mtime, nsec) = read_time(version, rest)?;
+    let (mtime, nsec) = read_time(rest)?;
     rest.take(",\"path\":")?;
     Some(Front {
         blob,
@@ -97,7 +90,7 @@ fn read_front(version: Version, rest: &mut Rest<'_>) -> Option<Front>
 
 // The end of an entry: the owning user and the attributes.
 fn read_back(alloc: Global, rest: &mut Rest<'_>) -> Option<(u32, Attrs)>
-    ensures { IfSome result (λ read. SpellsBack read.0 read.1 rest.old rest.new) }
+    ensures { IfSome result (λ read. rest.old ≡ back_text read.0 read.1 rest.new) }
 {
     rest.take(",\"uid\":")?;
     let uid = rest.take_natural(u32::MAX as u64)?;
@@ -172,30 +165,14 @@ fn read_device(rest: &mut Rest<'_>) -> Option<(u32, u32)>
 }
 
 // The time of the last change: its seconds, and the nanoseconds past them.
-fn read_time(version: Version, rest: &mut Rest<'_>) -> Option<(i64, u32)>
-    ensures text { IfSome result
-        (λ time. rest.old ≡ mtime_text time.0 ++ (nsec_text version time.1 ++ rest.new)) }
-    ensures stated { IfSome result (λ time. states_nsec version time.1 ≡ true) }
+fn read_time(rest: &mut Rest<'_>) -> Option<(i64, u32)>
+    ensures { IfSome result (λ time. rest.old ≡ time_text time.0 time.1 ++ rest.new) }
 {
     rest.take(",\"mtime\":")?;
     let seconds = rest.take_integer()?;
-    let nsec = read_nsec(version, rest)?;
-    Some((seconds, nsec))
-}
-
-// The nanoseconds past the second, where the version has them.
-fn read_nsec(version: Version, rest: &mut Rest<'_>) -> Option<u32>
-    ensures text { IfSome result (λ nsec. rest.old ≡ nsec_text version nsec ++ rest.new) }
-    ensures stated { IfSome result (λ nsec. states_nsec version nsec ≡ true) }
-{
-    match version {
-        Version::One => Some(0),
-        Version::Two => {
-            rest.take(",\"mtime-nsec\":")?;
-            let nsec = rest.take_natural(u64::from(NSEC_LIMIT))?;
-            Some(nsec as u32)
-        }
-    }
+    rest.take(",\"mtime-nsec\":")?;
+    let nsec = rest.take_natural(u64::from(NSEC_LIMIT))?;
+    Some((seconds, nsec as u32))
 }
 
 // The kind of this word, with the blob that was read and the member after `path`.
@@ -211,8 +188,13 @@ fn read_kind(alloc: Global, rest: &mut Rest<'_>, word: Word, blob: Option<Digest
         }
         (Word::Symlink, None) => {
             rest.take(",\"target\":")?;
-            let target = read_target(alloc, rest)?;
-            Some(Kind::Symlink { target })
+            let text = rest.take_text(alloc)?;
+            let Ok(own) = text.into_owned(alloc) else {
+                return None;
+            };
+            Some(Kind::Symlink {
+                target: Target::from(own),
+            })
         }
         (Word::Char { major, minor }, None) => Some(Kind::Char { major, minor }),
         (Word::Block { major, minor }, None) => Some(Kind::Block { major, minor }),
@@ -223,21 +205,10 @@ fn read_kind(alloc: Global, rest: &mut Rest<'_>, word: Word, blob: Option<Digest
     }
 }
 
-/// The target of a symlink.
-pub(crate) fn read_target(alloc: Global, rest: &mut Rest<'_>) -> Option<Target>
-    ensures { IfSome result (λ target. rest.old ≡ quoted target ++ rest.new) }
-{
-    let text = rest.take_text(alloc)?;
-    match text.into_owned(alloc) {
-        Ok(own) => Some(Target::from(own)),
-        Err(_) => None,
-    }
-}
-
-/// The attributes, in the order of their names, or in any order where they are few.
-pub(crate) fn read_attributes(alloc: Global, rest: &mut Rest<'_>) -> Option<Attrs>
+// The attributes, in the order of their names.
+fn read_attributes(alloc: Global, rest: &mut Rest<'_>) -> Option<Attrs>
     ensures { IfSome result
-        (λ attrs. Spells 1 (object (attribute_members attrs)) rest.old rest.new) }
+        (λ attrs. rest.old ≡ compact_text (object (attribute_members attrs)) ++ rest.new) }
 {
     let mut attrs = Attrs::new(alloc);
     if rest.take("{}").is_some() {
@@ -252,41 +223,29 @@ pub(crate) fn read_attributes(alloc: Global, rest: &mut Rest<'_>) -> Option<Attr
     Some(attrs)
 }
 
-// Puts the attribute that comes next to the others. Gives none where that would go through many
-// others, or be a second value of one name.
+// Puts the attribute that comes next behind the others, if its name comes after theirs.
 fn read_attribute(alloc: Global, rest: &mut Rest<'_>, attrs: &mut Attrs) -> Option<()>
     ensures { IfSome result (λ _. TakesAttribute rest.old attrs.old rest.new attrs.new) }
 {
-    let name = rest.take_text(alloc)?;
-    let own = name.as_str();
-    if !are_before(attrs, own) && !are_few_others(attrs, own) {
+    let text = rest.take_text(alloc)?;
+    let name = text.as_str();
+    if !are_before(attrs, name) {
         return None;
     }
     rest.take(":")?;
     let digits = rest.take_string()?;
-    match put_digits(alloc, attrs, own, digits) {
+    match put_digits(alloc, attrs, name, digits) {
         Ok(true) => Some(()),
         _ => None,
     }
 }
 
-// Whether the last of the attributes' names comes before this one.
-fn are_before(attrs: &Attrs, name: &str) -> bool {
+// Whether the names of all attributes come before this one.
+fn are_before(attrs: &Attrs, name: &str) -> bool
+    ensures { IsTrue result → IsTrue (all_before attrs.now name.now) }
+{
     match attrs.pairs().next_back() {
         Some((last, _)) => last.as_bytes().cmp(name.as_bytes()).is_lt(),
         None => true,
     }
-}
-
-// Whether there are fewer attributes than `MANY`, none of them of this name.
-fn are_few_others(attrs: &Attrs, name: &str) -> bool {
-    let mut pairs = attrs.pairs();
-    for _ in 0..MANY {
-        match pairs.next() {
-            Some((own, _)) if own == name => return false,
-            Some(_) => {}
-            None => return true,
-        }
-    }
-    false
 }

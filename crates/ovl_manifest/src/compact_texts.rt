@@ -1,13 +1,13 @@
 //! The text of a manifest as it is written, taken from its front piece by piece.
-ghost use Rattle.std.specs.Prelude.{◌≡◌, ◌≤◌, [], ◌++◌, IsTrue, IfSome, MatchOption, decimal, get_or, length, string_bytes, take};
+ghost use Rattle.std.specs.Prelude.{◌≡◌, ◌≤◌, [], ◌++◌, IsTrue, IfSome, MatchOption, decimal, length, string_bytes, take};
 ghost use Rattle.std.specs.Fmt.{signed_decimal};
 ghost use Rattle.std.specs.Cow.{cow_str_bytes};
 ghost use Rattle.std.specs.Str.Parse.{AllDigits, digits_value};
 ghost use Rattle.hex.specs.Hex.{encode_lower};
 ghost use Rattle.json.specs.Print.{quoted};
 
+use crate::plain_runs::plain_length;
 use ovl_inode::Digest;
-use ovl_json::plain_length;
 use serde_json::Value;
 use std::alloc::Global;
 use std::borrow::CowStr;
@@ -40,13 +40,6 @@ impl<'a> Rest<'a> {
         Rest { text }
     }
 
-    /// The same text once more.
-    pub(crate) fn again(&self) -> Rest<'a>
-        ensures { result ≡ self.now }
-    {
-        Rest { text: self.text }
-    }
-
     /// The number of bytes.
     pub(crate) fn len(&self) -> usize
         ensures { result ≡ length self.now }
@@ -72,14 +65,6 @@ impl<'a> Rest<'a> {
         }
         self.text = back;
         Some(())
-    }
-
-    /// The first byte of the name that may come next, behind its quotation mark.
-    #[inline(always)]
-    pub(crate) fn letter(&self) -> Option<u8>
-        ensures { MatchOption result (length self.now ≤ 1) (λ byte. get_or self.now 1 0 ≡ byte) }
-    {
-        self.text.as_bytes().get(1).copied()
     }
 
     // Takes so many bytes.

@@ -4,8 +4,8 @@ ghost use Rattle.std.specs.List.{list_all};
 ghost use Rattle.std.specs.Str.{bytes_eq};
 ghost use Rattle.serde_json.specs.Data.{string};
 ghost use Rattle.serde_json.specs.Find.{get};
-ghost use Rattle.ovl_json.specs.Views.{text_view, texts_view, object_view};
-ghost use Rattle.ovl_manifest.specs.Fields.{has_exactly, text_field, natural_field, seconds_field, nsec_field, path_field, attribute_after, attributes_after, attributes_field, blob_field, file_kind, kind_named, kind_field, inode_with, inode_field, entry_of};
+ghost use Rattle.serde_json.specs.View.{view, members_view};
+ghost use Rattle.ovl_manifest.specs.Fields.{text_field, natural_field, seconds_field, nsec_field, path_field, attribute_after, attributes_after, attributes_field, blob_field, file_kind, kind_named, kind_field, inode_with, inode_field, entry_of};
 ghost use Rattle.ovl_manifest.specs.Fields as fields;
 
 use crate::versions::Version;
@@ -14,8 +14,8 @@ use ovl_inode::{
     AttrFault, Attrs, Digest, Inode, Kind, MODE_LIMIT, NSEC_LIMIT, SIZE_LIMIT, Target,
     are_lower_digits, sound,
 };
-use ovl_json::{Object as Value, Texts};
 use ovl_names::{Path, PathFault};
+use serde_json::{Map, Value};
 use std::alloc::{AllocError, Global};
 
 /// The entry that a member of `entries` states, and `None` where it states none.
@@ -24,7 +24,7 @@ pub(crate) fn read_entry(
     version: Version,
     value: &Value,
 ) -> Result<Option<(Path, Inode)>, AllocError>
-    ensures { IfOk result (λ entry. entry ≡ entry_of version (object_view value.now)) }
+    ensures { IfOk result (λ entry. entry ≡ entry_of version (view value.now)) }
 {
     let Some(path) = read_path(alloc, version, value)? else {
         return Ok(None);
@@ -33,7 +33,7 @@ pub(crate) fn read_entry(
         return Ok(None);
     };
     let own = own_members(&inode.kind);
-    if is_made_of(value, own, version.common_members()) && sound(&inode) {
+    if has_exactly(value, own, version.common_members()) && sound(&inode) {
         Ok(Some((path, inode)))
     } else {
         Ok(None)
@@ -41,7 +41,7 @@ pub(crate) fn read_entry(
 }
 
 fn read_path(alloc: Global, version: Version, value: &Value) -> Result<Option<Path>, AllocError>
-    ensures { IfOk result (λ path. path ≡ path_field version (object_view value.now)) }
+    ensures { IfOk result (λ path. path ≡ path_field version (view value.now)) }
 {
     let Some(text) = text(value, "path") else {
         return Ok(None);
@@ -55,7 +55,7 @@ fn read_path(alloc: Global, version: Version, value: &Value) -> Result<Option<Pa
 }
 
 fn read_inode(alloc: Global, version: Version, value: &Value) -> Result<Option<Inode>, AllocError>
-    ensures { IfOk result (λ inode. inode ≡ inode_field version (object_view value.now)) }
+    ensures { IfOk result (λ inode. inode ≡ inode_field version (view value.now)) }
 {
     let Some(kind) = read_kind(alloc, value)? else {
         return Ok(None);
@@ -68,7 +68,7 @@ fn read_inode(alloc: Global, version: Version, value: &Value) -> Result<Option<I
 
 // The inode of a kind and attributes, with the numbers that the object states.
 fn inode_of(version: Version, kind: Kind, attrs: Attrs, value: &Value) -> Option<Inode>
-    ensures { result ≡ inode_with version kind attrs (object_view value.now) }
+    ensures { result ≡ inode_with version kind attrs (view value.now) }
 {
     let mode = natural(value, "mode", MODE_LIMIT as u64)?;
     let uid = natural(value, "uid", u32::MAX as u64)?;
@@ -87,7 +87,7 @@ fn inode_of(version: Version, kind: Kind, attrs: Attrs, value: &Value) -> Option
 }
 
 fn read_kind(alloc: Global, value: &Value) -> Result<Option<Kind>, AllocError>
-    ensures { IfOk result (λ kind. kind ≡ kind_field (object_view value.now)) }
+    ensures { IfOk result (λ kind. kind ≡ kind_field (view value.now)) }
 {
     let Some(name) = text(value, "kind") else {
         return Ok(None);
@@ -99,7 +99,7 @@ fn read_kind(alloc: Global, value: &Value) -> Result<Option<Kind>, AllocError>
 }
 
 fn read_symlink(alloc: Global, value: &Value) -> Result<Option<Kind>, AllocError>
-    ensures { IfOk result (λ kind. kind ≡ kind_named (object_view value.now) (codes "symlink")) }
+    ensures { IfOk result (λ kind. kind ≡ kind_named (view value.now) (codes "symlink")) }
 {
     let Some(text) = text(value, "target") else {
         return Ok(None);
@@ -111,7 +111,7 @@ fn read_symlink(alloc: Global, value: &Value) -> Result<Option<Kind>, AllocError
 // Every kind but a symlink.
 fn plain_kind(name: &str, value: &Value) -> Option<Kind>
     requires { bytes_eq name.now (codes "symlink") ≡ false }
-    ensures { result ≡ kind_named (object_view value.now) name.now }
+    ensures { result ≡ kind_named (view value.now) name.now }
 {
     if name == "dir" {
         Some(Kind::Dir)
@@ -141,7 +141,7 @@ fn plain_kind(name: &str, value: &Value) -> Option<Kind>
 }
 
 fn read_file(value: &Value) -> Option<Kind>
-    ensures { result ≡ file_kind (object_view value.now) }
+    ensures { result ≡ file_kind (view value.now) }
 {
     let size = natural(value, "size", SIZE_LIMIT)?;
     let blob = read_blob(value)?;
@@ -149,7 +149,7 @@ fn read_file(value: &Value) -> Option<Kind>
 }
 
 fn read_blob(value: &Value) -> Option<Option<Digest>>
-    ensures { result ≡ blob_field (object_view value.now) }
+    ensures { result ≡ blob_field (view value.now) }
 {
     let Some(blob) = value.get("blob") else {
         return Some(None);
@@ -162,14 +162,14 @@ fn read_blob(value: &Value) -> Option<Option<Digest>>
 
 // A text.
 fn text<'a>(value: &'a Value, name: &str) -> Option<&'a str>
-    ensures { option_map (λ text. text.now) result ≡ text_field name.now (object_view value.now) }
+    ensures { option_map (λ text. text.now) result ≡ text_field name.now (view value.now) }
 {
     value.get(name)?.as_str()
 }
 
 // A whole number from 0 to a limit.
 fn natural(value: &Value, name: &str, limit: u64) -> Option<u64>
-    ensures value { result ≡ natural_field name.now limit (object_view value.now) }
+    ensures value { result ≡ natural_field name.now limit (view value.now) }
     ensures bound { IfSome result (λ number. number ≤ limit) }
 {
     let number = value.get(name)?.as_number()?.as_u64()?;
@@ -178,14 +178,14 @@ fn natural(value: &Value, name: &str, limit: u64) -> Option<u64>
 
 // Whole seconds.
 fn seconds(value: &Value, name: &str) -> Option<i64>
-    ensures { result ≡ seconds_field name.now (object_view value.now) }
+    ensures { result ≡ seconds_field name.now (view value.now) }
 {
     value.get(name)?.as_number()?.as_i64()
 }
 
 // Nanoseconds past the second; none are stated in the first version.
 fn nanoseconds(version: Version, value: &Value) -> Option<u32>
-    ensures { result ≡ nsec_field version (object_view value.now) }
+    ensures { result ≡ nsec_field version (view value.now) }
 {
     match version {
         Version::One => Some(0),
@@ -197,24 +197,25 @@ fn nanoseconds(version: Version, value: &Value) -> Option<u32>
 }
 
 fn read_attributes(alloc: Global, value: &Value) -> Result<Option<Attrs>, AllocError>
-    ensures { IfOk result (λ attrs. attrs ≡ attributes_field (object_view value.now)) }
+    ensures { IfOk result (λ attrs. attrs ≡ attributes_field (view value.now)) }
 {
     let Some(value) = value.get("xattrs") else {
         return Ok(None);
     };
     match value.as_object() {
-        Some(texts) => read_texts(alloc, texts),
+        Some(members) => read_members(alloc, members),
         None => Ok(None),
     }
 }
 
-// The attributes that the texts of an object state.
-fn read_texts(alloc: Global, texts: &Texts<'_>) -> Result<Option<Attrs>, AllocError>
-    ensures { IfOk result (λ attrs. attrs ≡ attributes_after [] (texts_view texts.now.entries)) }
+// The attributes that the members of an object state.
+fn read_members(alloc: Global, members: &Map<String, Value>) -> Result<Option<Attrs>, AllocError>
+    ensures { IfOk result
+        (λ attrs. attrs ≡ attributes_after [] (members_view members.now.entries)) }
 {
     let mut attrs = Attrs::new(alloc);
-    for (name, text) in texts {
-        if !put_attribute(alloc, &mut attrs, *name, *text)? {
+    for (name, value) in members {
+        if !put_attribute(alloc, &mut attrs, name.as_str(), value)? {
             return Ok(None);
         }
     }
@@ -226,13 +227,13 @@ fn put_attribute(
     alloc: Global,
     attrs: &mut Attrs,
     name: &str,
-    text: Option<&str>,
+    value: &Value,
 ) -> Result<bool, AllocError>
     ensures { IfOk result (λ put. MatchBool put
-        (attribute_after attrs.old name.now (text_view text.entry) ≡ Some attrs.new)
-        (attribute_after attrs.old name.now (text_view text.entry) ≡ None)) }
+        (attribute_after attrs.old name.now (view value.now) ≡ Some attrs.new)
+        (attribute_after attrs.old name.now (view value.now) ≡ None)) }
 {
-    match text {
+    match value.as_str() {
         Some(digits) => put_digits(alloc, attrs, name, digits),
         None => Ok(false),
     }
@@ -277,13 +278,17 @@ fn own_members(kind: &Kind) -> &'static [&'static str]
     }
 }
 
-/// Whether the object has these members and those, each of another name, and no more.
-pub(crate) fn is_made_of(value: &Value, own: &[&str], common: &[&str]) -> bool
+/// Whether the value is an object that has these members and those, each of another name, and no
+/// more.
+pub(crate) fn has_exactly(value: &Value, own: &[&str], common: &[&str]) -> bool
     ensures { result
-        ≡ has_exactly (map (λ name. name.now) own.now ++ map (λ name. name.now) common.now)
-        (object_view value.now) }
+        ≡ fields.has_exactly (map (λ name. name.now) own.now ++ map (λ name. name.now) common.now)
+        (view value.now) }
 {
-    if value.len() != own.len() + common.len() {
+    let Some(members) = value.as_object() else {
+        return false;
+    };
+    if members.len() != own.len() + common.len() {
         return false;
     }
     has_all(value, own) && has_all(value, common)
@@ -291,7 +296,7 @@ pub(crate) fn is_made_of(value: &Value, own: &[&str], common: &[&str]) -> bool
 
 // Whether the value has a member of each of these names.
 fn has_all(value: &Value, names: &[&str]) -> bool
-    ensures { result ≡ list_all (λ name. is_some (get name.now (object_view value.now))) names.now }
+    ensures { result ≡ list_all (λ name. is_some (get name.now (view value.now))) names.now }
 {
     names.iter().all(|name| value.get(*name).is_some())
 }

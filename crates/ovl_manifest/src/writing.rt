@@ -5,7 +5,6 @@ ghost use Rattle.ovl_manifest.specs.Compact.{entries_text};
 ghost use Rattle.ovl_layer.specs.LayerTrees.{entries_from, placed};
 ghost use Rattle.ovl_manifest.specs.Manifest.{read_layer};
 ghost use Rattle.ovl_manifest.specs.Text.{manifest_text, layer_value};
-ghost use Rattle.ovl_manifest.specs.Versions.{written};
 ghost use Rattle.ovl_layer.specs.TextPaths.{slashed};
 
 use crate::short_texts::ShortText;
@@ -69,7 +68,7 @@ fn room_under(node: &Node, above: usize) -> usize {
 fn push_layer(alloc: Global, text: &mut Vec<u8>, layer: &Layer) -> Result<(), AllocError>
     ensures { OnOk result
         (text.new.items
-        ≡ text.old.items ++ compact_text (layer_value written layer.now)) }
+        ≡ text.old.items ++ compact_text (layer_value layer.now)) }
 {
     text.extend_from_slice("{\"entries\":[".as_bytes())?;
     push_entries(alloc, text, layer)?;
@@ -83,7 +82,7 @@ fn push_layer(alloc: Global, text: &mut Vec<u8>, layer: &Layer) -> Result<(), Al
 // All entries, in path order.
 fn push_entries(alloc: Global, text: &mut Vec<u8>, layer: &Layer) -> Result<(), AllocError>
     ensures { OnOk result
-        (text.new.items ≡ text.old.items ++ entries_text written false layer.now) }
+        (text.new.items ≡ text.old.items ++ entries_text false layer.now) }
 {
     let root = layer.root();
     push_entry(alloc, text, "/", root.inode())?;
@@ -105,7 +104,7 @@ fn push_under(
     ensures text { OnOk result
         ((directory : PathNames) → string_bytes path.old ≡ slashed directory
         → text.new.items ≡ text.old.items
-        ++ entries_text written true
+        ++ entries_text true
         (placed (child_path directory node.now.name)
         (entries_from node.now.inode node.now.below))) }
     ensures path { OnOk result (string_bytes path.new ≡ string_bytes path.old) }

@@ -6,12 +6,11 @@ ghost use Rattle.serde_json.specs.Written.{compact_text};
 ghost use Rattle.ovl_names.specs.Paths.{PathNames, path_text as text_of_path};
 ghost use Rattle.ovl_manifest.specs.Compact.{attribute_text, blob_text, kind_text, front_text, size_text, target_text, blob_of_kind};
 ghost use Rattle.ovl_manifest.specs.Text.{attribute_members, entry_value};
-ghost use Rattle.ovl_manifest.specs.Versions.{written};
 
+use crate::plain_runs::plain_length;
 use crate::short_texts::ShortText;
 use json::Writer;
 use ovl_inode::{Attrs, Inode, Kind};
-use ovl_json::plain_length;
 use std::alloc::{AllocError, Global};
 
 /// Appends the text of an entry, by the text of its path; fails only when out of memory.
@@ -22,7 +21,7 @@ pub(crate) fn push_entry(
     inode: &Inode,
 ) -> Result<(), AllocError>
     ensures { OnOk result ((own : PathNames) → path.now ≡ text_of_path own
-        → text.new.items ≡ text.old.items ++ compact_text (entry_value written (own, inode.now))) }
+        → text.new.items ≡ text.old.items ++ compact_text (entry_value (own, inode.now))) }
 {
     push_blob(alloc, text, &inode.kind)?;
     push_front(text, inode)?;

@@ -14,13 +14,6 @@ returns-in-Ok-go_on-clause-path c =
 pub returns-in-Ok-go_on-clause-last : goal.returns-in-Ok-go_on-clause-last
 returns-in-Ok-go_on-clause-last c = ap slashed (c.in-Ok.ensures).last ∙ sym c.in_ok-depth.ensures.text
 
-pub returns-in-Ok-go_on-clause-depth : goal.returns-in-Ok-go_on-clause-depth
-returns-in-Ok-go_on-clause-depth c =
-    let last : PathNames = last_path c.args.draft.now in
-    let place = c.in_ok-depth in
-    let deeper = length-append (take place.depth last) (place.name ∷ []) in
-    omega (arith, ap length (c.in-Ok.ensures).last, deeper, length-take place.depth last, place.ensures.depth)
-
 pub returns-in-Ok-go_on-clause-ends : goal.returns-in-Ok-go_on-clause-ends
 returns-in-Ok-go_on-clause-ends c =
     let place = c.in_ok-depth in

@@ -3,7 +3,6 @@ use Rattle.ovl_names.specs.Names.{is_name}
 use Rattle.ovl_names.specs.Paths.{PathNames, child_path}
 use Rattle.ovl_layer.specs.TextPaths.{slashed}
 use Rattle.ovl_layer.specs.SheetDrafts.{last_path}
-use Rattle.ovl_manifest.proofs.EntryLemmas.{depth-limited}
 use Rattle.ovl_layer.proofs.WayLemmas.{child_limits}
 use Rattle.ovl_manifest.proofs.compact_layers.next_place.Goals as goal
 
@@ -32,6 +31,6 @@ returns-then-is_directory_above-clause-entry c =
       named = subst (λ (own : List ℕ). is_name own ≡ true) (sym (c.in-Ok.ensures).0) (c.in-Ok.ensures).1;
       sound = c.requires.sound;
       unescaped = sym c.if-has_escaped_name.ensures;
-      limited = child_limits last c.in_ok-depth.depth c.in-Ok.name c.args.text.now spelled (omega (arith, c.if-depth.false, c.depth.ensures, depth-limited c.args.version)) (omega (arith, c.if-text-gt-TEXT_LIMIT.false));
+      limited = child_limits last c.in_ok-depth.depth c.in-Ok.name c.args.text.now spelled (omega (arith, c.if-depth-ge-DEPTH_LIMIT.false)) (omega (arith, c.if-text-gt-TEXT_LIMIT.false));
       room = c.requires.room;
     }

@@ -2,7 +2,7 @@ use Rattle.std.proofs.Common.{ℕ, List, rules, tests, Bor}
 use Rattle.std.specs.Prelude.{is_some}
 use Rattle.std.proofs.lemmas.Iterator.{YieldsList-from_slice}
 use Rattle.std.proofs.lemmas.Iterator.Search.{all_from_yields_List}
-use Rattle.ovl_json.specs.Views.{object_view as view}
+use Rattle.serde_json.specs.View.{view}
 use Rattle.serde_json.specs.Find.{get}
 use Rattle.ovl_manifest.proofs.fields.has_all.Goals as goal
 

@@ -54,12 +54,12 @@ loop-child-preserved n c = (
       let text : string_bytes c.loop-child.path ≡ slashed path =
       c.loop-child.invariant.1 ∙ spelled (string_bytes c.push_str-2.new.self) (string_bytes c.args.path.now) c.args.node.now.name directory lies same in
       let below = sym (placed-under path node.name (entries_from node.inode node.below)) in
-      let both : entries_text written true (placed path done) ++ entries_text written true (placed path own) ≡ entries_text written true (placed path (done ++ own)) =
-      sym (ap (entries_text written true) (placed-append path done own) ∙ entries-append written (placed path done) (placed path own)) in
+      let both : entries_text true (placed path done) ++ entries_text true (placed path own) ≡ entries_text true (placed path (done ++ own)) =
+      sym (ap (entries_text true) (placed-append path done own) ∙ entries-append (placed path done) (placed path own)) in
       c.in_ok-push_under.ensures.text path text
-      ∙ ((λ j. c.loop-child.invariant.0 directory same j ++ entries_text written true (below j))
-      ∙ (append_assoc before (entries_text written true (placed path done)) (entries_text written true (placed path own))
-      ∙ ap (λ (t : List ℕ). before ++ t) (both ∙ ap (λ (es : Entries). entries_text written true (placed path es)) (sym more)))),
+      ∙ ((λ j. c.loop-child.invariant.0 directory same j ++ entries_text true (below j))
+      ∙ (append_assoc before (entries_text true (placed path done)) (entries_text true (placed path own))
+      ∙ ap (λ (t : List ℕ). before ++ t) (both ∙ ap (λ (es : Entries). entries_text true (placed path es)) (sym more)))),
   c.in_ok-push_under.ensures.path ∙ c.loop-child.invariant.1,
 )
 
@@ -78,6 +78,6 @@ returns-clause-text n c directory same =
     let whole : (path, inode) ∷ placed path below ≡ placed path (entries_from c.args.node.now.inode c.args.node.now.below) =
     λ j. (sym (append-nil path) j, c.inode.ensures j) ∷ placed path (seen j) in
     let comma : Grows before (codes ",") (c.push.new.self.items) = record { is = c.in_ok-push.ensures.items } in
-    let first : Grows (c.push.new.self.items) (compact_text (entry_value written (path, inode))) (c.push_entry.new.text.items) = record { is = c.in_ok-push_entry.ensures path text } in
-    let rest : Grows (c.push_entry.new.text.items) (entries_text written true (placed path below)) (c.loop-child.text.items) = record { is = c.loop-child.invariant.0 directory same } in
-    (onto comma (onto first rest)).is ∙ ap (λ (es : Entries). before ++ entries_text written true es) whole
+    let first : Grows (c.push.new.self.items) (compact_text (entry_value (path, inode))) (c.push_entry.new.text.items) = record { is = c.in_ok-push_entry.ensures path text } in
+    let rest : Grows (c.push_entry.new.text.items) (entries_text true (placed path below)) (c.loop-child.text.items) = record { is = c.loop-child.invariant.0 directory same } in
+    (onto comma (onto first rest)).is ∙ ap (λ (es : Entries). before ++ entries_text true es) whole

@@ -13,5 +13,5 @@ decreases-push_under l = length l.node.now.below
 abbrev pub invariant-loop-child : goal.invariant-loop-child
 invariant-loop-child l =
     ((directory : PathNames) → string_bytes l.fn.path ≡ slashed directory
-    → l.text.items ≡ l.initial.text.items ++ entries_text written true (placed (child_path directory l.node.name) (entries_of_nodes (take l.child-index l.child-items))))
+    → l.text.items ≡ l.initial.text.items ++ entries_text true (placed (child_path directory l.node.name) (entries_of_nodes (take l.child-index l.child-items))))
     × (string_bytes l.path ≡ string_bytes l.initial.path)

@@ -21,9 +21,9 @@ loop-child-preserved c =
     let more = entries_of_nodes-more nodes c.loop-child.child-index node c.loop-child-test.true c.child-item.is in
     let below = placed_at-under node.name (entries_from node.inode node.below) in (
       c.in_ok-push_under.ensures.text [] c.loop-child.invariant.1
-          ∙ ((λ j. c.loop-child.invariant.0 j ++ entries_text written true (below j))
-          ∙ (append_assoc before (entries_text written true done) (entries_text written true own)
-          ∙ ap (λ (t : List ℕ). before ++ t) (sym (entries-append written done own) ∙ ap (entries_text written true) (sym more)))),
+          ∙ ((λ j. c.loop-child.invariant.0 j ++ entries_text true (below j))
+          ∙ (append_assoc before (entries_text true done) (entries_text true own)
+          ∙ ap (λ (t : List ℕ). before ++ t) (sym (entries-append done own) ∙ ap (entries_text true) (sym more)))),
       c.in_ok-push_under.ensures.path ∙ c.loop-child.invariant.1,
     )
 
@@ -38,7 +38,7 @@ returns c =
     ∙ (sym c.children-child-items.ensures.1 ∙ c.root-root.ensures.value) in
     let at : Some inode ≡ Some c.inode.result.now = ap (λ (entries : Entries). entry_at entries []) (sym c.children-child-items.ensures.1) ∙ c.inode.ensures in
     let same : c.inode.result.now ≡ inode = cc in
-    let root : Grows before (compact_text (entry_value written ([], inode))) (c.push_entry.new.text.items) =
-    record { is = c.in_ok-push_entry.ensures [] refl ∙ ap (λ (own : Inode). before ++ compact_text (entry_value written ([], own))) same } in
-    let rest : Grows (c.push_entry.new.text.items) (entries_text written true below) (c.loop-child.text.items) = record { is = c.loop-child.invariant.0 } in
-    (onto root rest).is ∙ ap (λ (es : Entries). before ++ entries_text written false es) whole
+    let root : Grows before (compact_text (entry_value ([], inode))) (c.push_entry.new.text.items) =
+    record { is = c.in_ok-push_entry.ensures [] refl ∙ ap (λ (own : Inode). before ++ compact_text (entry_value ([], own))) same } in
+    let rest : Grows (c.push_entry.new.text.items) (entries_text true below) (c.loop-child.text.items) = record { is = c.loop-child.invariant.0 } in
+    (onto root rest).is ∙ ap (λ (es : Entries). before ++ entries_text false es) whole

@@ -7,5 +7,5 @@ use Rattle.ovl_manifest.proofs.writing.push_entries.Given as goal
 -- what lies under the nodes so far, and the path is the root's again
 abbrev pub invariant-loop-child : goal.invariant-loop-child
 invariant-loop-child l =
-    (l.text.items ≡ l.initial.text.items ++ entries_text written true (entries_of_nodes (take l.child-index l.child-items)))
+    (l.text.items ≡ l.initial.text.items ++ entries_text true (entries_of_nodes (take l.child-index l.child-items)))
     × (string_bytes l.path ≡ [])

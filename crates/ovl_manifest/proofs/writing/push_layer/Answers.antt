@@ -13,7 +13,7 @@ pub returns : goal.returns
 returns c =
     let layer : Entries = c.args.layer.now in
     let text : List ℕ = c.args.text.now.items in
-    let entries : List ℕ = entries_text written false layer in
+    let entries : List ℕ = entries_text false layer in
     let number : List ℕ = decimal (version_number written) in
     let begin : Grows text (codes "{\"entries\":[") c.extend_from_slice.new.self.items =
     record { is = c.in_ok-extend_from_slice.ensures.items ∙ ap (λ (t : List ℕ). text ++ t) c.as_bytes.ensures.value } in
@@ -31,5 +31,5 @@ returns c =
     let closed : entries ++ (codes "],\"overlay-layer\":" ++ (number ++ codes "}")) ≡ (entries ++ codes "]") ++ (codes ",\"overlay-layer\":" ++ (number ++ codes "}")) =
     sym (append_assoc entries (codes "]") (codes ",\"overlay-layer\":" ++ (number ++ codes "}"))) in
     (onto begin (onto listed end)).is
-    ∙ ap (λ (t : List ℕ). text ++ t) (ap (λ (t : List ℕ). codes "{\"entries\":[" ++ t) (closed ∙ ap (λ (t : List ℕ). t ++ (codes ",\"overlay-layer\":" ++ (number ++ codes "}"))) (sym (items-entries written false layer)))
-    ∙ (layer_text written layer [] ∙ append-nil (compact_text (layer_value written layer))))) pushed
+    ∙ ap (λ (t : List ℕ). text ++ t) (ap (λ (t : List ℕ). codes "{\"entries\":[" ++ t) (closed ∙ ap (λ (t : List ℕ). t ++ (codes ",\"overlay-layer\":" ++ (number ++ codes "}"))) (sym (items-entries false layer)))
+    ∙ (layer_text layer [] ∙ append-nil (compact_text (layer_value layer))))) pushed

@@ -21,7 +21,7 @@ back_text kind uid = size_text kind ++ (codes ",\"uid\":" ++ (decimal uid ++ cod
 
 parts : (inode : Inode) (kind : Kind) (path : List ℕ)
     → blob_text (blob_of_kind kind) ++ (front_text (record inode { kind = kind }) ++ (quoted path ++ (target_text kind ++ (back_text kind inode.uid ++ (compact_text (object (attribute_members inode.attrs)) ++ codes "}")))))
-    ≡ in_turn written (blob_of_kind kind) (word_of_kind kind) (record inode { kind = kind }) (signed_decimal inode.mtime) path (object (attribute_members inode.attrs)) []
+    ≡ in_turn (blob_of_kind kind) (word_of_kind kind) (record inode { kind = kind }) (signed_decimal inode.mtime) path []
 parts inode Dir path = simp append_assoc
 parts inode (File size None) path = simp append_assoc
 parts inode (File size (Some blob)) path = simp append_assoc
@@ -44,8 +44,8 @@ returns c =
     let last : Grows c.push_back.new.text.items (compact_text (object (attribute_members i.attrs)) ++ codes "}") c.push_attributes.new.text.items = record { is = e } in
     let placed_so : Grows c.push_front.new.text.items (quoted (path_text path)) c.push_string.new.text.items =
     subst (λ (t : List ℕ). Grows c.push_front.new.text.items (quoted t) c.push_string.new.text.items) same placed in
-    let whole : in_turn written (blob_of_kind i.kind) (word_of_kind i.kind) i (signed_decimal i.mtime) (path_text path) (object (attribute_members i.attrs)) [] ≡ compact_text (entry_value written (path, i)) =
-    ap (λ (t : List ℕ). in_turn written (blob_of_kind i.kind) (word_of_kind i.kind) i t (path_text path) (object (attribute_members i.attrs)) []) (sym (seconds_text i.mtime))
-    ∙ (entry_text written path i (object (attribute_members i.attrs)) [] ∙ append-nil (compact_text (entry_value written (path, i)))) in
+    let whole : in_turn (blob_of_kind i.kind) (word_of_kind i.kind) i (signed_decimal i.mtime) (path_text path) [] ≡ compact_text (entry_value (path, i)) =
+    ap (λ (t : List ℕ). in_turn (blob_of_kind i.kind) (word_of_kind i.kind) i t (path_text path) []) (sym (seconds_text i.mtime))
+    ∙ (entry_text path i [] ∙ append-nil (compact_text (entry_value (path, i)))) in
     (onto blob (onto front (onto placed_so (onto target (onto back last))))).is
     ∙ ap (λ (t : List ℕ). text ++ t) (parts i i.kind (path_text path) ∙ whole)) (search rules)

@@ -1,5 +1,0 @@
-use Rattle.ovl_json.proofs.RunLemmas.{stops-mask}
-use Rattle.ovl_json.proofs.plain_runs.stops.Goals as goal
-
-pub returns : goal.returns
-returns c = stops-mask c.args.lanes c.fits-lanes.0
