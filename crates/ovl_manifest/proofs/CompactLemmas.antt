@@ -195,7 +195,7 @@ abbrev pub in_turn : Option Digest → Word → Inode → List ℕ → List ℕ 
 in_turn blob word inode seconds path rest =
     group_text blob inode.gid ++ word_text word (decimal inode.mode
     ++ (codes ",\"mtime\":" ++ (seconds ++ (codes ",\"mtime-nsec\":" ++ (decimal inode.nsec ++ (codes ",\"path\":" ++ (quoted path ++ (contents_text inode.kind
-    ++ back_text inode.uid inode.attrs rest)))))))))
+    ++ back_text inode.uid inode.attrs rest))))))))
 
 -- those of an entry of this kind
 abbrev pub pieces : PathNames → Inode → Kind → List ℕ → List ℕ

@@ -1,5 +1,5 @@
 -- What goes by the members of an entry, one by one: that their texts are UTF-8, and that they state the inode.
-use Rattle.std.proofs.Common.{◌≡◌, ℕ, ◌-◌, ◌^◌, ◌≤◌, ◌<◌, ◌∙◌, List, [], ◌∷◌, length, Bool, true, false, Option, Some, None, refl, sym, ap, arith, eqb-true, leb-true}
+use Rattle.std.proofs.Common.{◌≡◌, ℕ, ◌-◌, ◌^◌, ◌<◌, ◌∙◌, List, [], ◌∷◌, Bool, true, false, Option, Some, None, refl, ap, arith, leb-true}
 use Rattle.std.specs.Prelude.{◌&&◌, not, nat_le, nat_lt, codes, is_none, option_and_then}
 use Rattle.std.specs.Option.{option_map}
 use Rattle.std.specs.List.{flat_map, list_all}
@@ -10,7 +10,7 @@ use Rattle.json.proofs.Printed.Utf8.{IsUtf8-are_ascii, IsUtf8-quoted}
 use Rattle.serde_json.specs.Data.{Data, number, string, object, Members, put}
 use Rattle.serde_json.specs.Find.{get, as_number, as_i64, as_u64, of_integer}
 use Rattle.ovl_names.specs.Names.{is_name, name_fault, slash}
-use Rattle.ovl_names.specs.Paths.{PathNames, path_text, has_names, depth_limit}
+use Rattle.ovl_names.specs.Paths.{PathNames, path_text, has_names}
 use Rattle.ovl_names.proofs.Ascending.{both}
 use Rattle.ovl_inode.specs.declared.digests.Digest.{Digest}
 use Rattle.ovl_inode.specs.declared.inodes.Inode.{Inode}

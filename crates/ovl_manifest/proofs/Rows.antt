@@ -3,7 +3,6 @@ use Rattle.std.specs.Prelude.{◌≡◌, ℕ, negsuc, Bool, true, false, Some, N
 use Rattle.std.specs.Fmt.{digits}
 use Rattle.std.specs.List.{list_all, range_with_len}
 use Rattle.hex.specs.Hex.{encode_with}
-use Rattle.serde_json.specs.Written.{compact_text}
 use Rattle.serde_json.proofs.OnLiterals.{serde_json_on_literals}
 use Rattle.ovl_inode.proofs.OnLiterals.{inode_on_literals}
 use Rattle.ovl_inode.specs.declared.inodes.Inode.{Inode}
@@ -15,7 +14,7 @@ use Rattle.ovl_layer.specs.declared.faults.LayerFault.TheVariants.{NotJson, Shap
 use Rattle.ovl_names.specs.Paths.{path_text}
 use Rattle.ovl_manifest.specs.Fields.{path_of_text}
 use Rattle.ovl_manifest.specs.Manifest.{read_layer}
-use Rattle.ovl_manifest.specs.Text.{layer_value, manifest_text}
+use Rattle.ovl_manifest.specs.Text.{manifest_text}
 use Rattle.ovl_manifest.specs.declared.versions.Version.TheVariants.{One, Two}
 
 abbrev dir : Inode

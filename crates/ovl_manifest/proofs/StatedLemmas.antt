@@ -1,10 +1,10 @@
 -- The value that is written of an entry states that entry.
-use Rattle.std.proofs.Common.{◌≡◌, ◌∙◌, [], ◌∷◌, true, Option, Some, None, Result, Ok, Err, refl, ap, map}
-use Rattle.std.specs.Prelude.{◌&&◌, if◌then◌else◌, nat_le, length, option_and_then}
+use Rattle.std.proofs.Common.{◌≡◌, ◌∙◌, [], ◌∷◌, true, Option, Some, None, Ok, refl, ap, map}
+use Rattle.std.specs.Prelude.{◌&&◌, if◌then◌else◌, option_and_then}
 use Rattle.std.specs.List.{list_all}
 use Rattle.serde_json.specs.Data.{Data}
 use Rattle.serde_json.specs.Find.{as_str}
-use Rattle.ovl_names.specs.Paths.{PathNames, path_text, has_names, depth_limit, text_limit}
+use Rattle.ovl_names.specs.Paths.{PathNames, has_names}
 use Rattle.ovl_names.proofs.Ascending.{both}
 use Rattle.ovl_inode.specs.declared.inodes.Inode.{Inode}
 use Rattle.ovl_inode.specs.Marks.{has_metacopy}

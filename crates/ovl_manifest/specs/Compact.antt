@@ -34,10 +34,11 @@ abbrev pub blob_text : Option Digest → List ℕ
 blob_text None = []
 blob_text (Some blob) = codes "{\"blob\":" ++ quoted (encode_lower blob)
 
--- the members that say a time
-abbrev pub time_text : ℤ → ℕ → List ℕ
-time_text seconds nsec =
-    codes ",\"mtime\":" ++ (signed_decimal seconds ++ (codes ",\"mtime-nsec\":" ++ decimal nsec))
+-- the members that say a time, and what follows them
+abbrev pub time_text : ℤ → ℕ → List ℕ → List ℕ
+time_text seconds nsec rest =
+    codes ",\"mtime\":" ++ (signed_decimal seconds
+    ++ (codes ",\"mtime-nsec\":" ++ (decimal nsec ++ rest)))
 
 -- the members that a kind has between `path` and `uid`
 abbrev pub contents_text : Kind → List ℕ
@@ -106,7 +107,7 @@ abbrev pub before_path : Front → List ℕ → List ℕ
 before_path front path =
     group_text front.blob front.gid
     ++ word_text front.word (decimal front.mode
-    ++ (time_text front.mtime front.nsec ++ (codes ",\"path\":" ++ path)))
+    ++ time_text front.mtime front.nsec (codes ",\"path\":" ++ path))
 
 -- what an entry has behind its path and its contents, and what follows it
 abbrev pub back_text : ℕ → Attributes → List ℕ → List ℕ

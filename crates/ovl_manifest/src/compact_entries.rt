@@ -166,7 +166,7 @@ fn read_device(rest: &mut Rest<'_>) -> Option<(u32, u32)>
 
 // The time of the last change: its seconds, and the nanoseconds past them.
 fn read_time(rest: &mut Rest<'_>) -> Option<(i64, u32)>
-    ensures { IfSome result (λ time. rest.old ≡ time_text time.0 time.1 ++ rest.new) }
+    ensures { IfSome result (λ time. rest.old ≡ time_text time.0 time.1 rest.new) }
 {
     rest.take(",\"mtime\":")?;
     let seconds = rest.take_integer()?;

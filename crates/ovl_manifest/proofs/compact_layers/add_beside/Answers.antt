@@ -1,4 +1,4 @@
-use Rattle.std.proofs.Common.{◌∙◌, ◌∷◌, [], sym, ap, subst, length, take, length-append, length-take, arith}
+use Rattle.std.proofs.Common.{◌∙◌, sym, ap, subst, length, take}
 use Rattle.ovl_names.specs.Paths.{PathNames, path_text}
 use Rattle.ovl_layer.specs.TextPaths.{slashed, AreEnds}
 use Rattle.ovl_layer.specs.SheetDrafts.{last_path}

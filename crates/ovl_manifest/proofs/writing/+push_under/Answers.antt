@@ -11,7 +11,6 @@ use Rattle.ovl_layer.specs.Layers.{Entries}
 use Rattle.ovl_layer.specs.LayerTrees.{NodeView, entries_of_nodes, under, entries_from, placed}
 use Rattle.ovl_manifest.specs.Text.{entry_value}
 use Rattle.ovl_layer.specs.TextPaths.{slashed}
-use Rattle.ovl_manifest.specs.Versions.{written}
 use Rattle.ovl_layer.proofs.NodeLemmas.{entries_of_nodes-more, fewer_below, placed-under, placed-append}
 use Rattle.ovl_manifest.proofs.CompactLemmas.{Grows, onto, entries-append}
 use Rattle.ovl_manifest.proofs.writing.+push_under.Goals as goal

@@ -3,7 +3,6 @@ use Rattle.ovl_names.specs.Paths.{PathNames, child_path}
 use Rattle.ovl_manifest.specs.Compact.{entries_text}
 use Rattle.ovl_layer.specs.LayerTrees.{entries_of_nodes, placed}
 use Rattle.ovl_layer.specs.TextPaths.{slashed}
-use Rattle.ovl_manifest.specs.Versions.{written}
 use Rattle.ovl_manifest.proofs.writing.+push_under.Given as goal
 
 abbrev pub decreases-push_under : goal.decreases-push_under

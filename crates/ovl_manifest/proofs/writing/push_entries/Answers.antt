@@ -6,7 +6,6 @@ use Rattle.ovl_inode.specs.declared.inodes.Inode.{Inode}
 use Rattle.ovl_layer.specs.Layers.{Entries, entry_at}
 use Rattle.ovl_layer.specs.LayerTrees.{NodeView, entries_of_nodes, under, entries_from}
 use Rattle.ovl_manifest.specs.Text.{entry_value}
-use Rattle.ovl_manifest.specs.Versions.{written}
 use Rattle.ovl_layer.proofs.NodeLemmas.{entries_of_nodes-more, placed_at-under}
 use Rattle.ovl_manifest.proofs.CompactLemmas.{Grows, onto, entries-append}
 use Rattle.ovl_manifest.proofs.writing.push_entries.Goals as goal

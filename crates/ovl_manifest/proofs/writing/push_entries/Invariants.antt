@@ -1,7 +1,6 @@
 use Rattle.std.proofs.Common.{◌≡◌, ◌++◌, [], true, take, string_bytes}
 use Rattle.ovl_manifest.specs.Compact.{entries_text}
 use Rattle.ovl_layer.specs.LayerTrees.{entries_of_nodes}
-use Rattle.ovl_manifest.specs.Versions.{written}
 use Rattle.ovl_manifest.proofs.writing.push_entries.Given as goal
 
 -- what lies under the nodes so far, and the path is the root's again

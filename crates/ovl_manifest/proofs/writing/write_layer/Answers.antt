@@ -3,7 +3,6 @@ use Rattle.std.specs.Prelude.{codes}
 use Rattle.serde_json.specs.Written.{compact_text}
 use Rattle.ovl_manifest.specs.Manifest.{read_layer}
 use Rattle.ovl_manifest.specs.Text.{layer_value}
-use Rattle.ovl_manifest.specs.Versions.{written}
 use Rattle.ovl_manifest.proofs.CompactLemmas.{text-back}
 use Rattle.ovl_manifest.proofs.Utf8Lemmas.{manifest-utf8}
 use Rattle.ovl_manifest.proofs.writing.write_layer.Goals as goal

@@ -11,7 +11,6 @@ use Rattle.ovl_inode.specs.declared.inodes.Kind.{Kind}
 use Rattle.ovl_inode.specs.declared.inodes.Kind.TheVariants.{Dir, File, Symlink, Char, Block, Fifo, Socket}
 use Rattle.ovl_manifest.specs.Compact.{blob_text, front_text, size_text, target_text, blob_of_kind, word_of_kind}
 use Rattle.ovl_manifest.specs.Text.{attribute_members, entry_value}
-use Rattle.ovl_manifest.specs.Versions.{written}
 use Rattle.ovl_manifest.proofs.CompactLemmas.{Grows, onto, in_turn, entry_text, seconds_text}
 use Rattle.ovl_manifest.proofs.written_entries.push_entry.Goals as goal
 
