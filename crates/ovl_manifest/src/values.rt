@@ -46,11 +46,7 @@ fn entries_of(value: &Value) -> Option<&Vec<Value>>
 }
 
 // The layer of a number and the list of the entries.
-fn layer_of_fields(
-    alloc: Global,
-    number: &Number,
-    entries: &[Value],
-) -> Result<Layer, LayerFault>
+fn layer_of_fields(alloc: Global, number: &Number, entries: &[Value]) -> Result<Layer, LayerFault>
     ensures { MatchResult result
         (λ layer. manifest.layer_of_fields (Some (number_view number.now))
         (Some (items_view entries.now)) ≡ Ok layer)
@@ -90,7 +86,12 @@ fn read_entries(alloc: Global, version: Version, values: &[Value]) -> Result<Lay
     let mut number = 0;
     for value in others {
         number += 1;
-        add_entry(alloc, &mut draft, number, read_entry(alloc, version, value)?)?;
+        add_entry(
+            alloc,
+            &mut draft,
+            number,
+            read_entry(alloc, version, value)?,
+        )?;
     }
     Ok(draft.finish()?)
 }
