@@ -81,13 +81,18 @@ class Used:
         return self.user + self.system
 
 
-def used(words: list[str], out: Sequence[str]) -> Used:
-    """What a command took that says nothing. Takes away first what it made before."""
+def clear(out: Sequence[str]) -> None:
+    """Takes away files and folders, as far as they are there."""
     for path in out:
         if os.path.isdir(path):
             shutil.rmtree(path)
         elif os.path.lexists(path):
             os.unlink(path)
+
+
+def used(words: list[str], out: Sequence[str]) -> Used:
+    """What a command took that says nothing. Takes away first what it made before."""
+    clear(out)
     began = time.monotonic()
     process = os.posix_spawnp(words[0], words, os.environ, file_actions=[
         (os.POSIX_SPAWN_OPEN, 1, os.devnull, os.O_WRONLY, 0), (os.POSIX_SPAWN_OPEN, 2, os.devnull, os.O_WRONLY, 0),
