@@ -21,7 +21,7 @@ from .archives import ArchiveReader, Layer, Store, Taking, has_contents
 from .blobs import Writer
 from .budgets import Budget, SharedBudget, UsedBudget
 from .contents import write_all
-from .faults import ENDING, OTHER, READING, WRITING, Fault, ReadFault, WriteFault, writing
+from .faults import ENDING, OTHER, READING, WRITING, Fault, ReadFault, TarFault, WriteFault, writing
 from .images import ImageLayer
 from .layer_tree import Held
 from .progress import Progress, tell_progress
@@ -29,7 +29,7 @@ from .quick_gzip import NotTaken
 from .repeats import NO_CONTENTS, Contents, Keeping, Kept, KeptLayers, Named, Repeats, counted_again, entries_at
 from .shares import usual_workers
 from .streams import Source
-from .tar_headers import Header, TarFault
+from .tar_headers import Header
 
 LEAST_BYTES = 1 << 23  # of an image's layers together, below which processes cost more than they save
 _FAULTS = {READING: ReadFault, WRITING: WriteFault}

@@ -45,6 +45,17 @@ class WriteFault(Fault):
     status = WRITING
 
 
+class TarFault(Exception):
+    """The bytes aren't a tar archive that can be read."""
+
+
+class EndsEarly(TarFault):
+    """An archive has fewer bytes than it says."""
+
+    def __init__(self) -> None:
+        super().__init__("the archive ends too early")
+
+
 def cannot_read(path: str, reason: str) -> ReadFault:
     """The fault of a path that can't be read."""
     return ReadFault(f"cannot read {path}: {reason}")

@@ -11,14 +11,14 @@ from . import squashfs
 from .archives import LayerArchive, Taking
 from .below import Below
 from .blobs import Digester, writers
-from .faults import cannot_read, reading
+from .faults import TarFault, cannot_read, reading
 from .layer_tree import Folder, Held, LayerTree, whiteout
 from .links import renumber, write_layer
 from .losses import Loss, Losses, ScanLosses
 from .places import READ_WHERE_IT_LEADS
 from .progress import Progress
 from .streams import Slice, Source, Watched, is_packed, unpacked
-from .tar_headers import BLOCK_BYTES, TarFault, parse_header
+from .tar_headers import BLOCK_BYTES, parse_header
 
 _MOST_CONTENTS = 1 << 34  # bytes of the files of a layer that is small itself
 _MOST_RATIO = 100  # contents beside the size of the file that holds them

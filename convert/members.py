@@ -11,10 +11,10 @@ from typing import Protocol
 
 from .budgets import Budget, TooMuch
 from .contents import PIECE, write_all
-from .faults import cannot_read, reading, writing
+from .faults import TarFault, cannot_read, reading, writing
 from .places import READ_WHERE_IT_LEADS
 from .streams import HEAD_BYTES, SeekingSlice, Slice, Source, is_packed, unpacked
-from .tar_headers import HARD_LINK, REGULAR_TYPES, SYMLINK, TarFault
+from .tar_headers import HARD_LINK, REGULAR_TYPES, SYMLINK
 from .tar_reader import TarReader
 
 STANDARD_INPUT = "-"

@@ -3,9 +3,8 @@
 from collections.abc import Callable, Iterator, Sequence
 
 from .budgets import Budget
-from .tar_headers import (
-    BLOCK_BYTES, SPARSE_MAJOR, SPARSE_MAP, SPARSE_NAME, SPARSE_SIZES, Header, TarFault, decimal, number,
-)
+from .faults import TarFault
+from .tar_headers import BLOCK_BYTES, SPARSE_MAJOR, SPARSE_MAP, SPARSE_NAME, SPARSE_SIZES, Header, decimal, number
 
 Read = Callable[[int], bytes]
 Places = list[tuple[int, int]]  # where data begin in the file, and how many bytes they are

@@ -14,10 +14,9 @@ from typing import IO
 
 from . import rules
 from .contents import Write
-from .faults import ENDING, ReadFault, cannot_read, cannot_write, reading
+from .faults import ENDING, EndsEarly, ReadFault, cannot_read, cannot_write, reading
 from .shares import usual_workers
 from .streams import Source
-from .tar_headers import EndsEarly
 
 MAGIC = b"hsqs"
 COMPRESSIONS = ("gzip", "xz", "zstd", "lz4")

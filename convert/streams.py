@@ -16,9 +16,8 @@ from concurrent.futures import Executor, Future, ThreadPoolExecutor
 from typing import IO, Protocol
 
 from .contents import LARGE_PIECE, LARGE_PIECES, PIECE
-from .faults import cannot_read
+from .faults import EndsEarly, TarFault, cannot_read
 from .progress import Progress
-from .tar_headers import EndsEarly, TarFault
 
 _GZIP = b"\x1f\x8b"
 _RESERVED = 0xE0  # flags in the fourth byte

@@ -7,6 +7,7 @@ import urllib.parse
 from collections.abc import Iterator
 from dataclasses import dataclass, field
 
+from .faults import TarFault
 from .times import ONE_SECOND, of_decimal
 
 BLOCK_BYTES = 512
@@ -42,17 +43,6 @@ _SAID_ENOUGH = frozenset([
 _OTHER_RECORD = b""  # stands for the key of a record that isn't read
 GNU_SPARSE = b"S"
 _SIGNED = 256
-
-
-class TarFault(Exception):
-    """The bytes aren't a tar archive that can be read."""
-
-
-class EndsEarly(TarFault):
-    """An archive has fewer bytes than it says."""
-
-    def __init__(self) -> None:
-        super().__init__("the archive ends too early")
 
 
 @dataclass(slots=True)

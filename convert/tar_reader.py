@@ -5,11 +5,12 @@ from typing import Protocol, runtime_checkable
 
 from .budgets import Budget
 from .contents import PIECE, ZEROS, Piece
+from .faults import EndsEarly, TarFault
 from .sparse import Places, old_places, record_places
 from .streams import Source
 from .tar_headers import (
-    BLOCK_BYTES, GNU_LONG_NAME, GNU_LONG_TARGET, GNU_SPARSE, PAX, PAX_GLOBAL, REGULAR_TYPES, XATTR_RECORD, EndsEarly,
-    Header, TarFault, apply_records, parse_header, parse_records,
+    BLOCK_BYTES, GNU_LONG_NAME, GNU_LONG_TARGET, GNU_SPARSE, PAX, PAX_GLOBAL, REGULAR_TYPES, XATTR_RECORD, Header,
+    apply_records, parse_header, parse_records,
 )
 
 MAX_RECORDS = 1 << 20  # bytes of the PAX records and long names of an entry; real ones have a few thousand
