@@ -22,7 +22,7 @@ from dataclasses import dataclass, replace
 import run
 from made_images import TAG, Made, many_bytes, many_files
 
-CONVERTER = [sys.executable, os.path.join(os.path.dirname(run.HERE), "layers.py")]
+CONVERTER = [sys.executable, os.path.join(os.path.dirname(run.HERE), "layers")]
 LIMIT = [sys.executable, os.path.join(run.HERE, "limit.py")]
 NEW = ["new", "new.tar", "new.gz", "store", "squashed"]  # what a command makes, which is taken away before the next one
 MEMORY = 120 * 1_000_000  # bytes of all processes together, at most

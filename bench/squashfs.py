@@ -17,7 +17,7 @@ from pathlib import Path
 
 from run import used
 
-LAYERS = [sys.executable, "-B", str(Path(__file__).resolve().parent.parent / "layers.py")]
+LAYERS = [sys.executable, "-B", str(Path(__file__).resolve().parent.parent / "layers")]
 COMPRESSION = "gzip"
 
 

@@ -10,7 +10,7 @@
 set -euo pipefail
 
 here=$(dirname -- "$(readlink -f -- "${BASH_SOURCE[0]}")")
-layers=$here/../layers.py
+layers=$here/../layers
 program=$here/../crates/ovl_layers/out/ovl_layers
 [[ -x $program ]] || program=ovl_layers
 

@@ -12,7 +12,7 @@
 set -euo pipefail
 
 here=$(dirname -- "$(readlink -f -- "${BASH_SOURCE[0]}")")
-layers=$here/../layers.py
+layers=$here/../layers
 
 for tool in mmdebstrap sqfs2tar tar2sqfs; do
     command -v "$tool" > /dev/null || { echo "$0: $tool isn't there" >&2; exit 1; }

@@ -18,7 +18,7 @@ from collections.abc import Iterator
 from kernel_stacks import mount, mounted_overlay
 from support import call
 
-from convert.stores import chain
+from convert.folder.stores import chain
 
 
 class Store:

@@ -8,10 +8,10 @@ from dataclasses import dataclass, field
 
 from support import ROOT  # noqa: F401  (sets the path of the modules)
 
-from convert import rules
-from convert.entries import BLOCK, CHAR, DIRECTORY, FIFO, FILE, HOST_MARKS, SOCKET, SYMLINK, Entry
-from convert.manifests import written
-from convert.times import ONE_SECOND
+from convert.model import rules
+from convert.model.entries import BLOCK, CHAR, DIRECTORY, FIFO, FILE, HOST_MARKS, SOCKET, SYMLINK, Entry
+from convert.model.manifests import written
+from convert.model.times import ONE_SECOND
 
 _NAMES = (
     "a", "b", "bin", "etc", "x.conf", "a b", " ", "back\\slash", "quote\"d", "é", "日本", "new\nline",

@@ -25,7 +25,7 @@ from difflib import unified_diff
 
 from support import call
 
-from convert.times import ONE_SECOND
+from convert.model.times import ONE_SECOND
 
 _NAMES = ("a", "b", "c", "d", "e f", "é", "back\\slash")
 _MAKING = "redirect_dir=on,metacopy=on"

@@ -11,10 +11,10 @@ from dataclasses import dataclass
 
 from support import ROOT  # noqa: F401  (sets the path of the modules)
 
-from convert import rules
-from convert.entries import CHAR, DIRECTORY, FILE, METACOPY, OPAQUE, REDIRECT, SYMLINK, WHITEOUT, Entry
-from convert.texts import escaped
-from convert.times import shown as shown_time
+from convert.model import rules
+from convert.model.entries import CHAR, DIRECTORY, FILE, METACOPY, OPAQUE, REDIRECT, SYMLINK, WHITEOUT, Entry
+from convert.common.escaping import escaped
+from convert.model.times import shown as shown_time
 
 Path = tuple[str, ...]
 Layer = Mapping[Path, Entry]

@@ -12,14 +12,14 @@ import unittest
 from pathlib import Path
 
 ROOT = Path(__file__).resolve().parents[2]
-COMMAND = ROOT / "layers.py"
+COMMAND = ROOT / "layers"
 ROOT_LAYER = ROOT / "examples" / "root.json"  # a layer of a root alone
 PROGRAM = ROOT / "crates" / "ovl_layers" / "out" / "ovl_layers"
 sys.path.insert(0, str(ROOT))
 sys.dont_write_bytecode = True
 
-from convert import command  # noqa: E402
-from convert.attributes import can_read_trusted  # noqa: E402
+from convert import cli as command  # noqa: E402
+from convert.model.attributes import can_read_trusted  # noqa: E402
 
 
 def program_words() -> list[str]:
@@ -49,7 +49,7 @@ def run(*words: object, **more: object) -> "subprocess.CompletedProcess[str]":
 _AS_ANYBODY = """
 import os, sys
 sys.path.insert(0, sys.argv[1])
-from convert.command import main
+from convert.cli import main
 if os.geteuid() == 0:
     os.setgid(65534)
     os.setuid(65534)

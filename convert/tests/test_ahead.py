@@ -16,9 +16,10 @@ from unittest import mock
 from images import archive, folder, member, packed, write_layout
 from support import ROOT, FolderTest, call
 
-from convert import ahead, budgets
-from convert.contents import LARGE_PIECE, PIECE
-from convert.quick_gzip import find_program
+from convert.image import ahead
+from convert.common import budgets
+from convert.common.contents import LARGE_PIECE, PIECE
+from convert.image.quick_gzip import find_program
 
 IMAGES = 40
 _SIZES = (0, 1, 511, 512, 513, 5_000, PIECE - 1, PIECE, PIECE + 1, LARGE_PIECE + 12_345)
@@ -26,8 +27,8 @@ _STARTED = "started"
 _WAITING = f"""
 import os, sys, time
 sys.path.insert(0, sys.argv[1])
-from convert import ahead
-from convert.command import main
+from convert.image import ahead
+from convert.cli import main
 def read(self, take):
     with open(sys.argv[2], "a") as file:
         file.write(f"{{os.getpid()}}\\n")
@@ -45,11 +46,11 @@ class AheadTest(FolderTest):
     def side_by_side(self, is_quick: bool = False) -> Iterator[mock.Mock]:
         """Has images of any size read by several processes, whose start is noted."""
         with (
-            mock.patch("convert.ahead.LEAST_BYTES", 0), mock.patch("convert.ahead.usual_workers", return_value=3),
-            mock.patch("convert.ahead._Worker", wraps=ahead._Worker) as worker, contextlib.ExitStack() as more,
+            mock.patch("convert.image.ahead.LEAST_BYTES", 0), mock.patch("convert.image.ahead.usual_workers", return_value=3),
+            mock.patch("convert.image.ahead._Worker", wraps=ahead._Worker) as worker, contextlib.ExitStack() as more,
         ):
             if not is_quick:
-                more.enter_context(mock.patch("convert.images.find_program", return_value=None))
+                more.enter_context(mock.patch("convert.image.images.find_program", return_value=None))
             yield worker
 
     def unpacked(self, *words: str) -> tuple[object, dict[str, bytes]]:
@@ -121,7 +122,7 @@ class Same(AheadTest):
                 self.unpacked(*words)
             self.assertEqual(worker.call_count, count)
             self.empty()
-        with mock.patch("convert.ahead._Worker", side_effect=AssertionError):
+        with mock.patch("convert.image.ahead._Worker", side_effect=AssertionError):
             write_layout(self.path("image"), two)
             self.assertEqual(self.unpacked()[0][0], 0)  # type: ignore[index]
 
@@ -172,7 +173,7 @@ class Ended(AheadTest):
         def read(_: object, __: object) -> None:
             os.kill(os.getpid(), signal.SIGKILL)
 
-        with self.side_by_side(), mock.patch("convert.ahead.ArchiveReader.read", read):
+        with self.side_by_side(), mock.patch("convert.image.ahead.ArchiveReader.read", read):
             result, files = self.unpacked()
         self.require_fault(result, 5, "a process that reads layers was ended")  # type: ignore[arg-type]
         self.assertEqual(files, {})

@@ -25,10 +25,10 @@ from unittest import mock
 
 from support import COMMAND, ROOT, ROOT_LAYER, FolderTest, call, links, run, run_as_anybody, why_no_trusted
 
-from convert import places
-from convert.compression import BLOCK, GZIP, packing
-from convert.entries import Entry
-from convert.manifests import read_manifest
+from convert.common import open_dirs as places
+from convert.image.compression import BLOCK, GZIP, packing
+from convert.model.entries import Entry
+from convert.model.manifests import read_manifest
 
 A = hashlib.sha256(b"a").hexdigest()
 COMMANDS = ("scan", "store", "build", "unpack", "pack", "flatten", "mounted")
@@ -179,12 +179,12 @@ class Scanning(CommandTest):
     def test_the_number_of_entries(self) -> None:
         os.makedirs(self.path("in", "a", "b"))
         os.mkdir(self.path("in", "c"))
-        with mock.patch("convert.rules.MAX_ENTRIES", 3):
+        with mock.patch("convert.model.rules.MAX_ENTRIES", 3):
             self.require_fault(self.scan(), 3, "/c: the folder has over 3 entries")
             self.require_nothing_left("in")
             self.require_done(self.scan("--skip-unsupported"))
             self.assertEqual(self.paths(), ["/", "/a", "/a/b"])
-        with mock.patch("convert.rules.MAX_ENTRIES", 4):
+        with mock.patch("convert.model.rules.MAX_ENTRIES", 4):
             self.require_done(self.scan())
 
     def test_a_folder_that_becomes_a_link(self) -> None:
@@ -203,7 +203,7 @@ class Scanning(CommandTest):
         with open(self.path("in", "f"), "wb") as file:
             file.write(b"abc")
         for size in (2, 4, 1 << 20):
-            with mock.patch("convert.scan.Survey.entries") as entries:
+            with mock.patch("convert.folder.scan.Survey.entries") as entries:
                 entries.return_value = [Entry("/", "dir", 0), Entry("/f", "file", 0, size=size)]
                 self.require_fault(self.scan(), 3, "/in/f: it was changed meanwhile")
                 words = ("scan", self.path("in"), "--out", self.path("out.json"), "--digests-only", "--userxattr")
@@ -498,7 +498,7 @@ class Stages(CommandTest):
 
     def test_a_full_disk(self) -> None:
         limit = "import resource, sys; resource.setrlimit(resource.RLIMIT_FSIZE, (50_000, 50_000)); "
-        start = f"sys.path.insert(0, {str(ROOT)!r}); from convert.command import main; sys.exit(main(sys.argv[1:]))"
+        start = f"sys.path.insert(0, {str(ROOT)!r}); from convert.cli import main; sys.exit(main(sys.argv[1:]))"
         for size in (100_000, 1_000_000):
             with open(self.path("in", "f"), "wb") as file:
                 file.write(os.urandom(size))
@@ -578,7 +578,7 @@ class Packing(CommandTest):
 
     def test_without_the_zstd_program(self) -> None:
         layer = self.write_manifest()
-        with mock.patch("convert.compression.shutil.which", return_value=None):
+        with mock.patch("convert.image.compression.shutil.which", return_value=None):
             words = ("--blobs", self.path("blobs"), "--out", self.path("image"), "--compress", "zstd")
             self.require_fault(call("pack", layer, *words), 5, "there is no zstd program")
         self.require_nothing_left("blobs", "l.json")

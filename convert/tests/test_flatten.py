@@ -60,7 +60,7 @@ class FlattenTest(FolderTest):
 
     def use(self, program: str) -> None:
         """Has the command find this program."""
-        for name in ("convert.flatten.find_program", "convert.program.find_program"):
+        for name in ("convert.flatten.image.find_program", "convert.common.program.find_program"):
             patch = mock.patch(name, return_value=program)
             patch.start()
             self.addCleanup(patch.stop)
@@ -177,8 +177,8 @@ class Steps(FlattenTest):
         tool.write_text(f"""import sys
 sys.path.insert(0, {str(ROOT)!r})
 from unittest import mock
-from convert import command
-with mock.patch("convert.program.find_program", return_value={self.program!r}):
+from convert import cli as command
+with mock.patch("convert.common.program.find_program", return_value={self.program!r}):
     sys.exit(command.main(sys.argv[1:]))
 """, encoding="utf-8")
         words = [sys.executable, "-B", tool, "flatten", self.image, "--out", "oci-archive:-:x:1"]
@@ -362,7 +362,7 @@ class Processes(FlattenTest):
         super().setUp()
         ignored = shutil.ignore_patterns("tests", "__pycache__")
         shutil.copytree(ROOT / "convert", self.path("in", "lib", "ovl_layers", "convert"), ignore=ignored)
-        shutil.copy(ROOT / "layers.py", self.path("in", "lib", "ovl_layers", "layers.py"))
+        shutil.copy(ROOT / "layers", self.path("in", "lib", "ovl_layers", "layers"))
 
     def place(self, *names: str, says: str = "entries 1") -> None:
         """Puts a program somewhere."""
@@ -374,7 +374,7 @@ class Processes(FlattenTest):
 
     def words(self, *more: str) -> list[str]:
         """The words that run the command."""
-        tool = self.path("in", "lib", "ovl_layers", "layers.py")
+        tool = self.path("in", "lib", "ovl_layers", "layers")
         return [sys.executable, "-B", tool, "flatten", self.image, "--out", self.path("all", "flat"), *more]
 
     def test_where_the_program_is_found(self) -> None:

@@ -13,7 +13,7 @@ from squashfs_files import from_archive, require
 from support import FolderTest, call, program_words, why_no_trusted
 from test_kernel import IN_A_NAMESPACE, why_no_overlay
 
-from convert.manifests import read_manifest
+from convert.model.manifests import read_manifest
 
 STACKS = 6
 SEED = 2
@@ -56,7 +56,7 @@ class StackTest(FolderTest):
         """Skips a test where the program isn't built."""
         if not self.program:
             self.skipTest("needs the built program")
-        for name in ("convert.flatten.find_program", "convert.program.find_program"):
+        for name in ("convert.flatten.image.find_program", "convert.common.program.find_program"):
             patch = mock.patch(name, return_value=self.program[0])
             patch.start()
             self.addCleanup(patch.stop)

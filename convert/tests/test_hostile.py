@@ -22,9 +22,9 @@ from unittest import mock
 from images import archive, folder, member, packed, put_index, put_manifest, write_layout, write_saved
 from support import FolderTest, call, run
 
-from convert import command
-from convert.streams import Digesting
-from convert.tar_headers import pax_record
+from convert import cli as command
+from convert.common.streams import Digesting
+from convert.tar.headers import pax_record
 
 GIGABYTE = 1 << 30
 BOMB_BYTES = GIGABYTE
@@ -213,7 +213,7 @@ class Broken(HostileTest):
     def test_one_digest_of_a_plain_layer(self) -> None:
         plain = archive([member("f", b"a")])
         write_layout(self.path("image"), [plain, packed(plain)], [plain, plain])
-        with mock.patch("convert.archives.Digesting", wraps=Digesting) as digesting:
+        with mock.patch("convert.image.archives.Digesting", wraps=Digesting) as digesting:
             self.require_done(call("unpack", self.path("image"), "--out", self.path("out")))
         self.assertEqual(digesting.call_count, 1)
 

@@ -17,9 +17,9 @@ from images import (
 )
 from support import FolderTest, call, links
 
-from convert.entries import Entry
-from convert.links import links_path
-from convert.manifests import read_manifest
+from convert.model.entries import Entry
+from convert.model.links import links_path
+from convert.model.manifests import read_manifest
 
 A = hashlib.sha256(b"a").hexdigest()
 PLAIN = [folder("d"), member("d/f", b"a")]
@@ -108,7 +108,7 @@ class Entries(ImageTest):
             ([*inner, member("u"), member("v"), member("w")], False), ([member("a/b/c"), member(".wh.d")], False),
         ):
             write_layout(self.path("image"), [archive(members)])
-            with mock.patch("convert.rules.MAX_ENTRIES", 4):
+            with mock.patch("convert.model.rules.MAX_ENTRIES", 4):
                 result = call("unpack", self.path("image"), "--out", self.path("out"))
             if is_good:
                 self.require_done(result)
@@ -213,7 +213,7 @@ class Forms(ImageTest):
         data = subprocess.run(["zstd", "-q", "-c"], input=plain, capture_output=True, check=True).stdout
         write_layout(self.path("image"), [data], [plain])
         self.assertEqual(self.layers(), [PLAIN_SHOWN])
-        with mock.patch("convert.streams.shutil.which", return_value=None):
+        with mock.patch("convert.common.streams.shutil.which", return_value=None):
             result = call("unpack", self.path("image"), "--out", self.path("out"))
         self.require_fault(result, 3, "packed by zstd", "install zstd")
         shutil.rmtree(self.path("image"))

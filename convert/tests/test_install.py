@@ -5,6 +5,7 @@ import re
 import shutil
 import subprocess
 import unittest
+from pathlib import Path
 from unittest import mock
 
 from support import PROGRAM, ROOT, FolderTest, call
@@ -89,6 +90,12 @@ class Pages(unittest.TestCase):
             self.assertEqual((result.returncode, result.stderr), (0, ""))
 
 
+def modules(folder: Path) -> set[Path]:
+    """The files of the converter in a folder, as they lie there."""
+    found = {path.relative_to(folder) for path in folder.rglob("*") if path.suffix in (".py", ".css", ".js")}
+    return {path for path in found if path.parts[0] != "tests"}
+
+
 class Installing(FolderTest):
     """`install` from a copy of the repository whose program is a script."""
 
@@ -97,7 +104,7 @@ class Installing(FolderTest):
         copy = self.path("repository")
         shutil.copytree(ROOT / "convert", f"{copy}/convert", ignore=shutil.ignore_patterns("tests", "__pycache__"))
         shutil.copytree(ROOT / "man", f"{copy}/man")
-        for name in ("install", "layers.py"):
+        for name in ("install", "layers"):
             shutil.copy(ROOT / name, f"{copy}/{name}")
         os.makedirs(f"{copy}/crates/ovl_layers/out")
         for name in ("ovl_layers", "crates/ovl_layers/out/ovl_layers"):
@@ -128,8 +135,7 @@ class Installing(FolderTest):
             self.assertEqual(result.returncode, 0, result.stderr)
         prefix = self.path("new prefix")
         self.assertEqual(self.there(prefix), INSTALLED)
-        modules = {path.name for path in (ROOT / "convert").iterdir() if path.suffix in (".py", ".css", ".js")}
-        self.assertEqual(set(os.listdir(f"{prefix}/lib/ovl_layers/convert")) - {"__pycache__"}, modules)
+        self.assertEqual(modules(Path(prefix, "lib", "ovl_layers", "convert")), modules(ROOT / "convert"))
         shown = subprocess.run([f"{prefix}/bin/ovl_layers"], capture_output=True, text=True, check=True)
         self.assertEqual(shown.stdout, "the program\n")
         os.rename(prefix, self.path("moved"))

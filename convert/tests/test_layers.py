@@ -10,9 +10,9 @@ import unittest
 from images import archive, folder, member, packed, write_layout
 from support import FolderTest, call
 
-from convert.entries import Entry
-from convert.manifests import read_manifest
-from convert.times import shown
+from convert.model.entries import Entry
+from convert.model.manifests import read_manifest
+from convert.model.times import shown
 
 Member = tuple[tarfile.TarInfo, bytes]
 OPAQUE = "trusted.overlay.opaque"

@@ -7,8 +7,8 @@ from typing import Any
 
 from support import ROOT, FolderTest, call
 
-from convert.entries import Entry
-from convert.manifests import read_manifest, written
+from convert.model.entries import Entry
+from convert.model.manifests import read_manifest, written
 
 FIRST = b'{"entries":[{"gid":0,"kind":"dir","mode":493,"mtime":0,"path":"/","uid":0,"xattrs":{}}],"overlay-layer":1}\n'
 SECOND = (

@@ -16,7 +16,7 @@ from images import archive, folder, member, put_index, put_manifest
 from support import call, program_words, run
 from test_sizes import SizesTest
 
-from convert.size_map import FILE, FOLDER, REST, Map, Place, json_text, map_of
+from convert.sizes.map import FILE, FOLDER, REST, Map, Place, json_text, map_of
 
 _EVIL = '<img src=x onerror="document.title=1">'
 _SCRIPT = "<script>alert(1)<"  # with the slash of its end a name can't have

@@ -13,9 +13,9 @@ from unittest import mock
 from images import archive, folder, member, packed, write_layout
 from support import COMMAND, FolderTest, call
 
-from convert.links import take_links
-from convert.manifests import read_manifest
-from convert.room import least_archive, least_shown
+from convert.model.links import take_links
+from convert.model.manifests import read_manifest
+from convert.tar.disk_space import least_archive, least_shown
 
 FREE = 4_096
 BYTES = 100_000
@@ -45,7 +45,7 @@ class Room(FolderTest):
         with open(program, "w", encoding="utf-8") as file:
             file.write(_STAND_IN)
         os.chmod(program, 0o755)
-        self.enterContext(mock.patch("convert.program.find_program", return_value=program))
+        self.enterContext(mock.patch("convert.common.program.find_program", return_value=program))
         stack = self.path("stack")
         self.packing = ("pack", f"{stack}/l0.json", "--blobs", f"{stack}/blobs", "--config", f"{stack}/config.json")
         self.building = ("build", f"{stack}/l0.json", "--blobs", f"{stack}/blobs")
@@ -59,8 +59,8 @@ class Room(FolderTest):
         ):
             system = SimpleNamespace(f_blocks=1, f_bfree=1, f_bavail=1, f_frsize=FREE)
             with self.subTest(words=words, name=name), mock.patch("os.statvfs", return_value=system), \
-                    mock.patch("convert.build.may_clone", return_value=False), \
-                    mock.patch("convert.outputs.Stage", side_effect=AssertionError) as stage:
+                    mock.patch("convert.folder.build.may_clone", return_value=False), \
+                    mock.patch("convert.common.outputs.Stage", side_effect=AssertionError) as stage:
                 if words[0] == "flatten":
                     stage.side_effect = None
                     stage.return_value.path = self.path("stage")

@@ -10,8 +10,8 @@ from generator import Generator, RandomLayer, Style, write_layer
 from images import write_layout
 from support import FolderTest, call, why_no_trusted
 
-from convert.manifests import read_manifest
-from convert.times import ONE_SECOND
+from convert.model.manifests import read_manifest
+from convert.model.times import ONE_SECOND
 
 LAYERS = 300
 STACKS = 100

@@ -14,14 +14,14 @@ from images import archive, folder, member, packed, put_index, put_manifest
 from plain_stacks import PlainSizes, PlainStack, random_stack
 from support import FolderTest, call, program_words, why_no_trusted
 
-from convert import command
-from convert.entries import DIRECTORY, REDIRECT, SYMLINK, Entry
-from convert.faults import ReadFault
-from convert.layer_sizes import sizes_of
-from convert.links import count_links, links_path
-from convert.manifests import read_manifest, written
-from convert.shown_tree import ShownTree
-from convert.size_texts import Origin, json_text, size_text
+from convert import cli as command
+from convert.model.entries import DIRECTORY, REDIRECT, SYMLINK, Entry
+from convert.common.faults import ReadFault
+from convert.sizes.layer_sizes import sizes_of
+from convert.model.links import count_links, links_path
+from convert.model.manifests import read_manifest, written
+from convert.sizes.shown_tree import ShownTree
+from convert.sizes.texts import Origin, json_text, size_text
 
 _STACKS = 200
 _WITH_PROGRAM = 20
@@ -72,8 +72,8 @@ class SizesTest(FolderTest):
 
     def setUp(self) -> None:
         super().setUp()
-        found = mock.patch("convert.sizes.require_program", return_value="none")
-        run = mock.patch("convert.sizes.run_program", autospec=True, side_effect=plain_program)
+        found = mock.patch("convert.sizes.command.require_program", return_value="none")
+        run = mock.patch("convert.sizes.command.run_program", autospec=True, side_effect=plain_program)
         found.start()
         self.program = run.start()
         self.addCleanup(found.stop)
@@ -174,7 +174,7 @@ class Telling(SizesTest):
         self.write_image()
         told = Terminal()
         with contextlib.redirect_stderr(told), contextlib.redirect_stdout(io.StringIO()):
-            with mock.patch("convert.progress._EVERY", 0):
+            with mock.patch("convert.common.progress._EVERY", 0):
                 self.assertEqual(command.main(["sizes", self.path("image")]), 0)
         whole = re.findall(r"\r(checking|unpacking) bytes of ([0-9a-f]{20}): ([\d,]+) of \3 *\r", told.getvalue())
         self.assertEqual(len(set(whole)), 2 * len(_LAYERS), told.getvalue())

@@ -15,11 +15,11 @@ from images import archive, folder, member, write_layout
 from squashfs_files import doubling, from_archive, require, spoilt, turned
 from support import COMMAND, ROOT, FolderTest, call, run, why_no_trusted
 
-from convert import layer_files
-from convert.entries import Entry
-from convert.fitting import fitted
-from convert.losses import Losses
-from convert.manifests import read_manifest, written
+from convert.squashfs import layer_files
+from convert.model.entries import Entry
+from convert.squashfs.limits import fitted
+from convert.common.omissions import Losses
+from convert.model.manifests import read_manifest, written
 
 MARK = {"SCHILY.xattr.trusted.overlay.opaque": "y"}
 LAYERS = 30
@@ -168,8 +168,8 @@ class Building(FileTest):
         text = (ROOT / "convert" / "README.md").read_text(encoding="utf-8")
         chapter = text.split("## Between images and squashfs\n", 1)[1].split("\n## ", 1)[0]
         commands = [line.strip() for line in chapter.splitlines() if line.startswith("    ")]
-        self.write("layers.py", f"#!/bin/sh\nexec {sys.executable} -B {COMMAND} \"$@\"\n".encode())
-        os.chmod(self.path("layers.py"), 0o755)
+        self.write("layers", f"#!/bin/sh\nexec {sys.executable} -B {COMMAND} \"$@\"\n".encode())
+        os.chmod(self.path("layers"), 0o755)
         lower = [folder("./"), folder("d"), member("d/f", b"1"), member("g", kind=tarfile.LNKTYPE, target="d/f")]
         upper = [folder("d"), member("d/.wh..wh..opq"), member(".wh.g"), member("d/h", b"2")]
         write_layout(self.path("image"), [archive(lower), archive(upper)])

@@ -12,7 +12,7 @@ from kernel_stacks import Store
 from support import FolderTest, call, links, run_as_anybody
 from test_kernel import why_no_overlay
 
-from convert.manifests import read_manifest
+from convert.model.manifests import read_manifest
 
 _SCRIPT = Path(__file__).with_name("buildah_store.py")
 

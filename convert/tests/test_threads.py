@@ -9,8 +9,8 @@ from unittest import mock
 
 from support import ROOT  # noqa: F401
 
-from convert.contents import LARGE_PIECE, DigestedBeside
-from convert.streams import Digesting, Reader, read_ahead
+from convert.common.contents import LARGE_PIECE, DigestedBeside
+from convert.common.streams import Digesting, Reader, read_ahead
 
 DATA = random.Random(1).randbytes(9 * LARGE_PIECE + 12_345)
 WAIT = 0.005  # seconds
@@ -94,7 +94,7 @@ class Threads(unittest.TestCase):
 
     def test_digested_beside(self) -> None:
         pick, place, handed = random.Random(3), 0, bytearray()
-        with mock.patch("convert.contents.hashlib.sha256", _SlowDigest), DigestedBeside(handed.extend) as archive:
+        with mock.patch("convert.common.contents.hashlib.sha256", _SlowDigest), DigestedBeside(handed.extend) as archive:
             while place < len(DATA):
                 count = pick.choice((0, 1, 512, 100_000, 3 * LARGE_PIECE))
                 archive.write(DATA[place:place + count])

@@ -1,0 +1,130 @@
+"""The proved program, run on manifests."""
+
+import contextlib
+import os
+import shutil
+import signal
+import subprocess
+import sys
+from collections.abc import Iterator, Sequence
+from pathlib import Path
+from typing import IO
+
+from .faults import ENDING, FAULTY, OTHER, Fault, ReadFault, reading, writing
+
+NAME = "ovl_layers"
+_HERE = Path(__file__).resolve().parents[2]
+_BUILT = _HERE / "crates" / NAME / "out" / NAME  # in the repository
+_INSTALLED = _HERE.parents[1] / "bin" / NAME  # of PREFIX/lib/ovl_layers, where `install` puts this converter
+# What each command is told that reads contents.
+_WORDS_ON_CONTENTS: tuple[str, ...] = ("--any-size",)
+_LAST_BYTES = 4_096
+
+
+class Refused(Fault):
+    """The program ended with this status, and has said why."""
+
+    def __init__(self, text: str, status: int) -> None:
+        super().__init__(text)
+        self.status = status
+
+
+def find_program() -> str | None:
+    """The built program: beside this converter, or on the PATH."""
+    places = [_BUILT] + ([_INSTALLED] if _HERE.parts[-2:] == ("lib", NAME) else [])
+    for place in places:
+        if place.is_file() and os.access(place, os.X_OK):
+            return str(place)
+    return shutil.which(NAME)
+
+
+def require_program() -> str:
+    """The same, or a fault that says how to get it."""
+    program = find_program()
+    if program is None:
+        raise ReadFault(
+            f"the program {NAME} is neither beside this one nor on the PATH; build it by "
+            "`./ovl_layers show examples/root.json` in its repository, or install it"
+        )
+    return program
+
+
+def makes_layers(what: str) -> bool:
+    """Whether a command writes new layers into a folder."""
+    return what not in ("show", "fsck")
+
+
+def words_of(
+    what: str, layers: Sequence[str], blobs: str, out: str, data_layers: int = 0, own: Sequence[str] = (),
+) -> list[str]:
+    """A command of the program with its own words, and the folders, which are given to those that take them."""
+    words = [what, *own]
+    if data_layers:
+        words += ["--data-layers", str(data_layers)]
+    if what != "show":
+        words += [*_WORDS_ON_CONTENTS, "--blobs", word_of_path(blobs)]
+    if makes_layers(what):
+        words += ["--out", word_of_path(out)]
+    return [*words, *map(word_of_path, layers)]
+
+
+def word_of_path(path: str) -> str:
+    """A path as a word that isn't taken for an option."""
+    return f"./{path}" if path.startswith("-") else path
+
+
+def run_program(program: str, words: Sequence[str], report: str, faults: IO[str]) -> str:
+    """Runs it, with its report into a file. Gives the report's last line, which sums it up.
+
+    What it refuses is told as it is: its own words, or the report, among the faults, where that tells of any.
+    """
+    with writing(report), open(report, "xb") as file, _running([program, *words], file) as process:
+        told = process.communicate()[1]
+    print(told.decode("utf-8", "replace"), end="", file=sys.stderr)
+    status = process.returncode
+    if status == FAULTY:
+        _copy(report, faults)
+    if status < 0:
+        raise Refused(f"{NAME} {words[0]} was ended by signal {-status}; nothing is written", OTHER)
+    if status > 0:
+        raise Refused(f"{NAME} {words[0]} ended with status {status}; nothing is written", status)
+    return _last_line(report)
+
+
+@contextlib.contextmanager
+def _running(words: Sequence[str], report: IO[bytes]) -> Iterator["subprocess.Popen[bytes]"]:
+    """A process that ends with this one's work: signals wait while it is started, so that none leaves it alone."""
+    mask = signal.pthread_sigmask(signal.SIG_BLOCK, ENDING)
+    try:
+        with _start(words, report, mask) as process:
+            try:
+                signal.pthread_sigmask(signal.SIG_SETMASK, mask)
+                yield process
+            except BaseException:
+                process.kill()
+                process.wait()
+                raise
+    finally:
+        signal.pthread_sigmask(signal.SIG_SETMASK, mask)
+
+
+def _start(words: Sequence[str], report: IO[bytes], mask: set[int]) -> "subprocess.Popen[bytes]":
+    try:
+        return subprocess.Popen(
+            words, stdin=subprocess.DEVNULL, stdout=report, stderr=subprocess.PIPE,
+            preexec_fn=lambda: signal.pthread_sigmask(signal.SIG_SETMASK, mask),
+        )
+    except OSError as error:
+        raise ReadFault(f"cannot run {words[0]}: {error.strerror}") from error
+
+
+def _copy(report: str, out: IO[str]) -> None:
+    with reading(report), open(report, encoding="ascii", errors="backslashreplace", newline="") as file:
+        shutil.copyfileobj(file, out)
+    out.flush()
+
+
+def _last_line(report: str) -> str:
+    with reading(report), open(report, "rb") as file:
+        file.seek(max(0, os.path.getsize(report) - _LAST_BYTES))
+        return file.read().decode("ascii", "backslashreplace").rstrip("\n").rpartition("\n")[2]
