@@ -21,6 +21,8 @@ import sys
 import tempfile
 from collections.abc import Iterator, Sequence
 
+sys.path.append(os.path.join(os.path.dirname(__file__), "..", "tests", "makers"))
+
 import run
 from entries import entry
 from generate import LAST

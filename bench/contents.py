@@ -21,6 +21,8 @@ from collections.abc import Callable
 from dataclasses import dataclass
 from typing import BinaryIO
 
+sys.path.append(os.path.join(os.path.dirname(__file__), "..", "tests", "makers"))
+
 import run
 from entries import entry
 from small_layers import write

@@ -20,6 +20,8 @@ from collections.abc import Callable
 from dataclasses import dataclass
 from pathlib import Path
 
+sys.path.append(os.path.join(os.path.dirname(__file__), "..", "tests", "makers"))
+
 import commands
 import instructions
 import run

@@ -21,6 +21,8 @@ import tempfile
 from collections.abc import Callable, Iterator, Sequence
 from dataclasses import dataclass
 
+sys.path.append(os.path.join(os.path.dirname(__file__), "..", "tests", "makers"))
+
 import instructions
 import run
 import shapes

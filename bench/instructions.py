@@ -20,6 +20,8 @@ import tempfile
 from collections.abc import Iterator, Sequence
 from pathlib import Path
 
+sys.path.append(os.path.join(os.path.dirname(__file__), "..", "tests", "makers"))
+
 import commands
 import run
 from generate import LAST, MOST_NAMES

@@ -23,7 +23,7 @@ from collections.abc import Sequence
 from dataclasses import dataclass
 
 HERE = os.path.dirname(os.path.abspath(__file__))
-GENERATE = os.path.join(HERE, "generate.py")
+GENERATE = os.path.join(os.path.dirname(HERE), "tests", "makers", "generate.py")
 GNU_TIME = "/usr/bin/time"
 READ_ONE = "import json,sys; json.load(sys.stdin)"
 READ_ALL = "import json,sys; [json.load(open(f)) for f in sys.argv[1:]]"

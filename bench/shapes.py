@@ -4,7 +4,11 @@ from __future__ import annotations
 import functools
 import hashlib
 import json
+import os
+import sys
 from collections.abc import Iterable, Mapping
+
+sys.path.append(os.path.join(os.path.dirname(__file__), "..", "tests", "makers"))
 
 from entries import METACOPY, OPAQUE, REDIRECT, Entry, entry
 from generate import LAST

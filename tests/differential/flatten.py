@@ -9,7 +9,7 @@ the stack showed at first, byte for byte. The layer that is left must be that of
 
 Where a stack has no folder `blobs`, stand-ins serve for its contents, as in twice.py.
 
-    python3 bench/flatten.py --program ./ovl_layers examples/renamed examples/copied
+    python3 tests/differential/flatten.py --program ./ovl_layers examples/renamed examples/copied
 """
 import os
 import sys

@@ -10,7 +10,7 @@ the seed and its number alone.
 The other reading is a command that takes the words of `show` (docs/FORMATS.md), reads the manifests, prints the report
 or the line of the fault, and ends with the status that stand there; as another build of the program does.
 
-    python3 bench/spoilt.py --program ./ovl_layers --oracle 'python3 reading.py'
+    python3 tests/differential/spoilt.py --program ./ovl_layers --oracle 'python3 reading.py'
 """
 import collections
 import concurrent.futures
@@ -26,6 +26,8 @@ import tempfile
 from collections.abc import Callable, Sequence
 from dataclasses import dataclass
 from typing import Any
+
+sys.path.append(os.path.join(os.path.dirname(__file__), "..", "makers"))
 
 from cases import add_oracle, oracle_of, show_sorts, words_of
 from entries import METACOPY, NSEC

@@ -13,7 +13,7 @@ here=$(dirname -- "$(readlink -f -- "${BASH_SOURCE[0]}")")
 folder=$(mktemp -d)
 trap 'rm -rf -- "$folder"' EXIT
 cd -- "$folder" || exit 1
-cp -- "$here/../root.json" root.json
+cp -- "$here/../../../examples/root.json" root.json
 
 same=0 other=0
 # The manifest of the file `case` under the words after NAME: this status, and this line, the last of the report or what

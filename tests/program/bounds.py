@@ -9,7 +9,7 @@ as it was bounded. The same program takes the same number of instructions, but f
 environment. Where a worker took a lock for each directory that would be few instructions more, so those that no other
 processor's may come between are counted apart.
 
-    python3 bench/bounds.py --program crates/ovl_layers/out/ovl_layers
+    python3 tests/program/bounds.py --program crates/ovl_layers/out/ovl_layers
 """
 import argparse
 import hashlib
@@ -18,6 +18,9 @@ import shutil
 import sys
 import tempfile
 from dataclasses import dataclass
+
+sys.path.append(os.path.join(os.path.dirname(__file__), "..", "..", "bench"))
+sys.path.append(os.path.join(os.path.dirname(__file__), "..", "makers"))
 
 from entries import METACOPY, NSEC, REDIRECT, Entry, entry
 from instructions import instructions, locked

@@ -9,7 +9,7 @@ layer that the one before made into the next, or of the first that ends otherwis
 Where it gives layers, the stack with these must show the same, and one layer that is left alone what `flatten` makes. A
 number that is none, or too great, must be refused.
 
-    python3 bench/down.py --program ./ovl_layers
+    python3 tests/differential/down.py --program ./ovl_layers
 """
 import collections
 import concurrent.futures
@@ -19,6 +19,9 @@ import sys
 import tempfile
 from collections.abc import Iterator
 from dataclasses import replace
+
+sys.path.append(os.path.join(os.path.dirname(__file__), "..", "makers"))
+sys.path.append(os.path.join(os.path.dirname(__file__), "..", "program"))
 
 import ample
 import beside

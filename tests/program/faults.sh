@@ -2,7 +2,7 @@
 # Runs PROGRAM on files and folders that can't be read or written, on words that don't fit and on what its command
 # refuses, and compares status, standard output and standard error with what docs/FORMATS.md says. The program may take
 # 3 GB of memory, fewer than the blobs of one of the folders have. Calls of the system that fail are made so by
-# ../refuse.c, which stands before the C library and which the compiler of `rt` builds.
+# refuse.c, which stands before the C library and which the compiler of `rt` builds.
 set -uo pipefail
 ulimit -v 3000000
 
@@ -11,7 +11,7 @@ if (($# != 1)); then
     exit 2
 fi
 program=$(readlink -f -- "$1")
-bench=$(dirname -- "$(dirname -- "$(readlink -f -- "${BASH_SOURCE[0]}")")")
+here=$(dirname -- "$(readlink -f -- "${BASH_SOURCE[0]}")")
 folder=$(mktemp -d)
 trap 'rm -rf -- "$folder"' EXIT
 cd -- "$folder" || exit 1
@@ -187,7 +187,7 @@ done
 printf '{"entries":[%s%s],"overlay-layer":2}\n' "$root" "$pipes" > pipes.json
 printf '[]' > shape.json
 : > empty.json
-python3 -B "$bench/refusals.py" --library refuse.so || exit 1
+python3 -B "$here/refusals.py" --library refuse.so || exit 1
 mkdir blobs wrong short hollow most eight none bad.utf8 large flood closed folder.json
 printf abc > "blobs/$abc"
 printf note > blobs/note

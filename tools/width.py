@@ -6,8 +6,8 @@ The change is told as `git diff` takes it, so `COMMIT..` is all that was committ
 stand for has to look at. The last row leaves out examples, and files that a script makes.
 Python 3.11 and git.
 
-    python3 bench/width.py COMMIT..
-    python3 bench/width.py --naming WORD
+    python3 tools/width.py COMMIT..
+    python3 tools/width.py --naming WORD
 """
 import argparse
 import subprocess
@@ -19,10 +19,10 @@ from pathlib import Path
 TOP = Path(__file__).resolve().parent.parent
 # What a file of a crate is, by its folder there, and any other file, by its folder.
 PARTS = {"src": "src", "specs": "specs", "proofs": "proofs", "must-fail": "must-fail edits"}
-FOLDERS = {"convert": "converter", "bench": "bench", "docs": "documents", "man": "documents",
-           "examples": "examples"}
+FOLDERS = {"convert": "converter", "tests": "tests", "bench": "bench", "tools": "tools", "docs": "documents",
+           "man": "documents", "examples": "examples"}
 MADE = ("docs/definitions.txt",)
-KINDS = [*PARTS.values(), "tests", "converter", "bench", "documents", "other", "examples", "made"]
+KINDS = [*PARTS.values(), "tests", "converter", "bench", "tools", "documents", "other", "examples", "made"]
 
 
 @dataclass
@@ -39,8 +39,6 @@ class Touched:
             return "made"
         if folder == "crates":
             return "tests" if rest[0].endswith(("_tests", "_test_rows")) else PARTS.get(rest[1], "other")
-        if self.path.startswith("convert/tests/"):
-            return "tests"
         return FOLDERS.get(folder, "documents" if self.path.endswith(".md") else "other")
 
 

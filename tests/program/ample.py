@@ -17,7 +17,7 @@ Before these come stacks whose new layers just keep a limit of names or of text,
 `flatten` must give them, or say that they are over the limits; and stacks that are large in one way, as those of users are,
 or as large as a limit lets them be.
 
-    python3 bench/ample.py --program crates/ovl_layers/out/ovl_layers
+    python3 tests/program/ample.py --program crates/ovl_layers/out/ovl_layers
 """
 import argparse
 import concurrent.futures
@@ -30,6 +30,8 @@ import sys
 import tempfile
 from collections.abc import Callable, Iterator, Sequence
 from dataclasses import dataclass, replace
+
+sys.path.append(os.path.join(os.path.dirname(__file__), "..", "makers"))
 
 from entries import METACOPY, NSEC, REDIRECT, Entry, entry
 from small_layers import First, Layer, Sources, manifest_of, write

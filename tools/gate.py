@@ -16,7 +16,7 @@ import time
 from dataclasses import dataclass, field
 
 TICK = os.sysconf("SC_CLK_TCK")
-BEGIN, END = "<!-- made by bench/gate.py -->", "<!-- end -->"
+BEGIN, END = "<!-- made by tools/gate.py -->", "<!-- end -->"
 PARTS = ("proof", "tests", "edits")
 
 

@@ -1,11 +1,12 @@
 #!/usr/bin/env bash
-# Compares PROGRAM's report of each layer here with the `.show` file beside it, its reports of the stacks here, by
+# Compares PROGRAM's report of each layer in examples with the `.show` file beside it, its reports of the stacks there, by
 # several numbers of workers, with what is expected of them, and its help, its version and what it says of unknown words
 # with `help.txt`, `version.txt` and the texts in `help`, byte for byte; its answers of worked stacks with those of
 # `stacks.txt`; and what it tells of the manifests of `refused`. Without PROGRAM it is the launcher's.
 set -uo pipefail
 
-here=$(dirname -- "$(readlink -f -- "${BASH_SOURCE[0]}")")
+tests=$(dirname -- "$(readlink -f -- "${BASH_SOURCE[0]}")")
+here=$(readlink -f -- "$tests/../../examples")
 if (($# > 1)); then
     echo "usage: $0 [PROGRAM]" >&2
     exit 2
@@ -49,7 +50,7 @@ for text in "$here"/help/*.txt; do
 done
 echo "$same same, $other other"
 stacks=("$here"/{moved,faulty,copied,renamed,composed})
-"$here/../bench/compare.sh" "$program" "${stacks[@]}" || other=$((other + 1))
-python3 -B "$here/stacks.py" "$program" || other=$((other + 1))
-"$here/refused/check.sh" "$program" || other=$((other + 1))
+"$tests/compare.sh" "$program" "${stacks[@]}" || other=$((other + 1))
+python3 -B "$tests/stacks.py" "$program" || other=$((other + 1))
+"$tests/refused/check.sh" "$program" || other=$((other + 1))
 ((other == 0 && same > 2))

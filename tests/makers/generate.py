@@ -7,8 +7,8 @@ follows it directly), every parent a directory listed before. It is written as
 it is made, so memory stays small however many entries there are. In version 2
 half of the times are not whole seconds; all else is the same in both versions.
 
-    python3 bench/generate.py --entries 100000 > layer.json
-    python3 bench/generate.py --self-test
+    python3 tests/makers/generate.py --entries 100000 > layer.json
+    python3 tests/makers/generate.py --self-test
 """
 import argparse
 import hashlib

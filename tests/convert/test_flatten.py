@@ -360,7 +360,7 @@ class Processes(FlattenTest):
 
     def setUp(self) -> None:
         super().setUp()
-        ignored = shutil.ignore_patterns("tests", "__pycache__")
+        ignored = shutil.ignore_patterns("__pycache__")
         shutil.copytree(ROOT / "convert", self.path("in", "lib", "ovl_layers", "convert"), ignore=ignored)
         shutil.copy(ROOT / "layers", self.path("in", "lib", "ovl_layers", "layers"))
 

@@ -11,7 +11,7 @@ before, between and after.
 Where a stack has no folder `blobs`, each digest gets contents of its own, of 64 bytes, and every file that isn't empty
 this size: both want right contents, and nothing is lost by it, since files of other contents stay others.
 
-    python3 bench/twice.py --program ./ovl_layers examples/copied examples/moved
+    python3 tests/differential/twice.py --program ./ovl_layers examples/copied examples/moved
 """
 import argparse
 import hashlib

@@ -4,9 +4,12 @@ import os
 import re
 import shutil
 import subprocess
+import sys
 import unittest
 from pathlib import Path
 from unittest import mock
+
+sys.path.append(os.path.join(os.path.dirname(__file__), "..", "convert"))
 
 from support import PROGRAM, ROOT, FolderTest, call
 
@@ -92,8 +95,7 @@ class Pages(unittest.TestCase):
 
 def modules(folder: Path) -> set[Path]:
     """The files of the converter in a folder, as they lie there."""
-    found = {path.relative_to(folder) for path in folder.rglob("*") if path.suffix in (".py", ".css", ".js")}
-    return {path for path in found if path.parts[0] != "tests"}
+    return {path.relative_to(folder) for path in folder.rglob("*") if path.suffix in (".py", ".css", ".js")}
 
 
 class Installing(FolderTest):
@@ -102,7 +104,7 @@ class Installing(FolderTest):
     def setUp(self) -> None:
         super().setUp()
         copy = self.path("repository")
-        shutil.copytree(ROOT / "convert", f"{copy}/convert", ignore=shutil.ignore_patterns("tests", "__pycache__"))
+        shutil.copytree(ROOT / "convert", f"{copy}/convert", ignore=shutil.ignore_patterns("__pycache__"))
         shutil.copytree(ROOT / "man", f"{copy}/man")
         for name in ("install", "layers"):
             shutil.copy(ROOT / name, f"{copy}/{name}")

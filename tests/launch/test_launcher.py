@@ -5,10 +5,13 @@ import os
 import shutil
 import signal
 import subprocess
+import sys
 import time
 import unittest
 from collections.abc import Callable
 from pathlib import Path
+
+sys.path.append(os.path.join(os.path.dirname(__file__), "..", "convert"))
 
 from support import PROGRAM, ROOT, FolderTest
 
@@ -102,7 +105,7 @@ class Making(LauncherTest):
         os.mkdir(self.path("tmp"))
         os.mkdir(self.path("bin"))
         self.search = f"{self.path('bin')}:{self.search}"
-        shutil.copy(ROOT / "convert" / "tests" / "fake_rt.py", self.path("bin", "rt"))
+        shutil.copy(Path(__file__).with_name("fake_rt.py"), self.path("bin", "rt"))
         self.notes = Path(self.path("notes"))
         self.notes.mkdir()
         lines = ["# A comment: of nothing", *(f"{name}: {uses}" for name, uses in _CRATES.items())]

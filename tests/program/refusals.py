@@ -15,9 +15,9 @@ contents or writes all lines, one that starts a thread for each of them, and one
 Each test of the other program runs in a process of its own, again and again, with one request for memory or one start of a
 thread refused: it must pass each time, as it makes a call that ran out of memory again.
 
-    python3 bench/refusals.py --program crates/ovl_layers/out/ovl_layers \
+    python3 tests/program/refusals.py --program crates/ovl_layers/out/ovl_layers \
         --tests crates/ovl_refusal_tests/out/ovl_refusal_tests_tests
-    python3 bench/refusals.py --library refuse.so    # builds the library alone
+    python3 tests/program/refusals.py --library refuse.so    # builds the library alone
 """
 import argparse
 import collections
@@ -31,6 +31,8 @@ import tempfile
 from collections.abc import Iterator
 from dataclasses import dataclass
 from pathlib import Path
+
+sys.path.append(os.path.join(os.path.dirname(__file__), "..", "makers"))
 
 from entries import REDIRECT, Entry, entry
 from small_layers import First, Layer, write

@@ -4,7 +4,7 @@
 Each command is given by one worker, and by four with contents of any size; both must tell the same: the report and the
 new layers of the row, or what refuses it. With the new layers the stack must show the same as before.
 
-    python3 examples/stacks.py PROGRAM
+    python3 tests/program/stacks.py PROGRAM
 """
 import argparse
 import hashlib
@@ -17,7 +17,7 @@ from collections.abc import Iterator
 from dataclasses import dataclass
 from pathlib import Path
 
-_STACKS = Path(__file__).resolve().with_suffix(".txt")
+_STACKS = Path(__file__).resolve().parents[2] / "examples" / "stacks.txt"
 _DIGEST_OF_A = hashlib.sha256(b"a").hexdigest()
 _SHORT = (("; ", "\n"), ("[d]", "dir 0755 0 0 0 - -"), ("[f]", "file 0644 0 0 0 1 [a]"), ("[a]", _DIGEST_OF_A))
 

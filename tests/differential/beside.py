@@ -12,7 +12,7 @@ find nothing in it. A case depends on the seed and its number alone.
 
 The other reading is a command that takes the same words (docs/FORMATS.md); as another build of the program does.
 
-    python3 bench/beside.py --program ./ovl_layers --oracle 'python3 reading.py'
+    python3 tests/differential/beside.py --program ./ovl_layers --oracle 'python3 reading.py'
 """
 import collections
 import concurrent.futures
@@ -24,6 +24,9 @@ import sys
 import tempfile
 from collections.abc import Iterator, Sequence
 from dataclasses import dataclass, replace
+
+sys.path.append(os.path.join(os.path.dirname(__file__), "..", "makers"))
+sys.path.append(os.path.join(os.path.dirname(__file__), "..", "program"))
 
 import ample
 from cases import add_oracle, oracle_of, show_sorts, words_of

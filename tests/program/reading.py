@@ -12,7 +12,7 @@ might be left to the other way, up to the second layer, which is none.
 Then come the requests of commands that make a layer and of lines, the bytes that are held at once, threads that start
 others, reads and opens of files, idle workers that yield their processor, and peaks of memory.
 
-    python3 bench/reading.py --program crates/ovl_layers/out/ovl_layers
+    python3 tests/program/reading.py --program crates/ovl_layers/out/ovl_layers
 """
 import argparse
 import hashlib
@@ -25,6 +25,8 @@ from collections.abc import Callable, Iterator
 from dataclasses import dataclass
 from pathlib import Path
 
+sys.path.append(os.path.join(os.path.dirname(__file__), "..", "makers"))
+
 from generate import MOST_NAMES, Generator
 from entries import REDIRECT, Entry, entry
 from refusals import build
@@ -32,7 +34,7 @@ from small_layers import Layer, manifest_of
 
 ENTRIES, MOST = 10_000, 0.8
 OPAQUE = "trusted.overlay.opaque"
-GENERATE = str(Path(__file__).resolve().parent / "generate.py")
+GENERATE = str(Path(__file__).resolve().parents[1] / "makers" / "generate.py")
 # The most bytes that one read may give: of a file that is held, and of a part.
 HELD, PART = 16_384, 65_536
 

@@ -15,7 +15,7 @@
 
 Prints what is missing; the status is 1 where something is. Says nothing of what the documents say.
 
-    python3 docs/check.py --definitions    # prints docs/definitions.txt: the definitions of HEADLINE.md, in its order
+    python3 tools/check_docs.py --definitions    # prints docs/definitions.txt: the definitions of HEADLINE.md, in its order
 """
 import collections
 import re
@@ -119,7 +119,7 @@ def definitions_page():
     found, _ = definitions()
     seen, source = set(), ""
     yield "The definitions that the contracts of `command` and `merge_down` reach, in the order of HEADLINE.md, which says of each what it"
-    yield "says and from where. Made by `python3 docs/check.py --definitions`."
+    yield "says and from where. Made by `python3 tools/check_docs.py --definitions`."
     for chapter, names, files, told in rows_of_headline():
         if chapter:
             yield f"\n\n==== {chapter} ===="
@@ -150,7 +150,7 @@ def headline():
             yield f"HEADLINE.md names {name}, which no specs/ has"
     text = TOP / "docs/definitions.txt"
     if not text.exists() or text.read_text(encoding="utf-8") != page():
-        yield "definitions.txt isn't what the definitions are: python3 docs/check.py --definitions > docs/definitions.txt"
+        yield "definitions.txt isn't what the definitions are: python3 tools/check_docs.py --definitions > docs/definitions.txt"
 
 
 def calls(crate):
