@@ -1,14 +1,14 @@
 #!/usr/bin/env python3
 """Measures how the program's cost grows with its input, on inputs that are dear for careless programs.
 
-Python 3.11, standard library; instructions are counted where valgrind is. Each
+Python 3.11, standard library; instructions are counted if valgrind is there. Each
 case makes layers of several sizes in a temporary folder (shapes.py) and has one
 command read them by one worker. It prints a Markdown table a case: wall time,
 peak memory and instructions at each size, and each of them for a byte of the
-input and the report together; or one row a case. The status is 1 where the
+input and the report together; or one row a case. The status is 1 if the
 instructions for a byte are more than the case allows, or grow more from a size
-to the next, for each doubling, and where the peak, beside what the program takes
-of a root alone, is more bytes for a byte.
+to the next, for each doubling, or if the peak, beside what the program takes
+of only a root, is more bytes for a byte.
 
     python3 bench/growth.py --program ./ovl_layers
 """
@@ -31,7 +31,7 @@ from small_layers import Layer, Sources, write
 # The most times that the instructions for a byte may grow at each doubling: in general, and of layers times directories
 # or files, each of which may be looked at in each layer.
 ALLOWED, LAYERED = 1.15, 2.2
-# The most instructions and bytes of memory for a byte, and a little more bytes than the program takes of a root alone.
+# The most instructions and bytes of memory for a byte, and a little more bytes than the program takes of only a root.
 INSTRUCTIONS, MEMORY, ITSELF = 400, 12, 4_000_000
 # The statuses of a stack in which a fault is found, of a manifest that is refused, and of a result over the limits.
 FAULTY, REFUSED, LIMIT = 1, 3, 5
@@ -50,7 +50,7 @@ class Case:
     status: int = 0
     # How many layers are data-only, at a size.
     data_only: Callable[[int], int] = lambda size: 0
-    # Whether members stand out of the order of their names.
+    # Whether members are out of the order of their names.
     unsorted: bool = False
     # Further words.
     words: tuple[str, ...] = ()
@@ -226,7 +226,7 @@ def cost(program: str, case: Case, size: int, longest: float, unsorted: bool = F
 
 @dataclass(frozen=True)
 class Marked:
-    """What a run took, and what is said of its instructions and of its peak where they are more than the case allows."""
+    """What a run took, and what is said of its instructions and of its peak if they are more than the case allows."""
 
     cost: Cost
     of_instructions: str

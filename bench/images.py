@@ -5,7 +5,7 @@ Python 3.11, standard library; needs the built program, igzip, umoci, pigz, for 
 it makes its images, then runs the commands of all rows in turn, several times, each run a fresh process, so that what else the
 machine does meets all of them. It prints a Markdown table: medians of wall and of processor time, of a command with its
 children, each beside that of another command; and the most memory of all processes of the command together, their shares of
-what they share, in a run that isn't timed. The status is 1 where a figure is missed.
+what they share, in a run that isn't timed. The status is 1 if a figure is missed.
 
     sudo python3 bench/images.py [--rows NAME,NAME,..] [--runs N]
 """
@@ -35,7 +35,7 @@ EVERY = 0.01  # seconds
 
 @dataclass(frozen=True)
 class Command:
-    """Words that are run, in a folder where they make one of `NEW`."""
+    """Words that are run, in a folder in which they make one of `NEW`."""
 
     told: str
     words: tuple[str, ...]
@@ -112,7 +112,7 @@ def limit_rows(images: Images) -> Iterator[Row]:
 
 
 def reading_rows(images: Images) -> Iterator[Row]:
-    """What reads the large image alone, beside its layers unpacked and digested once."""
+    """What only reads the large image, beside its layers unpacked and digested once."""
     image = images.large()
     place, reading = f"oci:{image.layout}:{TAG}", Command("the limit's reading", (*LIMIT, *image.layers))
     digests = converter("`unpack --digests-only`", "unpack", place, "--out", "new", "--digests-only")

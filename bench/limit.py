@@ -2,7 +2,7 @@
 """Does the least that flattening an image takes, by zlib and OpenSSL, for `images.py` to measure.
 
 Each layer of gzip is read, unpacked and digested once, by as many processes as there are processors, the largest first. With
-`--out` so many bytes are written to a file then, and digested once, by two threads.
+`--out` this many bytes are written to a file then, and digested once, by two threads.
 
     python3 bench/limit.py LAYER.. [--out FILE --bytes N]
 """

@@ -40,7 +40,7 @@ class _File:
 
 
 def many_bytes(folder: str, size: int, files: int, layers: int) -> Made:
-    """An image of so many bytes in all: files of very different sizes, of which the layers above replace some."""
+    """An image of this many bytes in all: files of very different sizes, of which the layers above replace some."""
     pick = random.Random(7)
     weights = [pick.lognormvariate(0, 1.8) for _ in range(files)]
     unit = size / sum(weights)
@@ -62,7 +62,7 @@ def _cut(files: list[_File], layers: int) -> Iterator[list[_File]]:
 
 
 def _with_replaced(pick: random.Random, layers: list[list[_File]]) -> Iterator[list[_File]]:
-    """The layers, in each of which some files stand in place of ones below."""
+    """The layers, in each of which some files take the place of ones below."""
     below: list[_File] = []
     for turn, layer in enumerate(layers):
         count = int(REPLACED * len(layer)) if below else 0

@@ -1,5 +1,5 @@
 #!/usr/bin/env python3
-"""Measures the program on large layers, beside Python's JSON reader alone.
+"""Measures the program on large layers, beside Python's JSON reader.
 
 Python 3.11, standard library. For each number of entries it writes a layer with
 generate.py into a temporary folder, runs each command several times, each run a
@@ -32,7 +32,7 @@ READ_ALL = "import json,sys; [json.load(open(f)) for f in sys.argv[1:]]"
 def one_run(command: list[str], source: str, sink: str) -> tuple[float, int, int]:
     """(seconds, peak bytes, exit status) of one run in a process of its own.
 
-    GNU time reports the peak of its child alone. Without it the peak is that of
+    GNU time reports only the peak of its child. Without it the peak is that of
     os.wait4, which is never below this script's own (some 15 MB), since a child
     starts as a copy of it.
     """

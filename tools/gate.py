@@ -1,9 +1,9 @@
 #!/usr/bin/env python3
-"""Runs the merge gate and tells what it took of processor time, crate by crate, as a table in Markdown.
+"""Runs the merge gate and prints what it took of processor time, crate by crate, as a table in Markdown.
 
 It is started at the top of the repository. While the gate runs, it looks at the processes below it, twice a second: a
-check is told by the name of its crate, one of tests by `--test`, and one of a must-fail edit by the folder it runs in.
-So the gate does nothing that it doesn't do alone. What a process took after the last look at it counts to the rest.
+check is known by the name of its crate, one of tests by `--test`, and one of a must-fail edit by the folder it runs in.
+So the gate does nothing that it doesn't do by itself. What a process took after the last look at it counts to the rest.
 Linux only.
 """
 import argparse
@@ -157,7 +157,7 @@ def line_of(name: str, took: dict[str, float], tests: int, edits: int) -> str:
 
 
 def dearest(gate: Gate, count: int) -> list[str]:
-    """The edits that took the most, where each can be told from the order in which they were tried."""
+    """The edits that took the most, if each is known from the order in which they were tried."""
     found = []
     for crate in crates():
         names, took = edits_of(crate), gate.of(crate, "edits")
@@ -221,7 +221,7 @@ def main() -> None:
     if not os.path.isfile("crates.txt"):
         sys.exit("gate.py is started at the top of the repository, where crates.txt stands")
     if given.into:
-        # (a missing mark is told before the gate runs)
+        # (a missing mark is reported before the gate runs)
         parts_of(given.into)
     status, gate, total, wall = measured(given.gate, given.interval)
     lines = ["Minutes of processor time:", "", *table(gate, total, wall), *dearest(gate, given.dearest)]

@@ -1,9 +1,9 @@
 #!/usr/bin/env python3
 """Counts how wide a change is: the files that it touches, by kind, with their lines.
 
-The change is told as `git diff` takes it, so `COMMIT..` is all that was committed since. With
+The change is named as `git diff` takes it, so `COMMIT..` is all that was committed since. With
 `--naming` the files are those that have one of the words today: what a change of all that the words
-stand for has to look at. The last row leaves out examples, and files that a script makes.
+mean has to look at. The last row leaves out examples, and files that a script makes.
 Python 3.11 and git.
 
     python3 tools/width.py COMMIT..
@@ -44,7 +44,7 @@ class Touched:
 
 def git(*words: str) -> list[str]:
     done = subprocess.run(["git", "-C", str(TOP), *words], stdout=subprocess.PIPE, text=True)
-    # (`git grep` ends with 1 where it finds nothing)
+    # (`git grep` ends with 1 if it finds nothing)
     if done.returncode > 1:
         sys.exit(done.returncode)
     return done.stdout.splitlines()
@@ -53,7 +53,7 @@ def git(*words: str) -> list[str]:
 def touched_by(change: str) -> Iterator[Touched]:
     for line in git("diff", "--numstat", "--no-renames", change):
         *lines, path = line.split("\t")
-        # (no lines are told of a file that isn't text)
+        # (no lines are counted of a file that isn't text)
         yield Touched(path, [int(count) if count != "-" else 0 for count in lines])
 
 

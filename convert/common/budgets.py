@@ -33,7 +33,7 @@ class Counter:
             self.require(self._taken)
 
     def require(self, taken: int) -> None:
-        """Refuses so many where they are too many."""
+        """Refuses this many if they are too many."""
         if taken > self.most:
             raise TooMuch(f"the image has over {self.most:,} {self.words}")
 
@@ -80,7 +80,7 @@ class UsedBudget:
 class SharedCounter(Counter):
     """Counts in one of several processes, each of which reads a layer.
 
-    Now and then it tells what it has to those that read layers above, and looks what those below have. So none goes
+    Now and then it reports what it has to those that read layers above, and looks what those below have. So none goes
     on far past what its own layer and those below may have together.
     """
 

@@ -26,7 +26,7 @@ _REFUSED = (
 
 
 class Copier:
-    """Copies whole files, by a reflink or inside the kernel where the file systems can.
+    """Copies whole files, by a reflink or inside the kernel if the file systems can.
 
     A way that the file systems refuse once isn't tried again.
     """
@@ -89,7 +89,7 @@ def _copy_pieces(source: int, target: int) -> None:
 
 
 def read_small(file: int, size: int) -> bytes:
-    """All bytes of an open file that is said to have this size, one more where it has more."""
+    """All bytes of an open file that is said to have this size, one more if it has more."""
     piece = os.read(file, size + 1)
     while len(piece) < size:
         more = os.read(file, size + 1 - len(piece))
@@ -100,7 +100,7 @@ def read_small(file: int, size: int) -> bytes:
 
 
 def is_zeros(piece: Piece) -> bool:
-    """Whether a piece of contents is of zeros alone."""
+    """Whether a piece of contents is only zeros."""
     return piece[:1] == b"\0" and piece == ZEROS[:len(piece)]
 
 
@@ -168,7 +168,7 @@ class DigestedBeside:
     ) -> None:
         try:
             if isinstance(error, Exception):
-                self._wait()  # what went wrong before is told first
+                self._wait()  # what went wrong before is reported first
         finally:
             for thread in self._threads:
                 thread.shutdown(cancel_futures=True)
@@ -188,7 +188,7 @@ class DigestedBeside:
             self._fill(len(place))
 
     def copy(self, read: Callable[[memoryview], int], size: int, wanted: str | None, path: str) -> bool:
-        """Takes so many bytes of a file, which may have to have a digest; fails later where they have another.
+        """Takes this many bytes of a file, which may have to have a digest; fails later if they have another.
 
         Says whether there were as many.
         """

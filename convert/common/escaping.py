@@ -18,13 +18,13 @@ def escaped(data: bytes) -> str:
 
 
 def printable(text: str) -> str:
-    r"""A path or another text for a message: what isn't UTF-8 and what a terminal would obey stands as `\xHH`."""
+    r"""A path or another text for a message: what isn't UTF-8 and what a terminal would obey is written as `\xHH`."""
     if text.isprintable():
         return text
     return "".join(letter if letter.isprintable() else _escaped_letter(letter) for letter in text)
 
 
 def _escaped_letter(letter: str) -> str:
-    """A letter's bytes, or the byte that it stands for where the system's names aren't UTF-8."""
+    """A letter's bytes, or the byte that it means if the system's names aren't UTF-8."""
     errors = "surrogateescape" if "\udc80" <= letter <= "\udcff" else "surrogatepass"
     return "".join(f"\\x{byte:02x}" for byte in letter.encode("utf-8", errors))

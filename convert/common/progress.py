@@ -1,4 +1,4 @@
-"""What is told on standard error besides a fault: progress on a terminal, and notes."""
+"""What is printed on standard error besides a fault: progress on a terminal, and notes."""
 
 import sys
 import time
@@ -18,7 +18,7 @@ def tell_progress(count: memoryview) -> None:
 
 
 class Progress:
-    """A line that counts, rewritten in place; silent where standard error is no terminal."""
+    """A line that counts, rewritten in place; silent if standard error is no terminal."""
 
     def __init__(self, doing: str, total: int | None = None) -> None:
         self._doing = printable(doing)
@@ -29,7 +29,7 @@ class Progress:
         self._width = 0
 
     def expect(self, total: int | None) -> None:
-        """Says how far it counts, where that is known."""
+        """Says how far it counts, if that is known."""
         self._total = "" if total is None else f" of {total:,}"
 
     def step(self, by: int = 1) -> None:
@@ -48,7 +48,7 @@ class Progress:
         self.step(count - self._count)
 
     def seconds(self) -> float | None:
-        """How long to wait before the next step, where it is shown."""
+        """How long to wait before the next step, if it is shown."""
         return _EVERY if self._is_shown else None
 
     def end(self) -> None:

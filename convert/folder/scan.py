@@ -50,7 +50,7 @@ def scan(options: ScanOptions) -> None:
 
 def scan_folder(options: ScanOptions, losses: ScanLosses, links: Iterator[int] | None = None) -> list[Entry]:
     """The same of a folder, with what is lost counted; gives the entries. With numbers for files of several names it is
-    of a stack, and has a file of links even where there are none."""
+    of a stack, and has a file of links even if there are none."""
     if not options.userxattr:
         require_trusted(options.layer)
     with reading(options.layer):
@@ -94,7 +94,7 @@ class Survey:
         return entries
 
     def _entry(self, found: Found) -> Entry | None:
-        """The entry of what was found, or nothing where it was left out."""
+        """The entry of what was found, or nothing if it was left out."""
         status = found.status
         entry = Entry(
             found.path, found.kind, stat.S_IMODE(status.st_mode), status.st_uid, status.st_gid,

@@ -84,7 +84,7 @@ def require_forms(options: StackOptions) -> list[Form]:
 
 
 def require_ordinary(count: int, data_layers: int) -> None:
-    """Refuses so many data-only layers of a stack that none is left."""
+    """Refuses data-only layers of a stack if no other is left."""
     if data_layers >= count:
         raise UsageFault(f"of {counted(count, 'layer', 'layers')} {data_layers} can't be data-only")
 

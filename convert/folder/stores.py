@@ -89,7 +89,7 @@ def chain(folder: str) -> list[str]:
 
 
 def _hint(folder: str, there: list[str]) -> str:
-    """Which folder is meant, where a person named one near it."""
+    """Which folder is meant, if a person named one near it."""
     if _LINKS in there or not _DRIVERS.isdisjoint(there):
         return "; name the folder of a layer in it"
     if os.path.lexists(os.path.join(folder, os.pardir, _LINK)):
@@ -129,7 +129,7 @@ def _lowers(folder: str) -> list[str]:
 
 
 def _read(folder: str, name: str) -> str:
-    """The text of a small file of a layer; none where the file isn't there."""
+    """The text of a small file of a layer; none if the file isn't there."""
     path = os.path.join(folder, name)
     with reading(path):
         try:

@@ -53,7 +53,7 @@ def walk(root: int, root_path: str, cross: bool) -> Iterator[Found]:
     """Everything in an open folder, itself first, in path order.
 
     A directory is entered once the next thing is asked for, unless `enter` was set to false. One of
-    another file system is entered only where `cross` says so.
+    another file system is entered only if `cross` says so.
     """
     with reading(root_path):
         status = os.fstat(root)

@@ -1,4 +1,4 @@
-"""Names in the archive of an image's layer: paths, and those that stand for whiteouts."""
+"""Names in the archive of an image's layer: paths, and those that mean whiteouts."""
 
 from ..model import rules
 from ..model.layer_tree import Unfit
@@ -67,7 +67,7 @@ class Paths:
 
 
 def may_be_special(path: bytes) -> bool:
-    """Whether a path may hold a name that stands for something else, which is seen at once of most that don't."""
+    """Whether a path may hold a name that means something else, which is seen at once of most that don't."""
     return _PREFIX in path
 
 
@@ -85,6 +85,6 @@ def _text(name: bytes) -> str:
 
 
 def _without_prefix(name: str) -> str:
-    """What a whiteout's name hides, where that can be a name at all."""
+    """What a whiteout's name hides, if that can be a name at all."""
     hidden = name.removeprefix(WHITEOUT_PREFIX)
     return name if hidden in ("", ".", "..") else hidden

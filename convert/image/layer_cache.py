@@ -39,7 +39,7 @@ class KeptLayers(Protocol):
     """Which layers of an image needn't be read, since they were."""
 
     def kept(self, layer: Named) -> Kept | None:
-        """What is kept of a layer, where one of the same bytes was read."""
+        """What is kept of a layer, if one of the same bytes was read."""
 
     def keeping(self, layer: Named) -> "Keeping | None":
         """Where the entries of a layer are to be kept, if it comes again."""
@@ -71,7 +71,7 @@ class Keeping:
         self._size = 0
 
     def place(self) -> tuple[int, int]:
-        """Where they stand in the file, and how many bytes they take."""
+        """Where they are in the file, and how many bytes they take."""
         with writing(self._out):
             self._file.flush()
         return self._begin, self._size

@@ -36,7 +36,7 @@ class Target:
     path: str
     form: Form
     tag: str | None = None
-    given: str = ""  # the path that a person gave, where it is made elsewhere first
+    given: str = ""  # the path that a person gave, if it is made elsewhere first
 
     @property
     def is_standard_output(self) -> bool:
@@ -45,7 +45,7 @@ class Target:
 
     @property
     def told(self) -> str:
-        """Its place as a person is told of it."""
+        """Its place as a person named it."""
         path = self.given or self.path
         return "standard output" if path == STANDARD_OUTPUT and self.form is Form.ARCHIVE else path
 
@@ -55,9 +55,9 @@ class Target:
         return f"{tempfile.gettempdir()}/{STANDARD_OUTPUT}" if self.is_standard_output else self.path
 
     def docker_names(self, name: str | None) -> list[str]:
-        """The names that docker gives an image of this name: none where it isn't one that docker takes.
+        """The names that docker gives an image of this name: none if it isn't one that docker takes.
 
-        A name alone, as in many layouts, is a tag, and only to `docker-archive:` the name of an image.
+        A name without a tag, as in many layouts, is a tag, and only to `docker-archive:` the name of an image.
         """
         is_name = name is not None and (":" in name or "/" in name or self.word.startswith(f"{_DOCKER}:"))
         found = _DOCKER_NAME.fullmatch(name) if is_name and name and len(name) <= _MAX_DOCKER_NAME else None

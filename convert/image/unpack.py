@@ -34,7 +34,7 @@ class UnpackOptions:
 def unpack(options: UnpackOptions) -> Image:
     """Writes `l0.json`, the topmost, and so on, the folder `blobs`, and `config.json`. Gives the image.
 
-    Where digests are enough there is no folder `blobs`. An image with annotations has them in `annotations.json`.
+    If digests are enough there is no folder `blobs`. An image with annotations has them in `annotations.json`.
     """
     path, tag = image_place(options.image, options.tag)
     with opened_image(path, options.platform, tag) as image:

@@ -77,14 +77,14 @@ def needs_lower_layers(entry: Entry) -> str | None:
 
 
 def only_in_manifests(entry: Entry) -> str | None:
-    """What of this entry a manifest alone can have, and no folder, squashfs or archive of a layer."""
+    """What of this entry only a manifest can have, and no folder, squashfs or archive of a layer."""
     if entry.kind == SYMLINK and entry.mode != LINK_MODE:
         return f"a symlink of mode {entry.mode:04o}: Linux has them of mode 0777 alone"
     return None
 
 
 def drop_host_marks(entry: Entry) -> int:
-    """Leaves out what means something on the host alone that the layer comes from; tells how many marks."""
+    """Leaves out what only means something on the host that the layer comes from; gives how many marks."""
     found = [name for name in entry.attributes if name in HOST_MARKS]
     if found:
         entry.attributes = {name: value for name, value in entry.attributes.items() if name not in HOST_MARKS}

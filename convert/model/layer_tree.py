@@ -24,7 +24,7 @@ class Blocked(Unfit):
 
 @dataclass(slots=True)
 class Folder:
-    """A directory. `is_stated` is false where the archive leaves it out and has only what is in it.
+    """A directory. `is_stated` is false if the archive leaves it out and has only what is in it.
 
     `is_anew` says that its layer had something else in its place first.
     """
@@ -42,7 +42,7 @@ class Folder:
         return self.is_opaque or self.is_anew or (not self.is_root and self.entry.attributes.get(OPAQUE) == IS_OPAQUE)
 
     def lower(self, under: "Folder | None", name: str) -> "Folder | Entry | None":
-        """What lower layers show in this directory by this name, where they show `under` in its place."""
+        """What lower layers show in this directory by this name, if they show `under` in its place."""
         is_hidden = under is None or name in self.whiteouts or self.hides_all()
         return None if is_hidden or under is None else under.children.get(name)
 
@@ -194,7 +194,7 @@ class LayerTree:
     def settle(self, below: "Folder | None", tell: Callable[[Gap, str], None]) -> None:
         """Gives directories that the archive leaves out what the layers below show there.
 
-        Where these show nothing, whiteouts alone make no directory. An opaque root, which overlayfs
+        If these show nothing, whiteouts by themselves make no directory. An opaque root, which overlayfs
         hasn't, becomes whiteouts of what is below.
         """
         self._settle(self.root, below, "", tell)

@@ -1,6 +1,6 @@
 """Hard links: which names of a layer are one file. A manifest has no place for it, so a file beside it says so.
 
-Beside `l0.json` stands `l0.links`: the names of files that have several, in path order, each with a number that
+Beside `l0.json` is `l0.links`: the names of files that have several, in path order, each with a number that
 is the same for the names of one file, and before them the digest of the manifest that they are of, so that
 names of another text of it are never taken. `shown.links` has the names that all layers show together.
 Such a file is read piece by piece beside the entries, and never held, so it may be as long as it wants to.
@@ -80,9 +80,9 @@ class LinkNames:
 
 
 def write_layer(out: str, entries: Callable[[], Iterable[Entry]], layer: str, is_of_stack: bool) -> int:
-    """Writes the manifest of a layer, and its file of links: where there are any, where one stands there, and in a stack.
+    """Writes the manifest of a layer, and its file of links: if there are any, if one is there, and in a stack.
 
-    Tells how many names of links are lost, where what is written is no file that another could stand beside.
+    Gives how many names of links are lost, if what is written is no file that another could be beside.
     """
     names, beside = LinkNames(), links_path(out)
     write_manifest(out, names.passing(entries()), layer)
@@ -112,7 +112,7 @@ def renumber(entries: Iterable[Entry], links: Iterator[int]) -> None:
 
 
 def links_path(layer: str) -> str:
-    """Where the links of a manifest stand."""
+    """Where the links of a manifest are."""
     return layer.removesuffix(".json") + SUFFIX
 
 
@@ -131,9 +131,9 @@ class FirstNames:
 def take_links(layer: str, entries: list[Entry], shown: str | None = None) -> None:
     """Gives the entries of a manifest the numbers of its own links, or else those of what its names show.
 
-    Two names become one file only where the layer has both, neither is a directory or a whiteout, and all
+    Two names become one file only if the layer has both, neither is a directory or a whiteout, and all
     their members are the same: so whatever a file of links says, it never changes what the layers show. One
-    that stands beside the manifest and isn't taken is told; one that is named must be good.
+    that is beside the manifest and isn't taken is reported; one that is named must be good.
     """
     own = links_path(layer)
     if own != layer and os.path.lexists(own):

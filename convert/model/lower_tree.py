@@ -44,7 +44,7 @@ def write_shown_links(folder: str, below: Below) -> None:
 
 
 def _merged(below: Folder | None, upper: Folder, moved: _Moved) -> Folder:
-    """What a directory shows above another one, or alone."""
+    """What a directory shows above another one, or by itself."""
     children = {} if below is None or upper.hides_all() else below.children
     for name in upper.whiteouts:
         children.pop(name, None)
@@ -62,7 +62,7 @@ def _merged(below: Folder | None, upper: Folder, moved: _Moved) -> Folder:
 def _taken_from(root: Folder, layer: Folder) -> _Moved:
     """The lower directories that the layer's redirects lead to, taken from where they were.
 
-    Each is of the first redirect that leads there; in a sound stack there is one alone, and the place is hidden.
+    Each is of the first redirect that leads there; in a sound stack there is only one, and the place is hidden.
     """
     moved: _Moved = {}
     places: dict[int, tuple[Folder, str]] = {}

@@ -36,7 +36,7 @@ _DEVICE_NUMBERS = (("major", 0, rules.MAX_NUMBER), ("minor", 0, rules.MAX_NUMBER
 _NUMBERS_OF = {
     FILE: (*_NUMBERS, ("size", 0, rules.MAX_SIZE)), CHAR: _NUMBERS + _DEVICE_NUMBERS, BLOCK: _NUMBERS + _DEVICE_NUMBERS,
 }
-_KINDS = {kind: kind for kind in _MORE}  # so that each text of a kind stands once
+_KINDS = {kind: kind for kind in _MORE}  # so that each text of a kind is held once
 
 
 @dataclass(frozen=True)
@@ -197,7 +197,7 @@ def _entry_of(value: Any, number: int, version: _Version, directories: set[str])
 
 
 def _sound_entry(value: Any, version: _Version, directories: set[str]) -> Entry | None:
-    """The entry of a JSON value, or nothing where one of its members isn't as it must be."""
+    """The entry of a JSON value, or nothing if one of its members isn't as it must be."""
     if not isinstance(value, dict):
         return None
     kind = value.get("kind")
@@ -227,7 +227,7 @@ def _sound_entry(value: Any, version: _Version, directories: set[str]) -> Entry 
 
 
 def _is_path(text: Any, version: _Version, directories: set[str]) -> bool:
-    """Whether a text is a path; of one below a directory that came before the last name alone is looked at."""
+    """Whether a text is a path; of one below a directory that came before, only the last name is looked at."""
     if not isinstance(text, str) or not text.startswith("/"):
         return False
     if text == "/":

@@ -28,7 +28,7 @@ DIGEST = re.compile(r"[0-9a-f]{64}\Z")
 
 
 def name_problem(name: str) -> str | None:
-    """Why text isn't a name in a manifest. Bytes that aren't UTF-8 stand as surrogates."""
+    """Why text isn't a name in a manifest. Bytes that aren't UTF-8 are surrogates."""
     try:
         length = len(name.encode())
     except UnicodeEncodeError:
@@ -45,7 +45,7 @@ def name_problem(name: str) -> str | None:
 
 
 def path_problem(path: str, depth: int, most: int = MAX_NAMES) -> str | None:
-    """Why a path of good names, with this number of them, has no place in a manifest, where it may have `most`."""
+    """Why a path of good names, with this number of them, has no place in a manifest, if it may have `most`."""
     if depth > most:
         return f"it is {depth} names deep, over {most}"
     length = len(path.encode())
@@ -55,7 +55,7 @@ def path_problem(path: str, depth: int, most: int = MAX_NAMES) -> str | None:
 
 
 def text_problem(text: str, what: str, most: int) -> str | None:
-    """Why a text of at most so many bytes can't be stated."""
+    """Why a text of at most this many bytes can't be stated."""
     try:
         length = len(text.encode())
     except UnicodeEncodeError:
@@ -74,7 +74,7 @@ def attribute_problem(name: str) -> str | None:
 
 
 def attributes_problem(names: Iterable[str]) -> str | None:
-    """Why attributes of these names can't be stated together, where each of them can."""
+    """Why attributes of these names can't be stated together, even if each of them can."""
     if sum(len(name) + 1 for name in names) > MAX_ATTRIBUTE_NAMES:
         return f"the names of its attributes have over {MAX_ATTRIBUTE_NAMES} bytes"
     return None

@@ -12,5 +12,5 @@ def layer_name(number: int) -> str:
 
 
 def layer_paths(folder: str, count: int) -> list[str]:
-    """The manifests of a stack of so many layers, the topmost first."""
+    """The manifests of a stack of this many layers, the topmost first."""
     return [f"{folder}/{layer_name(number)}" for number in range(count)]

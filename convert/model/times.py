@@ -5,7 +5,7 @@ _DIGITS = 9
 
 
 def shown(time_ns: int) -> str:
-    """A time as the show report has it: the seconds, and what is over them where there is something."""
+    """A time as the show report has it: the seconds, and what is over them if there is something."""
     seconds, over = divmod(time_ns, ONE_SECOND)
     return f"{seconds}+{over:0{_DIGITS}}" if over else str(seconds)
 
@@ -26,7 +26,7 @@ def to_decimal(time_ns: int) -> str:
 def of_decimal(is_negative: bool, whole: int, fraction: bytes) -> tuple[int, bool]:
     """The time of a decimal fraction of seconds, and whether it was cut, towards the past, to a whole nanosecond.
 
-    `whole` is what stands before the point, without its sign, and `fraction` the digits behind it.
+    `whole` is what comes before the point, without its sign, and `fraction` the digits after it.
     """
     time_ns = whole * ONE_SECOND + int(fraction[:_DIGITS].ljust(_DIGITS, b"0"))
     is_cut = bool(fraction[_DIGITS:].strip(b"0"))

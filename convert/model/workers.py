@@ -33,7 +33,7 @@ class _Worker:
     done: int = 0
 
     def take(self, data: bytes) -> int:
-        """Gives digests that have come to their files; tells how many."""
+        """Gives digests that have come to their files; gives how many."""
         self.received += data
         count = 0
         while self.done < len(self.files) and len(self.received) >= _DIGEST_BYTES:
@@ -47,7 +47,7 @@ class _Worker:
         return count
 
     def end(self) -> None:
-        """Waits for the process and raises the fault that it told, if it isn't done."""
+        """Waits for the process and raises the fault that it reported, if it isn't done."""
         os.close(self.results)
         os.waitpid(self.process, 0)
         if self.done < len(self.files):

@@ -42,7 +42,7 @@ class NotShown:
 
 @dataclass(slots=True)
 class Sizes:
-    """What is told of a stack. Layers are counted from the topmost."""
+    """What is counted of a stack. Layers are counted from the topmost."""
 
     layers: list[LayerSizes]
     sums: LayerSizes = field(default_factory=LayerSizes)
@@ -164,7 +164,7 @@ def _classify(sizes: Sizes, own: LayerSizes, file: LayerFile, paying: _Paying) -
 
 
 def _take_merged(sizes: Sizes, report: str) -> None:
-    """Counts the merged tree, which must be, line by line, the one that the program has told."""
+    """Counts the merged tree, which must be, line by line, the one that the program has printed."""
     merged, seen = sizes.merged, set[int]()
     nodes = sizes.tree.nodes()
     with reading(report), open(report, "rb") as file:
@@ -182,13 +182,13 @@ def _take_merged(sizes: Sizes, report: str) -> None:
 
 
 def shown_size(file: LayerFile) -> int:
-    """The size of what is shown where a file stands."""
+    """The size of what is shown at a file's place."""
     contents = file.contents()
     return 0 if contents is None else contents.size
 
 
 def _is_line_of(line: bytes, path: str, node: Node) -> bool:
-    """Whether a line of the show report tells of this path, and of these contents there."""
+    """Whether a line of the show report has this path, with these contents."""
     parts = line.removesuffix(b"\n").split(b" ", 8)
     if len(parts) < 8 or parts[7] != escaped(path.encode()).encode():
         return False

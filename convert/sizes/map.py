@@ -120,7 +120,7 @@ def _largest(places: list[Place]) -> set[int]:
 
 
 def json_text(value: Any) -> str:
-    """A value as JSON in which no markup can stand."""
+    """A value as JSON that has no markup."""
     return json.dumps(value, ensure_ascii=False, separators=(",", ":")).replace("<", "\\u003c")
 
 

@@ -1,7 +1,7 @@
 """The page of `sizes`: one file that needs nothing else, readable without its script.
 
-Names are untrusted: each goes through `_text`, or through JSON in which no markup can stand. The page's policy
-lets nothing run and nothing dress it but its own script and style, told by their digests, and nothing be fetched.
+Names are untrusted: each goes through `_text`, or through JSON that has no markup. The page's policy
+lets nothing run and nothing dress it but its own script and style, named by their digests, and nothing be fetched.
 """
 
 import base64
@@ -95,7 +95,7 @@ def _hues(count: int) -> str:
 
 
 def _text(text: str) -> str:
-    """A text that may hold anything, as it stands in the page."""
+    """A text that may hold anything, as it is in the page."""
     return html.escape(printable(text))
 
 

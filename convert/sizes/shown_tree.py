@@ -1,6 +1,6 @@
-"""What layers show together, and the file of which layer stands at each path: put together from the lowest layer up.
+"""What layers show together, and the file of which layer is at each path: put together from the lowest layer up.
 
-What layers show at several places, by redirects, stands once, and each node counts its uses. Only where a layer has
+What layers show at several places, by redirects, is held once, and each node counts its uses. Only if a layer has
 redirects, or something in what an earlier one's repeat, the directories that it states are copied, within a bound.
 """
 
@@ -29,14 +29,14 @@ class LayerFile:
     layer: int
     path: str  # the first of its names
     size: int
-    blob: bytes = b""  # the digest of its contents, where it has any
+    blob: bytes = b""  # the digest of its contents, if it has any
     is_metacopy: bool = False
     data: "LayerFile | None" = None  # of a metacopy file: the file whose contents it shows
     uses: int = 0
-    hidden_by: int | None = None  # the layer with which it went, where nothing uses it
+    hidden_by: int | None = None  # the layer with which it went, if nothing uses it
 
     def contents(self) -> "LayerFile | None":
-        """The file whose contents are shown where this one stands; none where they are missing."""
+        """The file whose contents are shown at this one's place; none if they are missing."""
         return self.data if self.is_metacopy else self
 
 
@@ -72,7 +72,7 @@ class ShownTree:
             covering.release(below)
 
     def nodes(self) -> Iterator[tuple[str, Node]]:
-        """All paths with what stands there, in path order."""
+        """All paths with what is there, in path order."""
         yield "/", self.root
         levels = [("", _sorted_children(self.root))]
         while levels:
@@ -177,7 +177,7 @@ class _Covering:
             self.release(before)
 
     def _over(self, before: Node | None, lower: Directory | None) -> Directory:
-        """The directory that stands over what those below show in its place: the same where nothing else uses it."""
+        """The directory that is over what those below show in its place: the same if nothing else uses it."""
         if lower is None:
             return Directory()
         if lower is before and lower.uses == 1:
@@ -209,7 +209,7 @@ class _Covering:
 
 
 def read_redirect(value: bytes) -> str | list[str] | None:
-    """What a redirect means: one name beside, the names of a path from the root, or nothing where it is malformed."""
+    """What a redirect means: one name beside, the names of a path from the root, or nothing if it is malformed."""
     try:
         text = value.decode()
     except UnicodeDecodeError:

@@ -16,7 +16,7 @@ _NONE = "-"
 _HEADS = (
     "LAYER", "ENTRIES", "FILES", "BYTES", "SHOWN", "HIDDEN", "REPEATED", "WHITEOUTS", "OPAQUE", "PACKED", "MADE BY",
 )
-_UNCUT = 1 << 20  # columns, where no terminal is there
+_UNCUT = 1 << 20  # columns, if no terminal is there
 
 
 @dataclass(frozen=True)
@@ -89,7 +89,7 @@ def _packed(size: int | None, exact: bool) -> list[str]:
 
 
 def packed_sum(origins: Sequence[Origin]) -> int | None:
-    """The bytes of all layers that are compressed; nothing where none is."""
+    """The bytes of all layers that are compressed; nothing if none is."""
     sizes = [origin.packed for origin in origins if origin.packed is not None]
     return sum(sizes) if sizes else None
 
@@ -108,7 +108,7 @@ def _columns(rows: Sequence[Sequence[str]], texts: int) -> Iterator[str]:
 
 
 def json_text(sizes: Sizes, origins: Sequence[Origin]) -> Iterator[str]:
-    """The same for a program; README.md tells its members."""
+    """The same for a program; README.md has its members."""
     layers = [
         {"layer": number, "made-by": origin.made_by, "packed": origin.packed, **asdict(own)}
         for number, (own, origin) in enumerate(zip(sizes.layers, origins))

@@ -34,7 +34,7 @@ class Form(Enum):
 
 
 def form_of(path: str) -> Form:
-    """The form of the layer at a path, told by its first bytes."""
+    """The form of the layer at a path, by its first bytes."""
     with reading(path):
         file = os.open(path, READ_WHERE_IT_LEADS)
         try:

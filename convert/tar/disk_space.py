@@ -13,7 +13,7 @@ _SIZE_FIELD, _DIGEST_FIELD = 5, 6  # of a line of the show report
 
 
 def require_room(told: str, place: str, need: int) -> None:
-    """Refuses what takes at least so many bytes, where the file system of a place hasn't as many."""
+    """Refuses what takes at least this many bytes, if the file system of a place hasn't as many."""
     with writing(told):
         system = os.statvfs(existing(place))
     room = (system.f_bfree if os.geteuid() == 0 else system.f_bavail) * system.f_frsize
@@ -41,7 +41,7 @@ def least_archive(entries: Iterable[Entry]) -> int:
 
 
 def least_shown(report: str) -> int:
-    """How many bytes a plain archive has at least of what a show report tells."""
+    """How many bytes a plain archive has at least of what a show report has."""
     sizes: dict[str, int] = {}
     count = 0
     with open(report, encoding="ascii", errors="replace") as lines:

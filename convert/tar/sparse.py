@@ -33,7 +33,7 @@ def old_places(block: bytes, header: Header, read: Read, budget: Budget) -> tupl
 
 
 def record_places(header: Header, read: Read, budget: Budget) -> tuple[int, int, Places]:
-    """The size and the data's places that PAX records tell, and how many bytes of data told them."""
+    """The size and the data's places that PAX records state, and how many bytes of data stated them."""
     records = header.sparse
     header.name = records.get(SPARSE_NAME, header.name)
     size = decimal(next((records[key] for key in SPARSE_SIZES if key in records), b"%d" % header.size))
@@ -49,7 +49,7 @@ def record_places(header: Header, read: Read, budget: Budget) -> tuple[int, int,
 
 
 def _numbers_in_data(read: Read, stored: int, budget: Budget) -> tuple[list[int], int]:
-    """The map before the data: a count, then so many pairs, a line each, filled to a whole block."""
+    """The map before the data: a count, then as many pairs, a line each, filled to a whole block."""
     blocks: list[bytes] = []
     lines, wanted = 0, 1
     while lines < wanted:

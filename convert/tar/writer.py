@@ -1,4 +1,4 @@
-"""Writing a tar archive: ustar headers, with PAX records where those have no place for something."""
+"""Writing a tar archive: ustar headers, with PAX records if those have no place for something."""
 
 from ..common.contents import Write
 from ..model.entries import BLOCK, CHAR, DIRECTORY, FIFO, FILE, SYMLINK
@@ -76,7 +76,7 @@ def _has_seconds(header: Header) -> bool:
 
 
 def _fitting(header: Header) -> Header:
-    """The header with what has no place put to zero; a record tells it."""
+    """The header with what has no place put to zero; a record states it."""
     if _fits(header):
         return header
     return Header(

@@ -88,7 +88,7 @@ def shown(folder: str, top: str) -> str:
 
 
 def done(*words: str) -> str:
-    """What the command prints, where it ends well."""
+    """What the command prints, if it ends well."""
     status, printed, told = call(*words)
     if status != 0:
         raise RuntimeError(f"{words}: {told}")

@@ -12,7 +12,7 @@ from typing import Any
 
 _NAMES = ("chromium", "chromium-browser", "google-chrome")
 _SECONDS = 60
-_DRAWING = 0.5  # seconds for a page whose script can't tell
+_DRAWING = 0.5  # seconds for a page whose script can't say
 _PIECE = 1 << 16
 _PLACES = (3, 4)  # the files of its --remote-debugging-pipe: what it reads, what it writes
 
@@ -27,7 +27,7 @@ def _program() -> str | None:
 
 
 class Browser:
-    """A browser with one page. What the page tells as an error is in `errors`."""
+    """A browser with one page. What the page reports as an error is in `errors`."""
 
     def __init__(self, folder: str) -> None:
         program = _program()

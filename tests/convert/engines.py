@@ -17,7 +17,7 @@ _LIMITS = ["--ulimit", "nofile=1024:1024", "--ulimit", "nproc=1024:1024"]
 
 
 def why_no_engines(folder: str) -> str | None:
-    """Why no engines can be had, or nothing where they can."""
+    """Why no engines can be had, or nothing if they can."""
     reason = why_no_trusted(folder)
     if reason:
         return reason

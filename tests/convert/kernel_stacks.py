@@ -42,7 +42,7 @@ def mount(kind: str, place: str, options: str) -> None:
 def mounted_overlay(
     place: str, layers: list[str], data_only: list[str], options: str, work: str | None = None
 ) -> Iterator[None]:
-    """An overlay of folders, the topmost first, over data-only ones; where there is a work folder, it can be written."""
+    """An overlay of folders, the topmost first, over data-only ones; if there is a work folder, it can be written."""
     upper = f"upperdir={layers[0]},workdir={work}," if work else ""
     lower = "::".join([":".join(layers[1:] if work else layers), *data_only])
     mount("overlay", place, f"{upper}lowerdir={lower},{options}")
@@ -61,7 +61,7 @@ class Worker:
         self._count = itertools.count()
 
     def work(self, steps: int) -> None:
-        """Does so many things. What the system refuses because of what is there is passed over."""
+        """Does this many things. What the system refuses because of what is there is passed over."""
         deeds: list[Callable[[], None]] = [
             self._create, self._create, self._mkdir, self._mkdir, self._rename_directory, self._rename_directory,
             self._rename_file, self._chmod, self._chmod, self._unlink, self._make_again, self._link, self._append,
@@ -356,7 +356,7 @@ KINDS = {"plain": Stack, "data-only": StackOverData}
 
 
 def count_different(made: Callable[[str, int], Stack], folder: str, numbers: range, program: list[str]) -> int:
-    """Makes and compares the stacks of these numbers in a folder of memory, and tells how many differ."""
+    """Makes and compares the stacks of these numbers in a folder of memory, and gives how many differ."""
     mount("tmpfs", folder, "mode=700,size=1g")
     different = 0
     for number in numbers:
@@ -373,7 +373,7 @@ def count_different(made: Callable[[str, int], Stack], folder: str, numbers: ran
 
 
 def main(kind: str, folder: str, seed: int, count: int, program: list[str]) -> int:
-    """Makes and compares so many stacks of a kind; the status is 1 where one differs."""
+    """Makes and compares this many stacks of a kind; the status is 1 if one differs."""
     different = count_different(KINDS[kind], folder, range(seed, seed + count), program)
     print(f"{count} stacks, {different} different, {'with' if program else 'without'} the program")
     return 1 if different else 0

@@ -103,7 +103,7 @@ def is_whiteout(entry: Entry) -> bool:
 
 
 def redirect(entry: Entry) -> Path | str | None:
-    """A path from the root, a name beside, or nothing where it is malformed. Names are those of these stacks alone."""
+    """A path from the root, a name beside, or nothing if it is malformed. Names are only those of these stacks."""
     text = entry.attributes[REDIRECT].decode()
     if text.startswith("/"):
         return names_of(text)
@@ -126,7 +126,7 @@ class Step:
 
 
 def walk(layer: Layer, path: Path) -> Step:
-    """A walk in one layer, told step by step."""
+    """A walk in one layer, step by step."""
     after: Path = ()
     closed = False
     for depth, name in enumerate(path, 1):
@@ -177,7 +177,7 @@ class PlainStack:
         return places
 
     def trace(self, found: list[Place]) -> list[Place]:
-        """The longest beginning of directories alone, or of metacopy files with at most one other non-directory."""
+        """The longest beginning of only directories, or of metacopy files with at most one other non-directory."""
         longest = 0
         for length in range(1, len(found) + 1):
             entries = [self.entry(place) for place in found[:length]]
@@ -191,7 +191,7 @@ class PlainStack:
         return next(iter(self.trace(self.found(path, top))), None)
 
     def contents(self, path: Path, top: int = 0) -> Place | None:
-        """The entry whose contents are shown at a path; none where there is no file, or its data is missing."""
+        """The entry whose contents are shown at a path; none if there is no file, or its data is missing."""
         found = self.found(path, top)
         trace = self.trace(found)
         if not trace or self.entry(trace[0]).kind != FILE:
@@ -304,7 +304,7 @@ class PlainSizes:
         return next((top for top in tops if self.is_used(file, top + 1) and not self.is_used(file, top)), None)
 
     def numbers(self, number: int) -> dict[str, int]:
-        """What is told of a layer."""
+        """What is counted of a layer."""
         own = [file for file in self.files if file.layer == number]
         entries = self._stack.layers[number].values()
         linked = {entry.link for entry in entries if entry.link}

@@ -16,7 +16,7 @@ _CLAIMS = ((4, 4), (12, 4), (16, 4), (26, 2), (32, 8), (40, 8), (48, 8), (56, 8)
 
 
 def require(*programs: str) -> None:
-    """Skips a test where one of these programs isn't there."""
+    """Skips a test if one of these programs isn't there."""
     packages = {"mksquashfs": "squashfs-tools", "unsquashfs": "squashfs-tools"}
     for program in programs:
         if shutil.which(program) is None:
@@ -38,7 +38,7 @@ def spoilt(whole: bytes) -> Iterator[bytes]:
 
 
 def turned(whole: bytes) -> Iterator[bytes]:
-    """A squashfs with a byte turned behind its first block, which may make it another one and not a broken one."""
+    """A squashfs with a byte turned after its first block, which may make it another one and not a broken one."""
     used, pick = int.from_bytes(whole[_USED], "little"), random.Random(9)
     for _ in range(20):
         data = bytearray(whole)

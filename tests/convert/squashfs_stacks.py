@@ -6,7 +6,7 @@ Runs in a mount namespace of its own, as `kernel_stacks` does. Each layer of a s
 kernel mounts them, and an overlay of these mounts. What it shows there must be what PROGRAM shows of the scanned
 layers, and what the kernel shows of the one squashfs that `flatten --stack` makes of them; and what it shows of
 the overlay of the folders must be what it shows of the one folder that is made of those. Of each squashfs that
-stands for two layers or more, `--layers 2` makes two that show the same.
+is of two layers or more, `--layers 2` makes two that show the same.
 """
 
 import contextlib
@@ -25,7 +25,7 @@ _Tree = tuple[str, list[str]]
 
 @contextlib.contextmanager
 def opened(squashfs: str, place: str) -> Iterator[str]:
-    """What a squashfs holds, mounted where loop mounts can be had, or unpacked."""
+    """What a squashfs holds, mounted if loop mounts can be had, or unpacked."""
     os.mkdir(place)
     words = ["mount", "-t", "squashfs", "-o", "loop,ro", squashfs, place]
     if subprocess.run(words, check=False, capture_output=True).returncode == 0:
@@ -104,7 +104,7 @@ def difference(one: _Tree, other: _Tree) -> Iterator[str]:
 
 
 def main(folder: str, seed: int, count: int, program: list[str]) -> int:
-    """Makes and compares so many stacks; the status is 1 where one differs."""
+    """Makes and compares this many stacks; the status is 1 if one differs."""
     different = count_different(StackOfFiles, folder, range(seed, seed + count), program)
     print(f"{count} stacks, {different} different")
     return 1 if different else 0

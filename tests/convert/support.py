@@ -13,7 +13,7 @@ from pathlib import Path
 
 ROOT = Path(__file__).resolve().parents[2]
 COMMAND = ROOT / "layers"
-ROOT_LAYER = ROOT / "examples" / "root.json"  # a layer of a root alone
+ROOT_LAYER = ROOT / "examples" / "root.json"  # a layer of only a root
 PROGRAM = ROOT / "crates" / "ovl_layers" / "out" / "ovl_layers"
 sys.path.insert(0, str(ROOT))
 sys.dont_write_bytecode = True
@@ -23,7 +23,7 @@ from convert.model.attributes import can_read_trusted  # noqa: E402
 
 
 def program_words() -> list[str]:
-    """How the program is run: where it is built, or as `LAYERS_TEST_PROGRAM` says; nothing where it can't be."""
+    """How the program is run: as it is built, or as `LAYERS_TEST_PROGRAM` says; nothing if it can't be."""
     return os.environ.get("LAYERS_TEST_PROGRAM", str(PROGRAM) if PROGRAM.exists() else "").split()
 
 
@@ -65,7 +65,7 @@ def run_as_anybody(*words: str) -> "subprocess.CompletedProcess[str]":
 
 
 def why_no_trusted(folder: str) -> str | None:
-    """Why `trusted.*` attributes and devices can't be had in a folder, or nothing where they can."""
+    """Why `trusted.*` attributes and devices can't be had in a folder, or nothing if they can."""
     if os.geteuid() != 0:
         return "needs root"
     if not can_read_trusted():

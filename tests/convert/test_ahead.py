@@ -54,7 +54,7 @@ class AheadTest(FolderTest):
             yield worker
 
     def unpacked(self, *words: str) -> tuple[object, dict[str, bytes]]:
-        """What unpacking gives: the status and what is told, and the files."""
+        """What unpacking gives: the status, the messages and the files."""
         result, files = call("unpack", self.path("image"), "--out", self.path("out"), *words), {}
         for path, _, names in os.walk(self.path("out")):
             for name in names:
@@ -65,7 +65,7 @@ class AheadTest(FolderTest):
         return result, files
 
     def require_same(self, *words: str) -> object:
-        """The same comes of the image in all ways; tells what."""
+        """The same comes of the image in all ways; gives what."""
         wanted = self.unpacked(*words)
         for is_quick in (False, True):
             with self.side_by_side(is_quick):
@@ -76,7 +76,7 @@ class AheadTest(FolderTest):
 
 
 class Same(AheadTest):
-    """One after the other, side by side, and unpacked by the quick program where it is there."""
+    """One after the other, side by side, and unpacked by the quick program if it is there."""
 
     def test_random_images(self) -> None:
         pick = random.Random(3)
@@ -114,7 +114,7 @@ class Same(AheadTest):
         self.assertEqual(self.require_same()[0], 0)  # type: ignore[index]
 
     def test_when_it_is_done(self) -> None:
-        """Of several layers, or of one that is unpacked quickly, but never where something may be left out."""
+        """Of several layers, or of one that is unpacked quickly, but never if something may be left out."""
         two = [archive([member("a", b"a")]), archive([member("b", b"b")])]
         for layers, words, count in ((two, (), 2), (two[:1] * 3, (), 0), (two, ("--skip-unsupported",), 0)):
             write_layout(self.path("image"), layers)

@@ -43,7 +43,7 @@ class ConfigurationTest(FolderTest):
             return json.load(file)
 
     def pack(self, count: int, image: str, *words: object) -> tuple[int, str, str]:
-        """Packs so many layers of what was unpacked."""
+        """Packs this many layers of what was unpacked."""
         names = [self.path("out", f"l{number}.json") for number in range(count)]
         return call("pack", *names, "--blobs", self.path("out", "blobs"), "--out", self.path(image), *words)
 

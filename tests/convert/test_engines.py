@@ -95,7 +95,7 @@ class Engines(unittest.TestCase):
         return self.docker("run", "--rm", "--network", "none", image)
 
     def inspected(self, image: str, what: str = ".Config") -> object:
-        """A part of what docker tells of an image."""
+        """A part of what docker reports of an image."""
         return json.loads(self.docker("inspect", "--type", "image", "--format", f"{{{{json {what}}}}}", image))
 
     def export(self, engine: Engine, image: str) -> tuple[dict[str, str], list[list[str]]]:

@@ -70,12 +70,12 @@ class FlattenTest(FolderTest):
         return call("flatten", image or self.image, "--out", self.path("all", out), *words)
 
     def left(self, *wanted: str) -> None:
-        """The folder of images has these alone."""
+        """The folder of images has only these."""
         self.assertEqual(sorted(os.listdir(self.path("all"))), sorted(("image", *wanted)))
 
 
 class Steps(FlattenTest):
-    """The order of the steps, and what is left where one fails."""
+    """The order of the steps, and what is left if one fails."""
 
     def setUp(self) -> None:
         super().setUp()
@@ -167,7 +167,7 @@ class Steps(FlattenTest):
         ])
 
     def test_standard_output(self) -> None:
-        """The image alone goes there, faults of layers to standard error; nothing is left in the temporary folder."""
+        """Only the image goes there, faults of layers to standard error; nothing is left in the temporary folder."""
         os.environ["TMPDIR"] = self.path("in", "temporary")
         os.mkdir(os.environ["TMPDIR"])
         self.addCleanup(os.environ.pop, "TMPDIR")
@@ -461,7 +461,7 @@ class Images(ImageTest):
                 self.assertEqual(self.shown(self.path("all", f"flat{layers}.tar")), wanted)
 
     def test_contents_that_change_after_they_were_checked(self) -> None:
-        """They are packed without being digested again, so the new image that is read again tells of them."""
+        """They are packed without being digested again, so reading the new image again reports them."""
         digest = hashlib.sha256(b"topmost").hexdigest()
         with open(self.program, encoding="utf-8") as file:
             real = file.read().replace("exec ", "")
@@ -568,7 +568,7 @@ class Umoci(ImageTest):
         return printed
 
     def configuration(self, image: str) -> dict[str, object]:
-        """The configuration that skopeo tells of an image, but for its layers."""
+        """The configuration that skopeo prints of an image, but for its layers."""
         told = json.loads(self.run_in("skopeo", "inspect", "--config", f"oci:{image}:small"))
         return {name: value for name, value in told.items() if name not in ("rootfs", "history")}
 

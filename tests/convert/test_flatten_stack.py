@@ -53,7 +53,7 @@ class StackTest(FolderTest):
         self.require_done(call("scan", self.path("in", "middle.tar"), "--out", self.middle, *self.blobs))
 
     def require_program(self) -> None:
-        """Skips a test where the program isn't built."""
+        """Skips a test if the program isn't built."""
         if not self.program:
             self.skipTest("needs the built program")
         for name in ("convert.flatten.image.find_program", "convert.common.program.find_program"):
@@ -169,7 +169,7 @@ class Stacks(StackTest):
         self.require_nothing_left("flat.squashfs", "in")
 
     def test_nothing_is_left(self) -> None:
-        """Where the new layers show something else, and where the program ends with a fault."""
+        """When the new layers show something else, and when the program ends with a fault."""
         program = self.path("in", "ovl_layers")
         for text, status, told in (
             ("case $1 in show) echo $$;; fsck) echo 'faults 0 notes 0';; esac", 5, "show something else"),
@@ -186,7 +186,7 @@ class Stacks(StackTest):
             self.require_nothing_left("in")
 
     def require_fault_at_end(self, result: tuple[int, str, str], status: int, told: str) -> None:
-        """The last line that was told."""
+        """The last line that was printed."""
         self.assertEqual(result[0], status, result[2])
         self.assertIn(told, result[2].splitlines()[-1])
 

@@ -156,7 +156,7 @@ class Entries(ImageTest):
             self.empty()
 
     def _require_packed(self, time_ns: int) -> None:
-        """What was unpacked is packed with this time: exactly in a record, or in the header alone where it has place."""
+        """What was unpacked is packed with this time: exactly in a record, or only in the header if it has place."""
         words = ("pack", self.path("out", "l0.json"), "--blobs", self.path("out", "blobs"), "--out", self.path("again"))
         self.require_done(call(*words))
         (layer,) = [path for path in os.scandir(self.path("again", "blobs", "sha256")) if not is_document(path.path)]

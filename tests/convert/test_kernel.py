@@ -21,7 +21,7 @@ mount -t overlay -o lowerdir=$1,upperdir=u/u,workdir=u/w,redirect_dir=on,metacop
 
 
 def why_no_overlay(folder: str, lower: str) -> str | None:
-    """Why no overlay with these lower layers can be mounted here, or nothing where one can."""
+    """Why no overlay with these lower layers can be mounted here, or nothing if one can."""
     reason = why_no_trusted(folder)
     if reason:
         return reason

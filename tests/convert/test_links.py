@@ -139,7 +139,7 @@ class Links(FolderTest):
             self.assertEqual(links(f"{stack}/shown.links"), shown)
 
     def test_files_of_links_that_are_not_taken(self) -> None:
-        """Each is told with its reason, and changes nothing; one that is named must be good."""
+        """Each is reported with its reason, and changes nothing; one that is named must be good."""
         three = [member("a", b"1"), member("b", b"1"), member("c", b"1", mode=0o600), folder("d"), member(".wh.w")]
         stack, given = self.path("stack"), self.path("given.links")
         self.require_done(call("unpack", self.image(three), "--out", stack))

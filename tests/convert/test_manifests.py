@@ -1,4 +1,4 @@
-"""The manifest's one text, and the faults that a wrong one has in either version, as docs/FORMATS.md tells them."""
+"""The manifest's one text, and the faults that a wrong one has in either version, as docs/FORMATS.md has them."""
 
 import json
 import os
@@ -25,7 +25,7 @@ def entry(path: str, kind: str = "dir", **more: Any) -> dict[str, Any]:
 
 
 def manifest(version: int, *entries: dict[str, Any]) -> bytes:
-    """A manifest of these entries, which have no nanoseconds in version 2 where nothing is said of them."""
+    """A manifest of these entries, which have no nanoseconds in version 2 if nothing is said of them."""
     members = {NSEC: 0} if version == 2 else {}
     return json.dumps({"overlay-layer": version, "entries": [{**members, **it} for it in entries]}).encode()
 

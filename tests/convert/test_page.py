@@ -48,7 +48,7 @@ class PageTest(SizesTest):
 
 
 class Text(PageTest):
-    """What stands in the file."""
+    """What is in the file."""
 
     def setUp(self) -> None:
         super().setUp()
@@ -132,7 +132,7 @@ class InBrowser(PageTest):
         return str(self.browser.value("document.querySelector('nav').textContent"))
 
     def click(self, query: str) -> None:
-        """Clicks on an element where its name stands."""
+        """Clicks on an element at its name."""
         x, y = self.browser.value(
             f"(e => {{ e.scrollIntoView({{block: 'center'}}); const r = e.getBoundingClientRect(); "
             f"return [r.x + Math.min(9, r.width / 2), r.y + Math.min(9, r.height / 2)]; }})({query})"
@@ -196,7 +196,7 @@ class InBrowser(PageTest):
         self.assertEqual(self.browser.value("document.querySelectorAll('#not-shown tbody tr:not([hidden])').length"), 1)
 
     def _fits(self) -> None:
-        """Light and dark, wide and narrow: the text is told from the ground, and nothing sticks out."""
+        """Light and dark, wide and narrow: the text differs from the ground, and nothing sticks out."""
         for scheme, ground in (("light", "rgb(255, 255, 255)"), ("dark", "rgb(22, 24, 27)")):
             for width in (1_600, 800, 380):
                 self.browser.look(width, 900, scheme)

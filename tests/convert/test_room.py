@@ -1,4 +1,4 @@
-"""Room: what is needed is asked for before anything is written, and a full disk is told by the name of `--out`."""
+"""Room: what is needed is asked for before anything is written, and a full disk is reported by the name of `--out`."""
 
 import os
 import resource

@@ -203,7 +203,7 @@ class Telling(SizesTest):
             self.assertEqual(result[2], told)
 
     def test_stacks(self) -> None:
-        """Manifests, and folders where their marks can be read, in one stack."""
+        """Manifests, and folders if their marks can be read, in one stack."""
         self.write_image()
         self.require_done(call("unpack", self.path("image"), "--out", self.path("stack")))
         layers = [self.path("stack", f"l{number}.json") for number in range(4)]

@@ -54,7 +54,7 @@ class FileTest(FolderTest):
         return self.path(name)
 
     def scan(self, path: str, *words: str) -> tuple[bytes, str]:
-        """The manifest of a layer, and what was told."""
+        """The manifest of a layer, and what was reported."""
         result = call("scan", path, "--out", self.path("out.json"), "--blobs", self.path("blobs"), *words)
         self.require_done(result)
         with open(self.path("out.json"), "rb") as file:
@@ -164,7 +164,7 @@ class Building(FileTest):
                 self.empty()
 
     def test_between_images_and_squashfs(self) -> None:
-        """The commands of the README, run as they stand there."""
+        """The commands of the README, run as they are there."""
         text = (ROOT / "convert" / "README.md").read_text(encoding="utf-8")
         chapter = text.split("## Between images and squashfs\n", 1)[1].split("\n## ", 1)[0]
         commands = [line.strip() for line in chapter.splitlines() if line.startswith("    ")]

@@ -65,7 +65,7 @@ class ToolTest(FolderTest):
         put_index(self.path("image"), [{**descriptor, "annotations": notes}])
 
     def need(self, *programs: str) -> None:
-        """Skips where a program isn't there."""
+        """Skips if a program isn't there."""
         for program in programs:
             if shutil.which(program) is None:
                 self.skipTest(f"needs {program}")
@@ -111,7 +111,7 @@ class Trees(ToolTest):
         if os.geteuid() != 0:
             self.skipTest("needs root")
         store = ["buildah", "--root", self.path("store"), "--runroot", self.path("run"), "--storage-driver", "vfs"]
-        # The image gets its folder's name in the store, where not every path can be one.
+        # The image gets its folder's name in the store, in which not every path can be one.
         made = subprocess.run(
             [*store, "from", "--quiet", "oci:image:t"], cwd=self.folder, capture_output=True, text=True, check=False,
         )

@@ -7,8 +7,8 @@ The rest is anything: layers of few names with all marks, redirects that lead no
 are missing, and data-only layers. Each manifest is of a version by chance; times in one of version 2 may lie below a
 second. In a third of the stacks contents are missing, wrong, cut or doubled, and strangers lie beside them. `show`, and
 all other commands with and without `--any-size`, must give the same standard output, standard error, status and new layers
-as the other reading, which isn't given that word. What `flatten` makes must show alone what the stack shows, and `fsck` must
-find nothing in it. A case depends on the seed and its number alone.
+as the other reading, which isn't given that word. What `flatten` makes must show by itself what the stack shows, and `fsck` must
+find nothing in it. A case depends only on the seed and its number.
 
 The other reading is a command that takes the same words (docs/FORMATS.md); as another build of the program does.
 
@@ -92,7 +92,7 @@ def timed(rng: random.Random, made: Entry) -> Entry:
 
 
 def anything(rng: random.Random) -> Layer:
-    """A layer below its root, of up to so many entries."""
+    """A layer below its root, of up to this many entries."""
     found, below = {}, [""]
     for _ in range(rng.randint(0, MOST)):
         path = rng.choice(below) + "/" + rng.choice(NAMES)
@@ -145,7 +145,7 @@ def in_version(layer: Layer, version: int) -> Layer:
 
 
 def contents_of(rng: random.Random) -> dict[str, bytes]:
-    """What lies in the folder of contents, by name; where it is spoilt, strangers lie there too."""
+    """What is in the folder of contents, by name; if it is spoilt, with strangers."""
     held = {hashlib.sha256(it).hexdigest(): it for it in CONTENTS[1:]}
     if rng.random() >= SPOILT:
         return held
@@ -181,7 +181,7 @@ class Answer:
 
 # A command, what is wanted of it, and what it says.
 Difference = tuple[str, Answer, Answer]
-# What `fsck` answers where it finds nothing.
+# What `fsck` answers if it finds nothing.
 CLEAN = Answer(0, b"faults 0 notes 0\n", b"", {})
 
 
@@ -235,7 +235,7 @@ def compared(program: list[str], oracle: list[str], case: Case) -> tuple[Case, l
 
 
 def tell(case: Case, differ: list[Difference], keep: str | None) -> None:
-    """Prints a case whose answers differ, and keeps its manifests where it is asked for."""
+    """Prints a case whose answers differ, and keeps its manifests if asked to."""
     for what, *answers in differ:
         print(f"case {case.number}, {what}, layers: {len(case.layers)}, data-only: {case.data_only}")
         for name, it in zip(("wanted", "found"), answers):

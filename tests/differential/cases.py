@@ -1,4 +1,4 @@
-"""What the scripts share that run the program on cases that they make, and tell those of which something else is said."""
+"""What the scripts share that run the program on cases that they make, and print those that come out otherwise."""
 import argparse
 import collections
 import os
@@ -17,7 +17,7 @@ def words_of(description: str, cases: str, count: int) -> argparse.ArgumentParse
 
 
 def add_oracle(words: argparse.ArgumentParser, case: str, after: str) -> None:
-    """Adds those of one that compares with an independent reading, whose command takes `after` behind its own words."""
+    """Adds those of one that compares with an independent reading, whose command takes `after` after its own words."""
     words.add_argument("--oracle", required=True, metavar="COMMAND", help="the other reading: a command and its words, after "
                        f"which come {after}; it answers as the program must, see docs/FORMATS.md")
     words.add_argument("--case", type=int, action="append", help=f"only the {case} of this number; may be said again")

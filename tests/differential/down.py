@@ -6,7 +6,7 @@ a mounted overlay leaves them, some of them spoilt, half of them over a data-onl
 of beside.py. Contents are right, missing or wrong. For each number of layers that may be left, `merge --down-to` must give
 the standard output, standard error, status and new layers of the last of the runs by hand, each of which takes the lower
 layer that the one before made into the next, or of the first that ends otherwise than with status 0; with `--any-size` too.
-Where it gives layers, the stack with these must show the same, and one layer that is left alone what `flatten` makes. A
+If it gives layers, the stack with these must show the same, and a single layer that is left must be what `flatten` makes. A
 number that is none, or too great, must be refused.
 
     python3 tests/differential/down.py --program ./ovl_layers
@@ -64,7 +64,7 @@ class Room:
         return beside.answer(self._program, what, self.case, self._blobs, files, self._workers, more)
 
     def alone(self, file: str) -> Answer:
-        """What a layer shows alone."""
+        """What a layer shows by itself."""
         case = replace(self.case, data_only=0)
         return beside.answer(self._program, "show", case, self._blobs, [file], self._workers, ())
 
@@ -87,7 +87,7 @@ class Room:
         return said
 
     def after(self, left: int, answered: Answer) -> Iterator[Difference]:
-        """What is wanted, and what is shown, with the new layers, and with the lower of them alone."""
+        """What is wanted, and what is shown, with the new layers, and with only the lower one."""
         lower, top = self.kept(f"lower-{left}.json", answered), self.kept(f"top-{left}.json", answered, "layer-0.json")
         rest, before = self.files[ordinary(self.case) - left + 1:], self.run("show", self.files)
         yield f"show of {left} left", before, self.run("show", [lower, *rest])

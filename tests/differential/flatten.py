@@ -1,13 +1,13 @@
 #!/usr/bin/env python3
-"""Merges stacks of layers down to one layer, two at a time, and tells where a stack shows something else, and where
+"""Merges stacks of layers down to one layer, two at a time, and reports where a stack shows something else, and where
 `flatten` makes another layer.
 
 Python 3.11, standard library. A stack is a folder with `l0.json`, the topmost, `l1.json` and so on. After each merge
-the stack with both new layers is shown, and then that without the topmost, which has a root alone: both must show what
+the stack with both new layers is shown, and then that without the topmost, which has only a root: both must show what
 the stack showed at first, byte for byte. The layer that is left must be that of `flatten`. Each command is run by 1 and by
 7 workers, which must write the same.
 
-Where a stack has no folder `blobs`, stand-ins serve for its contents, as in twice.py.
+If a stack has no folder `blobs`, stand-ins serve for its contents, as in twice.py.
 
     python3 tests/differential/flatten.py --program ./ovl_layers examples/renamed examples/copied
 """

@@ -4,11 +4,11 @@
 Python 3.11, standard library. Each case is a small layer of odd names, kinds and attributes, of which mostly one thing
 is spoilt: bytes, members, numbers, texts, digests, paths, the order of the entries. Some are only written in another
 way, and are shown. They are of one version; a quarter of them lie under a sound layer of either. `show` by 1 and by 4
-workers must give the same standard output, standard error and status as the other reading. A case depends on the version,
-the seed and its number alone.
+workers must give the same standard output, standard error and status as the other reading. A case depends only on the
+version, the seed and its number.
 
 The other reading is a command that takes the words of `show` (docs/FORMATS.md), reads the manifests, prints the report
-or the line of the fault, and ends with the status that stand there; as another build of the program does.
+or the line of the fault, and ends with the status, as that page says; as another build of the program does.
 
     python3 tests/differential/spoilt.py --program ./ovl_layers --oracle 'python3 reading.py'
 """
@@ -71,16 +71,16 @@ TEXTS = (b"", b" ", b"\n", b"null", b"true", b"0", b"-", b'"', b'"x"', b"[]", b"
 AFTER = (b" ", b"\n\n", b"\r\n", b"\t", b"\0", b"x", b",", b"}", b"]", b"{}", b"null", b"//", b"\x0c", b"\xc2\xa0")
 
 
-# ---- values: texts, whole numbers, lists, members of an object, and what is written as it stands
+# ---- values: texts, whole numbers, lists, members of an object, and what is written as it is
 
 @dataclass(frozen=True)
 class Raw:
-    """A text that stands in the manifest as it is."""
+    """A text that is in the manifest as it is."""
 
     text: str
 
 
-# A value may be of any type, also where a sound manifest has a text: as the name of a member.
+# A value may be of any type, also if a sound manifest has a text: as the name of a member.
 Value = Any
 Member = tuple[Value, Value]
 
@@ -92,7 +92,7 @@ class Members(list[Member]):
         return next((value for it, value in self if it == name), None)
 
     def put(self, name: Value, value: Value) -> None:
-        """Gives the member this value, and adds it where it is missing."""
+        """Gives the member this value, and adds it if it is missing."""
         at = next((n for n, (it, _) in enumerate(self) if it == name), len(self))
         self[at:at + 1] = [(name, value)]
 
@@ -114,7 +114,7 @@ def some_style(rng: random.Random) -> Style:
 
 
 def escaped(text: str) -> str:
-    """A text with every character as an escape, in two where it takes more than sixteen bits."""
+    """A text with every character as an escape, in two if it takes more than sixteen bits."""
     units = text.encode("utf-16-be", "surrogatepass")
     return "".join(f"\\u{units[n:n + 2].hex()}" for n in range(0, len(units), 2))
 
@@ -210,7 +210,7 @@ def entries_of(manifest: Members) -> list[Value]:
 
 
 def version_of(manifest: Members) -> int:
-    """The version of a manifest, the last one where that is spoilt."""
+    """The version of a manifest, the last one if that is spoilt."""
     found = manifest.get("overlay-layer")
     return found if type(found) is int and found in DEEPEST else max(DEEPEST)
 
@@ -221,13 +221,13 @@ def objects_of(manifest: Members) -> list[Members]:
 
 
 def attributes_of(members: Members) -> Members:
-    """The attributes of an entry, none where they aren't an object."""
+    """The attributes of an entry, none if they aren't an object."""
     found = members.get("xattrs")
     return found if isinstance(found, Members) else Members()
 
 
 def some_entry(rng: random.Random, manifest: Members) -> Members:
-    """One of the entries that are objects; where there is none, one that stands nowhere."""
+    """One of the entries that are objects; if there is none, one that is nowhere."""
     return rng.choice(objects_of(manifest) or [Members()])
 
 
@@ -301,14 +301,14 @@ def odd_time(rng: random.Random, manifest: Members) -> None:
 
 
 def odd_nanoseconds(rng: random.Random, manifest: Members) -> None:
-    """Nanoseconds at the edges, and where there may be none."""
+    """Nanoseconds at the edges, and at places that have none."""
     values = ("0", "1", "-1", "-0", "000000001", "999999999", "1000000000", "1000000001", "999999999.0", "0.5", "1e3", "1e9",
               "4294967296", "18446744073709551616", '"0"', '""', "null", "true", "[]")
     some_entry(rng, manifest).put(NSEC, Raw(rng.choice(values)))
 
 
 def entry_of_another_version(rng: random.Random, manifest: Members) -> None:
-    """One entry, or each, with nanoseconds where the version has none, or without."""
+    """One entry, or each, with nanoseconds if the version has none, or without."""
     wanted = [some_entry(rng, manifest)] if rng.random() < 0.5 else objects_of(manifest)
     for within in wanted:
         if within.get(NSEC) is None:
@@ -479,7 +479,7 @@ def nested(rng: random.Random, manifest: Members) -> None:
     members.put(name, Raw(rng.choice((lists, objects, both, "[" * depth))))
 
 
-# What stands twice is drawn twice as often.
+# What is here twice is drawn twice as often.
 VALUES: tuple[Callable[[random.Random, Members], None], ...] = (
     renamed_member, doubled_member, doubled_member, missing_member, extra_member, odd_number, odd_number, number_at_an_edge,
     number_at_an_edge, odd_time, odd_nanoseconds, entry_of_another_version, other_type, odd_escape, odd_escape, odd_digits,
@@ -623,7 +623,7 @@ def compared(program: list[str], oracle: list[str], case: Case) -> tuple[Case, A
 
 
 def tell(case: Case, wanted: Answer, others: list[tuple[int, Answer]], keep: str | None) -> None:
-    """Prints a case whose answers differ, and keeps its manifests where it is asked for."""
+    """Prints a case whose answers differ, and keeps its manifests if asked to."""
     print(f"case {case.number} ({case.spoilt}), layers: {len(case.manifests)}")
     for name, it in [("wanted", wanted), *((f"{workers} workers", it) for workers, it in others)]:
         print(f"  {name}: status {it.status}, printed {it.printed[:TOLD]!r}, told {it.told[:TOLD]!r}")

@@ -1,5 +1,5 @@
 #!/usr/bin/env python3
-"""Vacuums and flattens stacks of layers twice, and tells where the second time changes something or a stack shows
+"""Vacuums and flattens stacks of layers twice, and reports where the second time changes something or a stack shows
 something else.
 
 Python 3.11, standard library. A stack is a folder with `l0.json`, the topmost, `l1.json` and so on, as compare.sh
@@ -8,7 +8,7 @@ one over itself; then what comes of it is vacuumed again over the same layers: n
 flattened, and then the layer that comes of it: the same layer must come of that, byte for byte. What is shown is compared
 before, between and after.
 
-Where a stack has no folder `blobs`, each digest gets contents of its own, of 64 bytes, and every file that isn't empty
+If a stack has no folder `blobs`, each digest gets contents of its own, of 64 bytes, and every file that isn't empty
 this size: both want right contents, and nothing is lost by it, since files of other contents stay others.
 
     python3 tests/differential/twice.py --program ./ovl_layers examples/copied examples/moved

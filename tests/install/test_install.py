@@ -35,7 +35,7 @@ def section(text: str, name: str) -> str:
 
 
 def page_commands(text: str) -> set[str]:
-    """The commands that a manual page tells of."""
+    """The commands that a manual page has."""
     return set(re.findall(r"^\.TP\n\.B ([a-z]+)$", section(text, "COMMANDS"), re.MULTILINE))
 
 

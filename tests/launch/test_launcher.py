@@ -1,4 +1,4 @@
-"""What the launcher prints where nothing is built; how it proves, builds and previews, with a stand-in for `rt`."""
+"""What the launcher prints if nothing is built; how it proves, builds and previews, with a stand-in for `rt`."""
 
 import fcntl
 import os
@@ -19,7 +19,7 @@ _TEXTS = ROOT / "examples" / "help"
 _COMMANDS = ("show", "fsck", "vacuum", "deref", "merge", "flatten")
 _NO_BUILD = "ovl_layers: the program must be built, and rt is not on the PATH\n"
 _UNPROVED = "ovl_layers: unproved: this program is compiled without proofs\n"
-# What each crate stands on, and how many lines it has: `left` is longer than `right`. The program stands on no tests.
+# What each crate depends on, and how many lines it has: `left` is longer than `right`. The program depends on no tests.
 _CRATES = {"high": "left right std", "low": "hex", "left": "low", "right": "low", "ovl_layers": "high", "tests": "high"}
 _LINES = {"left": 9}
 _SECONDS = 120
@@ -31,7 +31,7 @@ def text(name: str) -> str:
 
 
 class LauncherTest(FolderTest):
-    """The launcher of a repository where nothing is built, on a machine without `rt`."""
+    """The launcher of a repository in which nothing is built, on a machine without `rt`."""
 
     search = "/usr/bin:/bin"
 
@@ -53,7 +53,7 @@ class LauncherTest(FolderTest):
         return launcher
 
     def told_by(self, launcher: "subprocess.Popen[str]") -> str:
-        """What one has told so far."""
+        """What one has printed so far."""
         return Path(self.path(f"told-{launcher.pid}")).read_text(encoding="utf-8")
 
     def ended(self, launcher: "subprocess.Popen[str]") -> tuple[int, str, str]:
@@ -126,7 +126,7 @@ class Making(LauncherTest):
         return Path(self.path("crates", name, "out"))
 
     def put(self, name: str, told: str = "") -> None:
-        """Tells the stand-in something."""
+        """Gives the stand-in a message."""
         (self.notes / name).write_text(told, encoding="utf-8")
 
     def asked(self, name: str) -> str:
@@ -150,7 +150,7 @@ class Making(LauncherTest):
             time.sleep(0.01)
 
     def wait_to_tell(self, launcher: "subprocess.Popen[str]", part: str) -> None:
-        """Waits until a launcher has told something."""
+        """Waits until a launcher has printed something."""
         self.wait_until(lambda: part in self.told_by(launcher))
 
     def wait_for(self, name: str) -> int:

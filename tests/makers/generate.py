@@ -76,7 +76,7 @@ class Generator:
         return share > 0 and self.rng.getrandbits(24) < share
 
     def time(self, seconds: int, whole: bool = False) -> str:
-        """The text of a time, behind the name of its first member."""
+        """The text of a time, after the name of its first member."""
         if self.version == 1:
             return str(seconds)
         below = 0 if whole or self.nanoseconds.getrandbits(1) else self.nanoseconds.randrange(10 ** 9)

@@ -1,4 +1,4 @@
-"""Layers of small stacks as lists of entries, which are put into path order where they are written."""
+"""Layers of small stacks as lists of entries, which are put into path order when they are written."""
 from __future__ import annotations
 
 import json
@@ -9,7 +9,7 @@ from entries import Entry, entry, stated
 from generate import LAST
 
 Layer = list[Entry]
-# What a manifest is written of: a layer, a function that makes it, or a text as it stands.
+# What a manifest is written of: a layer, a function that makes it, or a text as it is.
 Source = Layer | Callable[[], Layer] | str
 Sources = Sequence[Source]
 
@@ -37,7 +37,7 @@ def chain(name: str, depth: int, attrs: Mapping[str, str] | None = None) -> Laye
 
 
 class First(Layer):
-    """A layer whose manifest is of version 1, in which no nanoseconds stand; others are of the last version."""
+    """A layer whose manifest is of version 1, which has no nanoseconds; others are of the last version."""
 
 
 def names_of(it: Entry) -> list[bytes]:
@@ -54,9 +54,9 @@ def manifest_of(layer: Source, entries: Layer) -> dict[str, object]:
 
 def write(folder: str, layers: Sources, unsorted: bool = False) -> list[str]:
     """Writes the layers, the topmost first, and gives the files' names. A layer may be a function that makes it, and a
-    text that is written as it stands.
+    text that is written as it is.
 
-    Members stand in the order of their names, as the converter and the program write them, or unsorted."""
+    Members are in the order of their names, as the converter and the program write them, or unsorted."""
     names = []
     for n, layer in enumerate(layers):
         names.append(os.path.join(folder, f"layer-{n:03d}.json"))

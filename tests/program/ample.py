@@ -1,16 +1,16 @@
 #!/usr/bin/env python3
 """Makes many small stacks, full of redirects, and looks whether every command does with them what it must.
 
-Python 3.11, standard library. Each layer is made as a mounted overlay leaves it behind: files and directories of the
+Python 3.11, standard library. Each layer is made as a mounted overlay leaves it: files and directories of the
 tree so far are moved, also into each other, replaced, removed, changed and made, and the layer has what that takes:
 redirects to a path or to a name beside, opaque directories, whiteouts of both forms, metacopy files over files and
 over other metacopy files, and copies of what lies below. So it is known what each stack shows, and that it is sound.
 In a third of the stacks something is then changed that no mounted overlay would have changed. The manifests of a stack are
 of both versions: some of those without a time below a second are of version 1.
 
-Where `fsck` finds no fault, `vacuum`, `deref` and `merge` must give new layers with which the stack shows the same
-bytes, and `flatten` one that does so alone; `vacuum` once more must remove nothing, `fsck` must find no fault after
-`vacuum` and `deref`, and nothing after `flatten`. Where it finds one, all four must answer with its report. There is memory
+If `fsck` finds no fault, `vacuum`, `deref` and `merge` must give new layers with which the stack shows the same
+bytes, and `flatten` one that does so by itself; `vacuum` once more must remove nothing, `fsck` must find no fault after
+`vacuum` and `deref`, and nothing after `flatten`. If it finds one, all four must answer with its report. There is memory
 enough, so no command may end with `out of memory`.
 
 Before these come stacks whose new layers just keep a limit of names or of text, or just pass it: `deref`, `merge` and
@@ -41,9 +41,9 @@ CONTENTS = ("", "a", "b", "abc")
 NAMES, DEEPEST = ("a", "b", "c", "d"), 5
 NANOSECONDS = (0, 1, 500_000_000, 999_999_999)
 REWRITES = ("vacuum", "deref", "merge", "flatten")
-# What `fsck` prints where it finds nothing.
+# What `fsck` prints if it finds nothing.
 CLEAN = b"faults 0 notes 0\n"
-# How many stacks that are not as they should be are told, and the seconds after which a command counts as one without end.
+# How many stacks that are not as they should be are printed, and the seconds after which a command counts as one without end.
 TOLD, LONGEST = 10, 60
 
 
@@ -204,7 +204,7 @@ def spoil(rng: random.Random, layers: list[Layer]) -> None:
 
 @dataclass(frozen=True)
 class Stack:
-    """Layers, the topmost first, and what they show, where that is known."""
+    """Layers, the topmost first, and what they show, if that is known."""
 
     layers: list[Layer]
     tree: Tree | None
@@ -218,7 +218,7 @@ def of_some_version(rng: random.Random, layer: Layer) -> Layer:
 def stack_of(rng: random.Random, counts: tuple[int, ...] = (2, 3, 3, 4, 5)) -> Stack:
     tree: Tree = {}
     layers: list[Layer] = []
-    # The lowest layers may be of a time in which manifests had whole seconds alone.
+    # The lowest layers may be of a time in which manifests had only whole seconds.
     times = rng.choice(((0,), NANOSECONDS))
     for _ in range(rng.choice(counts)):
         lower, tree = tree, work(rng, tree, times)
@@ -250,7 +250,7 @@ def chain(path: str, names: list[str]) -> Layer:
 
 
 def moved_to(place: str) -> Layer:
-    """A layer that moves `/x` to a place, in a directory of the layer where that isn't the root."""
+    """A layer that moves `/x` to a place, in a directory of the layer, if that isn't the root."""
     above = [entry(place.rpartition("/")[0])] if place.count("/") > 1 else []
     return [*above, entry(place, attrs={REDIRECT: "/x"}), entry("/x", "char", major=0, minor=0)]
 
@@ -341,7 +341,7 @@ class Differs(Exception):
 
 
 def ran(program: str, *words: str) -> tuple[int, bytes]:
-    """Status and standard output of a run, which must tell no fault on standard error."""
+    """Status and standard output of a run, which must report no fault on standard error."""
     done = subprocess.run([program, *words], stdin=subprocess.DEVNULL, capture_output=True, check=False, timeout=LONGEST)
     if done.returncode not in (0, 1) or done.stderr:
         raise Differs(f"{words[0]} ended with status {done.returncode}: {done.stderr.decode(errors='replace').strip()[:200]}")
@@ -354,7 +354,7 @@ def same(what: str, one: object, other: object) -> None:
 
 
 def rewritten(program: str, blobs: str, layers: list[str], command: str, folder: str) -> tuple[list[str], tuple[int, bytes]]:
-    """The layers with the new ones of a command, or that of `flatten` alone, and its status and what it printed."""
+    """The layers with the new ones of a command, or only that of `flatten`, and its status and what it printed."""
     out = os.path.join(folder, command)
     os.makedirs(out, exist_ok=True)
     status, printed = ran(program, command, "--blobs", blobs, "--out", out, "--workers", "3", *layers)
@@ -447,7 +447,7 @@ def main() -> None:
     words = argparse.ArgumentParser(description="Makes many small stacks, and runs every command on them.")
     words.add_argument("--program", required=True, help="path of the program")
     words.add_argument("--count", type=int, default=2_000, help="how many stacks (default 2,000)")
-    words.add_argument("--seed", default="1", help="other stacks; one depends on the seed and its number alone (default 1)")
+    words.add_argument("--seed", default="1", help="other stacks; one depends only on the seed and its number (default 1)")
     words.add_argument("--keep", type=int, metavar="N", help="only print the layers of the stack of this number")
     given = words.parse_args()
     if given.keep is not None:

@@ -6,7 +6,7 @@ costs: a body that asks every code of every entry, makes a view anew for each na
 it has, halves a list so that one half is all of it, or compares paths byte by byte, gives the same bytes. So the
 instructions of one run of each stack are counted, and may be no more than its bound, at most a few tenths over what it took
 as it was bounded. The same program takes the same number of instructions, but for some hundreds that come of the
-environment. Where a worker took a lock for each directory that would be few instructions more, so those that no other
+environment. A lock for each directory would be few instructions more, so those that no other
 processor's may come between are counted apart.
 
     python3 tests/program/bounds.py --program crates/ovl_layers/out/ovl_layers
@@ -72,7 +72,7 @@ def apart(layers: int, count: int) -> tuple[Layer, ...]:
 
 
 def alike(count: int, names: int) -> Layer:
-    """Directories that were moved from places of many names, which differ in the first alone."""
+    """Directories that were moved from places of many names, which differ only in the first."""
     return [entry(f"/m{n:04d}", attrs={REDIRECT: f"/d{n:04d}" + "/n" * names}) for n in range(count)]
 
 

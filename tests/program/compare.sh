@@ -1,10 +1,10 @@
 #!/usr/bin/env bash
 # Compares what PROGRAM makes of each folder's layers (l0.json, the topmost, l1.json and so on) by 1, 2, 7 and 64
-# workers with the files there, byte for byte: `show` with expected.show, and where there is a folder of blobs, `fsck`
-# with expected.fsck, or with a report that finds nothing where there is no such file. Where there is expected.vacuum,
+# workers with the files there, byte for byte: `show` with expected.show, and if there is a folder of blobs, `fsck`
+# with expected.fsck, or with a report that finds nothing if there is no such file. If there is expected.vacuum,
 # expected.deref, expected.merge or expected.flatten, the report of that command is compared with it, the new layers with
-# expected.vacuum.layer-0.json and so on, and what the stack with the new layers shows, or the one of flatten alone, with
-# expected.show. A file data-layers has the number of the lowest layers that are data-only, where there are some.
+# expected.vacuum.layer-0.json and so on, and what the stack with the new layers shows, or only the one of flatten, with
+# expected.show. A file data-layers has the number of the lowest layers that are data-only, if there are some.
 set -uo pipefail
 
 if (($# < 2)); then

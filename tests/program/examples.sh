@@ -2,7 +2,7 @@
 # Compares PROGRAM's report of each layer in examples with the `.show` file beside it, its reports of the stacks there, by
 # several numbers of workers, with what is expected of them, and its help, its version and what it says of unknown words
 # with `help.txt`, `version.txt` and the texts in `help`, byte for byte; its answers of worked stacks with those of
-# `stacks.txt`; and what it tells of the manifests of `refused`. Without PROGRAM it is the launcher's.
+# `stacks.txt`; and what it says of the manifests of `refused`. Without PROGRAM it is the launcher's.
 set -uo pipefail
 
 tests=$(dirname -- "$(readlink -f -- "${BASH_SOURCE[0]}")")

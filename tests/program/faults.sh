@@ -2,7 +2,7 @@
 # Runs PROGRAM on files and folders that can't be read or written, on words that don't fit and on what its command
 # refuses, and compares status, standard output and standard error with what docs/FORMATS.md says. The program may take
 # 3 GB of memory, fewer than the blobs of one of the folders have. Calls of the system that fail are made so by
-# refuse.c, which stands before the C library and which the compiler of `rt` builds.
+# refuse.c, which is loaded before the C library and which the compiler of `rt` builds.
 set -uo pipefail
 ulimit -v 3000000
 
@@ -17,9 +17,9 @@ trap 'rm -rf -- "$folder"' EXIT
 cd -- "$folder" || exit 1
 
 same=0 other=0
-# What runs the program, where it isn't run as it is.
+# What runs the program, if it isn't run as it is.
 over=
-# Told of the words after what is wanted; `told` and `printed` hold what was written.
+# The words come after what is wanted; `told` and `printed` hold what was written.
 differs() {
     local what=$1
     shift
@@ -29,7 +29,7 @@ differs() {
     other=$((other + 1))
 }
 
-# Runs the words after STATUS and FILE; true where the program ends with this status and leaves this file empty.
+# Runs the words after STATUS and FILE; true if the program ends with this status and leaves this file empty.
 ends() {
     local wanted=$1 silent=$2
     shift 2
@@ -92,14 +92,14 @@ misfits() {
 }
 
 # By the words after REASON and USAGE: status 2, nothing on standard output, and the text of `clap` with this reason and,
-# where USAGE isn't empty, this line of usage.
+# if USAGE isn't empty, this line of usage.
 explains() {
     local text=$'error: '$1$'\n\n'${2:+"Usage: ovl_layers $2"$'\n\n'}$'For more information, try \'--help\'.\n'
     shift 2
     ends 2 printed "$@" && says told "$text" "$@"
 }
 
-# Counts whether the new layer in FOLDER has the bytes of FILE, or isn't there where there is no FILE.
+# Counts whether the new layer in FOLDER has the bytes of FILE, or isn't there if there is no FILE.
 gives() {
     local new=$1/layer-0.json
     if (($# == 1)) && [[ ! -e $new ]] || { (($# == 2)) && cmp -s -- "$new" "$2"; }; then
@@ -152,7 +152,7 @@ from_a_pipe() {
 }
 
 # Runs the words after CALL, PATH, AT and ERROR; the call AT of the file whose path ends so fails with this error's number,
-# or for 0 moves no byte. Reads and writes move at most `most` bytes, where that is set. `met` gets how many there were.
+# or for 0 moves no byte. Reads and writes move at most `most` bytes, if that is set. `met` gets how many there were.
 most=
 failing() {
     local words=("REFUSE=$1" "REFUSE_PATH=$2" "REFUSE_AT=$3" "REFUSE_ERROR=$4" "REFUSE_MOST=$most" REFUSE_TOLD=met)
@@ -219,7 +219,7 @@ done
 printf '{"entries":[%s],"overlay-layer":2}' "$(printf '0,%.0s' {1..1200000})0" > items.json
 
 # A metacopy file over its contents; and a moved directory with a chain of directories below its old place, of which the
-# last lies within the limit of names for the shorter chain alone.
+# last lies within the limit of names only for the shorter chain.
 at() {
     printf ',{"gid":0,"kind":"%s","mode":493,"mtime":0,"mtime-nsec":0,"path":"%s","uid":0,%s}' "$@"
 }
@@ -235,7 +235,7 @@ at file /k '"size":3,"xattrs":{"trusted.overlay.metacopy":""}' | sed 's/493/420/
     at dir /p/q '"xattrs":{"trusted.overlay.redirect":"2f78"}'
     at char /x "$plain"',"major":0,"minor":0'
 } | layer > moved.json
-# Directories of a name, so many in each other, below a path.
+# Directories of a name, this many in each other, below a path.
 chain() {
     local deep=$1
     for ((i = 0; i < $3; i++)); do
@@ -307,7 +307,7 @@ prints 1 'fault blob-size 0 /k\nfault blob-digest 0 /k\nfaults 2 notes 0\n' fsck
 prints 1 'fault blob-size 0 /k\nfault blob-digest 0 /k\nfaults 2 notes 0\n' fsck --blobs hollow k.json
 prints 0 'faults 0 notes 0\n' fsck --blobs most root.json
 prints 0 'faults 0 notes 0\n' fsck --blobs crowd root.json
-# (Contents that begin as a byte order mark does are told whole, held and in parts.)
+# (Contents that begin as a byte order mark does are read whole, held and in parts.)
 prints 0 'faults 0 notes 0\n' fsck --blobs marked marked.json
 prints 0 'faults 0 notes 0\n' fsck --any-size --blobs marked marked.json
 
@@ -384,7 +384,7 @@ each open k.json '5 12 13 24' refuses 3 'cannot read k.json' fsck --blobs blobs 
 each open "/$abc" '5 12 13 24' refuses 3 "cannot read blobs/$abc" fsck --blobs blobs k.json
 each open blobs/ '5 12 13 24' refuses 3 'cannot read blobs' fsck --blobs blobs k.json
 each list blobs/ '4 5 12' refuses 3 'cannot read blobs' fsck --blobs blobs k.json
-# (A blob is looked at once, in the listing: what it is, and its length. A layer whose length isn't told is read all the same.)
+# (A blob is looked at once, in the listing: what it is, and its length. A layer whose length isn't stated is read all the same.)
 each stat "/$abc" '4 5 12' refuses 3 'cannot read blobs' fsck --blobs blobs k.json
 each stat k.json '4 5 12' prints 0 "$clean" fsck --blobs blobs root.json k.json
 most=100
@@ -396,7 +396,7 @@ each open k.json 4 prints 0 "$clean" fsck --blobs blobs root.json k.json
 each open "/$abc" 4 prints 0 "$clean" fsck --blobs blobs k.json
 
 # Contents in parts: names that no layer has aren't looked at, and there is no limit of their bytes. What isn't a regular file
-# is missing; what can't be read is told.
+# is missing; what can't be read is reported.
 parts=(fsck --any-size --blobs)
 prints 0 "$clean" "${parts[@]}" blobs k.json
 prints 0 "$clean" "${parts[@]}" blobs/ --workers 1 root.json k.json
@@ -410,7 +410,7 @@ prints 0 "$clean" "${parts[@]}" large root.json
 unlike='fault blob-size 0 /k\nfault blob-digest 0 /k\nfaults 2 notes 0\n'
 prints 1 "$unlike" "${parts[@]}" large k.json
 prints 1 "$unlike" "${parts[@]}" hollow k.json
-# (The longer one has more bytes than a number of 32 bits tells.)
+# (The longer one has more bytes than a number of 32 bits has.)
 mkdir longest && truncate -s 268435457 "longest/$abc"
 prints 1 "$unlike" "${parts[@]}" longest k.json
 refuses 3 "cannot read longest/$abc" fsck --blobs longest k.json
@@ -451,8 +451,8 @@ for most in 1 2 100; do
     over='failing read no-file 0 0' prints 0 "$clean" "${parts[@]}" blobs k.json
 done
 most=
-# (Of eight contents two can't be read, whose names end otherwise: the first of them is told by any number of workers, also
-# where they are held.)
+# (Of eight contents two can't be read, whose names end otherwise: the first of them is reported by any number of workers, also
+# if they are held.)
 for pair in '0 7' '2 3' '1 6' '5 5'; do
     entries='' told_first=''
     for ((i = 0; i < 8; i++)); do
@@ -560,7 +560,7 @@ for what in vacuum deref merge flatten; do
 done
 refuses 2 'words must be UTF-8' show $'\xff'
 
-# New layers. That of k.json over itself is a root alone.
+# New layers. That of k.json over itself is only a root.
 mkdir new taken full disk taken/layer-0.json
 ln -s /dev/full full/layer-0.json
 for what in vacuum deref flatten; do
@@ -776,7 +776,7 @@ gives new root.json
 mv new/layer-1.json new/layer-0.json
 gives new k.json
 
-# The output, and what is told.
+# The output, and what is reported.
 for way in without_output without_room into_a_broken_pipe; do
     over=$way refuses 4 'cannot write standard output' show root.json
 done

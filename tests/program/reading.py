@@ -1,5 +1,5 @@
 #!/usr/bin/env python3
-"""Counts what the program asks of the system where no contract says how much, and refuses more.
+"""Counts what the program asks of the system, of which no contract says how much, and refuses more.
 
 Python 3.11, standard library, and `rt`, whose compiler builds refuse.c. A manifest as the commands and the converter write
 it, of either version, is read piece by piece, with no value of JSON in between. A program that made a value of each entry
@@ -192,7 +192,7 @@ def of_commands(bench: Bench) -> Iterator[Count]:
 
 
 def of_peaks(bench: Bench) -> Iterator[Count]:
-    """A process that this one starts is never told as smaller than it, so other processes make the layers, and this is first."""
+    """A process that this one starts is never reported as smaller than it, so other processes make the layers, and this is first."""
     layers, blobs, out = [], bench.folder("none"), bench.folder("out")
     for seed in ("1", "2"):
         layers.append(str(bench.room / f"{seed}.json"))
@@ -211,8 +211,8 @@ def one_directory(bench: Bench, count: int) -> list[str]:
 
 
 def of_held(bench: Bench) -> Iterator[Count]:
-    """The bytes that are held at once, which are the same in each run by one worker: where a stack stays beside its new layer
-    they are more. Where a directory is large, so is what is made of it at once."""
+    """The bytes that are held at once, which are the same in each run by one worker: if a stack stays beside its new layer
+    they are more. If a directory is large, so is what is made of it at once."""
     blobs, out = bench.folder("none"), bench.folder("out")
     made = {"vacuum": 1.0, "deref": 1.1, "merge": 1.01, "flatten": 1.01}
     for what, layers, bounds in (("many directories", two_layers(bench, 20_000), made),
@@ -272,7 +272,7 @@ def of_opens(bench: Bench) -> Iterator[Count]:
 
 
 def of_yields(bench: Bench) -> Iterator[Count]:
-    """Where directories stand in each other, one worker has work, and the others wait for it; where the processors have other
+    """If directories are nested, one worker has work, and the others wait for it; if the processors have other
     work, they may come when all is done."""
     layer = bench.write("chain", [it for n in range(1, 121) for it in files("/d" * n, 200)])
     runs = (bench.met("yield", ["show", "--workers", "4", layer])[1] for _ in range(20))

@@ -8,8 +8,8 @@ refusal; and so is each start of a thread, of which there is none by 1 worker, a
 thing that a command does, at most. A run must end with its full answer, which is that by 1 worker, or with status 5 and
 `out of memory`, nothing on standard output, no new layer, and the one that was there as it was.
 
-Where no contract says how many threads share a thing, the starts are counted: of forty layers with forty contents and of a
-layer whose report has many lines, by 2, 4 and 12 workers. So a command is told in which one thread reads all manifests or
+No contract says how many threads share a thing, so the starts are counted: of forty layers with forty contents and of a
+layer whose report has many lines, by 2, 4 and 12 workers. So a command is found in which one thread reads all manifests or
 contents or writes all lines, one that starts a thread for each of them, and one of too few workers.
 
 Each test of the other program runs in a process of its own, again and again, with one request for memory or one start of a
@@ -17,7 +17,7 @@ thread refused: it must pass each time, as it makes a call that ran out of memor
 
     python3 tests/program/refusals.py --program crates/ovl_layers/out/ovl_layers \
         --tests crates/ovl_refusal_tests/out/ovl_refusal_tests_tests
-    python3 tests/program/refusals.py --library refuse.so    # builds the library alone
+    python3 tests/program/refusals.py --library refuse.so    # only builds the library
 """
 import argparse
 import collections
@@ -39,16 +39,16 @@ from small_layers import First, Layer, write
 
 SOURCE = Path(__file__).resolve().parent / "refuse.c"
 COMMANDS = ("show", "fsck", "vacuum", "deref", "merge", "flatten", "fsck --any-size", "merge --any-size", "merge --down-to 1")
-# What is refused, and how refuse.c is told so.
+# What is refused, and how refuse.c learns of it.
 THREAD = "the start of a thread"
 WAYS = {"a request": {"REFUSE": "memory"}, "a request and all after it": {"REFUSE": "memory", "REFUSE_ON": ""},
         THREAD: {"REFUSE": "thread"}}
 # What a command does beside checking its layers, each by as many threads as there are workers: it reads files, reads what these
 # state, reads blobs, digests them, makes what is shown or a new layer, lets the stack go, and writes lines.
 THINGS = 7
-# Stacks of so many layers, at most, are merged down to one.
+# Stacks of at most this many layers are merged down to one.
 FEW = 3
-# No run meets so many requests. A sweep ends with so many wrong endings; of a command so many are told.
+# No run meets this many requests. A sweep ends with this many wrong endings; of a command this many are printed.
 MOST, ENOUGH, TOLD = 50_000, 40, 5
 # So many processes share the requests of a test.
 SHARES = 8
@@ -63,7 +63,7 @@ def digest(contents: bytes) -> str:
 
 
 def file(path: str, contents: bytes, stated: int | None = None) -> Entry:
-    """A file of these contents; of another size than theirs where that is stated."""
+    """A file of these contents; of another size than theirs if that is stated."""
     return entry(path, "file", size=len(contents) if stated is None else stated, blob=digest(contents))
 
 
@@ -115,7 +115,7 @@ STACKS = {
 
 @dataclass(frozen=True)
 class Ending:
-    """How a run ends: its status, what it printed and told, and the new layers by their names."""
+    """How a run ends: its status, what it printed and reported, and the new layers by their names."""
 
     status: int
     printed: bytes
@@ -141,7 +141,7 @@ def run(words: list[str], room: Path, env: dict[str, str]) -> tuple[Ending, int,
 
 @dataclass(frozen=True)
 class Sweep:
-    """A command on a stack by so many workers, and what it is refused."""
+    """A command on a stack by this many workers, and what it is refused."""
 
     command: str
     stack: str
@@ -177,7 +177,7 @@ def by_one(words: list[str]) -> list[str]:
 
 
 def swept(program: str, library: str, sweep: Sweep) -> tuple[int, list[str]]:
-    """How many runs there were, and what is told of those that ended wrongly."""
+    """How many runs there were, and what is printed of those that ended wrongly."""
     with tempfile.TemporaryDirectory(prefix="ovl-refusals-") as folder:
         room = Path(folder)
         words = sweep.words(program, room)
@@ -199,7 +199,7 @@ def swept(program: str, library: str, sweep: Sweep) -> tuple[int, list[str]]:
         return MOST, [*wrong, f"{how}: no run without a refusal"]
 
 
-# Of a stack of so many layers for each command: how many lists of that length it cuts into shares, how many other things all
+# Of a stack of this many layers, for each command: how many lists of that length it cuts into shares, how many other things all
 # workers share, as walks and lines, and how many things are done beside others.
 REWRITES = ("vacuum", "deref", "merge", "flatten")
 STARTS = {
@@ -212,7 +212,7 @@ STARTS = {
 
 @dataclass(frozen=True)
 class Crew:
-    """A command on a stack by so many workers, of which the threads are counted."""
+    """A command on a stack by this many workers, of which the threads are counted."""
 
     command: str
     stack: str
@@ -226,7 +226,7 @@ class Crew:
 
 
 def counted(program: str, library: str, crew: Crew) -> tuple[int, list[str]]:
-    """One run, and what is told where it starts fewer threads, or many more."""
+    """One run, and what is printed if it starts fewer threads, or many more."""
     with tempfile.TemporaryDirectory(prefix="ovl-refusals-") as folder:
         room = Path(folder)
         words = Sweep(crew.command, crew.stack, crew.workers, THREAD).words(program, room)
@@ -253,7 +253,7 @@ class Trial:
 
 
 def tried(program: str, library: str, trial: Trial) -> tuple[int, list[str]]:
-    """How many runs of a test there were, and what is told of those that didn't pass."""
+    """How many runs of a test there were, and what is printed of those that didn't pass."""
     wrong = []
     with tempfile.TemporaryDirectory(prefix="ovl-refusals-") as folder:
         for runs, number in enumerate(range(trial.first, MOST, SHARES), 1):

@@ -1,7 +1,7 @@
 #!/usr/bin/env python3
 """Has PROGRAM answer of the worked stacks of stacks.txt, and compares.
 
-Each command is given by one worker, and by four with contents of any size; both must tell the same: the report and the
+Each command is given by one worker, and by four with contents of any size; both must give the same: the report and the
 new layers of the row, or what refuses it. With the new layers the stack must show the same as before.
 
     python3 tests/program/stacks.py PROGRAM
@@ -35,7 +35,7 @@ def _file(size: int, contents: str | None = None, mode: int = 0o644, nsec: int =
     return {**_directory(mode, nsec=nsec), "kind": "file", "size": size, **blob}
 
 
-# The entries that the words of kinds stand for. Those that are bare are files of which the contents lie elsewhere.
+# The entries that the words of kinds mean. Bare ones are files whose contents are elsewhere.
 _KINDS = {
     "dir": _directory(),
     "dir-0700": _directory(0o700),
@@ -101,7 +101,7 @@ class Stack:
         return [str(it) for it in paths]
 
     def with_new(self, new: list[str], what: str) -> "Stack":
-        """The stack with a command's layers in place of its topmost ones, or of all where it is flattened."""
+        """The stack with a command's layers in place of its topmost ones, or of all if it is flattened."""
         if what == "flatten":
             return Stack(self.folder, new, 0)
         _, goes_on, left = what.partition(" --down-to ")
@@ -134,7 +134,7 @@ class Program:
         self._out = out
 
     def told(self, what: str, stack: Stack, *words: str) -> str:
-        """What a command answers: its report and the new layers, or what refuses it behind `!`."""
+        """What a command answers: its report and the new layers, or what refuses it, after `!`."""
         for path in self._out.iterdir():
             path.unlink()
         result = self._run(what, stack, *words)
@@ -157,7 +157,7 @@ class Program:
 
 
 def in_full(wanted: str) -> str:
-    """What a row wants, as the program tells it."""
+    """What a row wants, as the program prints it."""
     report, _, layers = wanted.partition(" => ")
     for short, full in _SHORT:
         report = report.replace(short, full)
@@ -195,7 +195,7 @@ def compare(path: str, room: Path) -> tuple[int, int]:
 
 
 def main() -> int:
-    """Prints the counts; the status is 1 where something isn't as it should be."""
+    """Prints the counts; the status is 1 if something isn't as it should be."""
     parser = argparse.ArgumentParser(description=__doc__, formatter_class=argparse.RawDescriptionHelpFormatter)
     parser.add_argument("program", metavar="PROGRAM")
     path = str(Path(parser.parse_args().program).resolve())

@@ -1,6 +1,6 @@
 #!/usr/bin/env bash
 # Has PROGRAM show each manifest of manifests.txt in both versions, those of versions.txt, and some that are long or hold
-# bytes that no text has, alone and under the smallest layer, and compares the status and the line that is told with those
+# bytes that no text has, by itself and under the smallest layer, and compares the status and the line that is printed with those
 # expected.
 set -uo pipefail
 
@@ -17,7 +17,7 @@ cp -- "$here/../../../examples/root.json" root.json
 
 same=0 other=0
 # The manifest of the file `case` under the words after NAME: this status, and this line, the last of the report or what
-# is told of a fault, of which nothing is printed then.
+# is said of a fault, of which nothing is printed then.
 compare() {
     local name=$1 status=$2 wanted=$3 ended
     shift 3
@@ -98,7 +98,7 @@ both brackets_in_each_other 3 'layer 0: not JSON' < <(often '' 200 '[' "$(often 
 both entries_1048577 3 'layer 0: entry count' < <(often '{"entries":[' 1048576 '0,' '0],"overlay-layer":1}')
 both entries_1048576 3 'layer 0: entry 0: wrong entry' < <(often '{"entries":[' 1048575 '0,' '0],"overlay-layer":1}')
 
-# These entries behind a root.
+# These entries after a root.
 layer() {
     printf '{"entries":[DIR(/)'
     printf ',%s' "$@"
@@ -114,7 +114,7 @@ both attribute_name_of_256_bytes 3 'layer 0: entry 1: wrong entry' < <(layer "NA
 both target_of_4095_bytes 0 'entries 2' < <(layer "LINK($(name_of 4095))" | written)
 both target_of_4096_bytes 3 'layer 0: entry 1: wrong entry' < <(layer "LINK($(name_of 4096))" | written)
 
-# Directories in each other, of names of so many bytes.
+# Directories in each other, of names of this many bytes.
 chain() {
     local path='' entries=()
     while (($# > 0)); do
