@@ -98,7 +98,7 @@ def main() -> None:
     words.add_argument("--program", required=True, help="path of the program")
     words.add_argument("--entries", type=int, default=10000, help="entries of each of three layers (default 10000)")
     words.add_argument("--version", type=int, choices=MOST_NAMES, default=LAST, help="version of the manifests (default %d)" % LAST)
-    words.add_argument("--dearest", type=int, default=0, help="list so many functions that took the most, with all that they call")
+    words.add_argument("--dearest", type=int, default=0, help="list this many functions that took the most, with all that they call")
     given = words.parse_args()
     program, listed = os.path.abspath(given.program), []
     print(run.row(["Command", "Instructions", "of reading", "of an entry, beside reading"]))

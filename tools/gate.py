@@ -167,7 +167,7 @@ def dearest(gate: Gate, count: int) -> list[str]:
     found.sort(reverse=True)
     if not found:
         return []
-    lines = ["", f"The edits that took the most ({len(found)} could be told apart):", ""]
+    lines = ["", f"The edits that took the most ({len(found)} are known apart):", ""]
     lines += [row("Edit", "Seconds"), "| --- | ---: |"]
     return lines + [row(f"`{crate}/{name}`", f"{seconds:.0f}") for seconds, crate, name in found[:count]]
 
@@ -212,14 +212,14 @@ def measured(words: list[str], interval: float) -> tuple[int, Gate, float, float
 
 
 def main() -> None:
-    about = argparse.ArgumentParser(description="Runs the merge gate and tells what it took, crate by crate.")
+    about = argparse.ArgumentParser(description="Runs the merge gate and prints what it took, crate by crate.")
     about.add_argument("--into", metavar="FILE", help="put the table between the marks of this file too")
     about.add_argument("--interval", type=float, default=0.5, help="seconds between two looks (default 0.5)")
     about.add_argument("--dearest", type=int, default=10, help="how many edits to list (default 10)")
     about.add_argument("gate", nargs="*", default=[".ci/run"], help="the gate's words (default .ci/run)")
     given = about.parse_args()
     if not os.path.isfile("crates.txt"):
-        sys.exit("gate.py is started at the top of the repository, where crates.txt stands")
+        sys.exit("gate.py is started at the top of the repository, where crates.txt is")
     if given.into:
         # (a missing mark is reported before the gate runs)
         parts_of(given.into)

@@ -301,7 +301,7 @@ def self_test() -> None:
 def main() -> None:
     words = argparse.ArgumentParser(description="Writes a large layer manifest.")
     words.add_argument("--entries", type=int, default=100_000, help="entries, the root counted (default 100000)")
-    words.add_argument("--fan-out", type=int, default=24, help="a directory with directories below it holds half to one and a half times as many entries (default 24); more where --depth leaves no other place")
+    words.add_argument("--fan-out", type=int, default=24, help="a directory with directories below it holds half to one and a half times as many entries (default 24); more if --depth leaves no other place")
     words.add_argument("--depth", type=int, default=16, help="most names of a path, 1 to 128, in version 1 to 64 (default 16)")
     words.add_argument("--attributes", type=float, default=0.05, help="share of entries with extended attributes, 0 to 1 (default 0.05)")
     words.add_argument("--whiteouts", type=float, default=0.0, help="share of non-directories that are whiteouts, char 0:0 (default 0)")
