@@ -251,7 +251,7 @@ def _header(entry: Entry) -> Header:
 
 
 def _link_header(entry: Entry, first: str) -> Header:
-    """One more name of a file that came before. What it is dressed with is said again, since some dress it anew."""
+    """One more name of a file that came before. Repeats mode, owner, time and attributes: some unpackers apply them."""
     return replace(_header(entry), type=tar.HARD_LINK, target=first[1:].encode(), size=0, major=0, minor=0)
 
 

@@ -17,7 +17,7 @@ _MAX_DOCKER_NAME = 255
 
 
 class Form(Enum):
-    """How an image lies in files."""
+    """The forms of an image in files."""
 
     LAYOUT = auto()  # a folder: an OCI image layout
     ARCHIVE = auto()  # the same as one tar archive, with what docker reads too
