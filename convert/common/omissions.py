@@ -26,6 +26,10 @@ class Loss(Enum):
         "entry with a label of SELinux (RHT.security.selinux), left out",
         "entries with labels of SELinux (RHT.security.selinux), left out",
     )
+    GLOBAL = (
+        "entry with values of PAX records for all entries, which docker passes over",
+        "entries with values of PAX records for all entries, which docker passes over",
+    )
     RECORD = ("entry with PAX records that aren't read", "entries with PAX records that aren't read")
     AUFS = ("entry of aufs' own (.wh..wh.*) left out", "entries of aufs' own (.wh..wh.*) left out")
     WHITEOUT = (

@@ -25,6 +25,7 @@ _GZIP_WINDOW = 31  # zlib's number for a gzip header and trailer
 _GZIP_PIECE = 1 << 18
 _ZSTD = b"\x28\xb5\x2f\xfd"
 _OTHERS = {b"BZh": "bzip2", b"\xfd7zXZ\0": "xz"}
+_PACKINGS = {_GZIP: "gzip", _ZSTD: "zstd", **_OTHERS}
 HEAD_BYTES = 6  # that tell how a file is packed
 _ZSTD_INPUT = re.compile(r"(zstd: )?/\*stdin\*\\ ?: ")  # what zstd puts before what it says
 _MOST_TOLD = 1_000
@@ -71,6 +72,10 @@ class Slice(Reader):
     def is_packed(self) -> bool:
         """Whether its first bytes are those of a packed one."""
         return is_packed(self._head())
+
+    def packing(self) -> str:
+        """What its first bytes say that it is packed by, or nothing."""
+        return packing_of(self._head())
 
     def is_gzip(self) -> bool:
         """Whether they are those of a gzip stream, of no form that isn't defined yet."""
@@ -252,9 +257,14 @@ def buffered(stream: Source) -> Source:
     return io.BufferedReader(stream, PIECE) if isinstance(stream, Reader) and not isinstance(stream, Ahead) else stream
 
 
+def packing_of(head: bytes) -> str:
+    """The program that packs what begins with these bytes, or nothing."""
+    return next((name for magic, name in _PACKINGS.items() if head.startswith(magic)), "")
+
+
 def is_packed(head: bytes) -> bool:
     """Whether bytes begin as what gzip, zstd or another such program packs."""
-    return head.startswith((_GZIP, _ZSTD, *_OTHERS))
+    return bool(packing_of(head))
 
 
 @contextlib.contextmanager

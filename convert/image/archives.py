@@ -243,8 +243,6 @@ class LayerArchive:
         """The entry of a header but for a file's contents."""
         _check_place(names)
         kind = _KINDS.get(header.type)
-        if is_folder_in_spite(header):
-            kind = DIRECTORY
         if kind is None:
             raise Unfit(f"an entry of type {header.type!r}, which can't be stated")
         entry = Entry("", kind, header.mode, header.uid, header.gid, header.mtime_ns)
@@ -262,6 +260,8 @@ class LayerArchive:
             self._losses.add(Loss.ACCESS_LIST, _path(names))
         if header.has_label:
             self._losses.add(Loss.LABEL, _path(names))
+        if header.has_global:
+            self._losses.add(Loss.GLOBAL, _path(names))
         if header.other_record:
             self._losses.add(Loss.RECORD, f"{_path(names)} ({os.fsdecode(header.other_record)})")
         return entry
@@ -317,14 +317,9 @@ def _known(contents: Contents) -> Store:
     return lambda: contents
 
 
-def is_folder_in_spite(header: Header) -> bool:
-    """Whether an entry is a directory by its name, whatever its type says, as in the oldest archives."""
-    return header.type in (b"\0", b"0") and header.name.endswith(b"/")
-
-
 def has_contents(header: Header) -> bool:
     """Whether what an entry of an image's layer has as data are contents of a file, where it can be stated at all."""
-    if header.type not in REGULAR_TYPES or is_folder_in_spite(header):
+    if header.type not in REGULAR_TYPES:
         return False
     if not may_be_special(header.name):
         return True

@@ -1,62 +1,35 @@
 """The configuration of an image: what it runs, as whom, on which platform, and how its layers came to be."""
 
 import json
-import math
-from collections.abc import Iterable, Mapping, Sequence
-from typing import Any, NoReturn
+from collections.abc import Mapping, Sequence
+from typing import Any
 
-from ..common.faults import cannot_read, reading
+from ..common.faults import ReadFault, cannot_read, reading
+from .documents import Misshapen, parse, require_configuration
 
 MAX_BYTES = 1 << 22  # of a configuration, as of every other document of an image; skopeo reads no more either
 USUAL_PLATFORM = "linux/amd64"
 Document = dict[str, Any]
 
 _PLATFORM = ("os", "architecture", "variant", "os.version", "os.features")
-_TEXTS = ("os", "architecture", "variant", "os.version")
 _MAKER = "layers pack"
-_MAX_DEPTH = 64  # of a document's objects and lists in one another; real ones have 4
-_MAX_PARTS = 1 << 18  # objects and lists of a document, each of which takes memory
 _MAX_FILE = 16 * MAX_BYTES  # of a configuration that a person laid out; what counts is its text without spaces
-
-
-def _refuse(text: str) -> NoReturn:
-    raise ValueError(text)
-
-
-def _finite(text: str) -> float:
-    value = float(text)
-    if not math.isfinite(value):
-        raise ValueError(text)
-    return value
-
-
-def parse_json(data: bytes) -> Any:
-    """The value of a JSON text; ValueError says why it is none, or what it holds that couldn't be written again."""
-    if data.count(b"[") + data.count(b"{") > _MAX_PARTS:
-        raise ValueError(f"it has over {_MAX_PARTS:,} objects and lists")
-    try:
-        value = json.loads(data, parse_constant=_refuse, parse_float=_finite)
-    except (ValueError, RecursionError):
-        raise ValueError("it isn't JSON") from None
-    level = [value]
-    for _ in range(_MAX_DEPTH):
-        level = [inner for outer in level for inner in _parts(outer)]
-    if level:
-        raise ValueError(f"it isn't JSON of at most {_MAX_DEPTH} objects and lists in one another")
-    return value
-
-
-def _parts(value: Any) -> Iterable[Any]:
-    return value.values() if isinstance(value, dict) else value if isinstance(value, list) else ()
+_MAX_LAID_OUT = 1 << 20  # characters of a document that is laid out for a person; others have one line
 
 
 def read_configuration(path: str) -> Document:
     """The configuration in a file, such as the `config.json` that `unpack` writes."""
     value = _read(path)
-    problem = configuration_problem(value)
-    if problem:
-        raise cannot_read(path, problem)
+    try:
+        require_configuration(value)
+    except Misshapen as problem:
+        raise no_configuration(path, problem) from None
     return dict(value)
+
+
+def no_configuration(path: str, problem: Misshapen) -> ReadFault:
+    """That a document isn't the configuration of an image."""
+    return cannot_read(path, f"it is no image's configuration: {problem}")
 
 
 def read_annotations(path: str) -> dict[str, str]:
@@ -71,8 +44,8 @@ def _read(path: str) -> Any:
     with reading(path), open(path, "rb") as file:
         data = file.read(_MAX_FILE + 1)
     try:
-        value = parse_json(data)
-    except ValueError as problem:
+        value = parse(data)
+    except Misshapen as problem:
         raise cannot_read(path, str(problem)) from None
     compact = data if len(data) <= MAX_BYTES else _compact(value)
     if len(compact) > MAX_BYTES:
@@ -81,38 +54,12 @@ def _read(path: str) -> Any:
 
 
 def _compact(value: Any) -> bytes:
-    text = json.dumps(value, separators=(",", ":"), ensure_ascii=False)
-    return text.encode("utf-8", "surrogatepass")
-
-
-def configuration_problem(value: Any) -> str | None:
-    """Why a JSON value isn't the configuration of an image."""
-    problem = _problem(value)
-    return problem and f"it is no image's configuration: {problem}"
-
-
-def _problem(value: Any) -> str | None:
-    if not isinstance(value, dict):
-        return "it is no JSON object"
-    if not isinstance(value.get("config") or {}, dict):
-        return "its member config is no object"
-    if any(not isinstance(value.get(name, ""), str) for name in _TEXTS):
-        return f"a member of {', '.join(_TEXTS)} is no string"
-    history = value.get("history") or []
-    if not isinstance(history, list) or not all(isinstance(entry, dict) for entry in history):
-        return "its member history is no list of objects"
-    return None
+    return json.dumps(value, separators=(",", ":"), ensure_ascii=False).encode()
 
 
 def platform_of(configuration: Mapping[str, Any]) -> Document:
     """What a configuration, or a descriptor's `platform`, says of the platform."""
     return {name: configuration[name] for name in _PLATFORM if configuration.get(name)}
-
-
-def require_texts(platform: Mapping[str, Any]) -> None:
-    """TypeError where a descriptor's platform has something else."""
-    if any(not isinstance(platform.get(name, ""), str) for name in _TEXTS):
-        raise TypeError(platform)
 
 
 def platform_text(configuration: Any) -> str | None:
@@ -130,9 +77,15 @@ def with_platform(configuration: Mapping[str, Any], stated: Mapping[str, Any]) -
 
 
 def text_of(document: Mapping[str, Any]) -> str:
-    """A document for a person to read and change."""
-    text = json.dumps(document, indent=2) + "\n"
-    return text if len(text) <= _MAX_FILE else _compact(document).decode("utf-8", "surrogatepass")
+    """A document for a person to read and change, in one line where it is big."""
+    pieces: list[str] = []
+    size = 0
+    for piece in json.JSONEncoder(indent=2, ensure_ascii=False).iterencode(document):
+        pieces.append(piece)
+        size += len(piece)
+        if size > _MAX_LAID_OUT:
+            return _compact(document).decode() + "\n"
+    return "".join(pieces) + "\n"
 
 
 def for_layers(given: Mapping[str, Any], platform: str | None, digests: Sequence[str]) -> Document:

@@ -7,33 +7,30 @@ import os
 import re
 from collections.abc import Callable, Hashable, Iterator, Mapping, Sequence
 from dataclasses import dataclass, field, replace
-from typing import Any
+from typing import Any, TypeVar
 
 from ..common.faults import ReadFault, UsageFault, cannot_read, reading
 from ..common.progress import Progress
 from ..common.streams import Slice, Source, Watched, digest_of, unpacked
 from ..model import rules
-from .configuration import (
-    MAX_BYTES, Document, configuration_problem, parse_json, platform_of, platform_text, require_texts, with_platform,
+from .configuration import MAX_BYTES, Document, no_configuration, platform_of, platform_text, with_platform
+from .documents import (
+    CONFIGURATION_TYPES, INDEX_TYPES, LAYER_TYPES, MANIFEST_TYPES, Descriptor, Digest, Index, Json, Manifest,
+    Misshapen, SavedImage, document_of, index_of, layer_digests, parse, require_configuration, saved_images_of,
 )
 from .members import Members, opened_members
 from .quick_gzip import find_program, unpacked_quickly
 from .targets import TRANSPORTS
 
 MAX_DOCUMENTS = 1 << 24  # bytes of an image's documents together, each as often as it is named
-_DIGEST = re.compile(r"(sha256|sha384|sha512):([0-9a-f]{64,128})\Z")
 _MAX_DEPTH = 4
 _MOST_TOLD = 20
-_INDEXES = (
-    "application/vnd.oci.image.index.v1+json",
-    "application/vnd.docker.distribution.manifest.list.v2+json",
-)
 REF_NAME = "org.opencontainers.image.ref.name"
 _FULL_NAME = "io.containerd.image.name"
 _BASE = "org.opencontainers.image.base."
 _ATTESTATION = "vnd.docker.reference.type"
-Digest = tuple[str, str]  # the algorithm and the hexadecimal digits
 BlobName = Callable[[Digest], str]
+_T = TypeVar("_T")
 
 
 @dataclass(frozen=True)
@@ -49,7 +46,7 @@ class ImageLayer:
 
     def identity(self) -> Hashable:
         """The same for two layers of the image that are one file, and must unpack to the same."""
-        return self.members.identity(self.name), self.unpacked_digest
+        return self.digest or self.members.identity(self.name), self.unpacked_digest
 
     @contextlib.contextmanager
     def opened(self) -> Iterator[Slice]:
@@ -106,12 +103,10 @@ class Image:
 
 @dataclass(frozen=True)
 class _Choice:
-    """One of the images that a layout has, and what the index says of its platform."""
+    """One of the images that are there."""
 
-    digest: str
     platform: str
-    names: tuple[str, ...]
-    stated: Mapping[str, Any] = field(default_factory=dict)
+    names: dict[str, None]
 
     def matches(self, platform: str | None, tag: str | None) -> bool:
         """Whether it is meant by what a person asked for."""
@@ -120,6 +115,25 @@ class _Choice:
 
     def __str__(self) -> str:
         return " ".join([self.platform, *self.names])
+
+
+@dataclass(frozen=True)
+class _InLayout(_Choice):
+    """One of a layout: its manifest, the name of that, and what the index says of its platform."""
+
+    manifest: Manifest
+    name: str
+    stated: Mapping[str, Json]
+
+
+@dataclass(frozen=True)
+class _Saved(_Choice):
+    """One of those that `docker save` wrote."""
+
+    image: SavedImage
+
+
+_C = TypeVar("_C", bound=_Choice)
 
 
 def spellings(tag: str) -> set[str]:
@@ -170,8 +184,9 @@ class _Documents:
         """A member as a person sees it."""
         return f"{self.members.path}/{name}"
 
-    def read(self, name: str, digest: Digest | None = None) -> Any:
-        """The value of a document whose bytes are those of a digest."""
+    def read(self, name: str, descriptor: Descriptor | None = None, digest: Digest | None = None) -> Json:
+        """The value of a document whose bytes are those that a descriptor says, or a digest."""
+        digest = descriptor.digest if descriptor else digest
         with self.members.opened(name) as part, reading(self.path(name)):
             data = io.BufferedReader(part).read(MAX_BYTES + 1)
         self._left -= len(data)
@@ -181,56 +196,63 @@ class _Documents:
             raise cannot_read(self.members.path, f"its manifests and indexes have over {MAX_DOCUMENTS:,} bytes")
         if digest and hashlib.new(digest[0], data).hexdigest() != digest[1]:
             raise _wrong_bytes(self.path(name), digest)
+        if descriptor and descriptor.size != len(data):
+            raise _wrong_size(self.path(name), descriptor)
+        return self.decoded(name, parse, data)
+
+    def decoded(self, name: str, decode: Callable[..., _T], *values: Any) -> _T:
+        """What a document, or the value of one, is decoded into."""
         try:
-            return parse_json(data)
-        except ValueError as problem:
+            return decode(*values)
+        except Misshapen as problem:
             raise cannot_read(self.path(name), str(problem)) from None
 
-    @contextlib.contextmanager
-    def shaped(self, name: str) -> Iterator[None]:
-        """Tells a member that isn't there, or of another shape, as a fault of this document."""
-        try:
-            yield
-        except (KeyError, TypeError, AttributeError, IndexError, ValueError, OverflowError):
-            raise cannot_read(self.path(name), "it has a wrong shape") from None
-
-    def configuration(self, name: str, digest: Digest | None, count: int) -> tuple[Document, list[Digest | None]]:
+    def configuration(
+        self, name: str, descriptor: Descriptor | None, digest: Digest | None, count: int,
+    ) -> tuple[Document, list[Digest | None]]:
         """An image's configuration, and the digests of its layers' unpacked bytes where it has them."""
-        value = self.read(name, digest)
-        problem = configuration_problem(value)
-        if problem:
-            raise cannot_read(self.path(name), problem)
-        with self.shaped(name):
-            configuration = dict(value.items())
-            rootfs = configuration.get("rootfs")
-            if rootfs is None:
-                return configuration, [None] * count
-            digests: list[Digest | None] = [_digest_parts(each) for each in rootfs["diff_ids"]]
+        value = self.read(name, descriptor, digest)
+        try:
+            require_configuration(value)
+        except Misshapen as problem:
+            raise no_configuration(self.path(name), problem) from None
+        digests = self.decoded(name, layer_digests, value)
+        if digests is None:
+            return value, [None] * count
         if len(digests) != count:
             raise cannot_read(
-                self.path(name), f"it tells digests of {len(digests)} layers, and the manifest has {count}"
+                self.path(name), f"it has digests of {len(digests)} layers, and the manifest has {count}"
             )
-        return configuration, digests
+        return value, list(digests)
 
-    def layer(self, name: str, digest: Digest | None, size: int | None, unpacked: Digest | None) -> ImageLayer:
+    def layer(self, name: str, descriptor: Descriptor | None, unpacked: Digest | None) -> ImageLayer:
         """A layer that is there, of the size that is stated."""
         there = self.members.size(name)
         if there is None:
             raise cannot_read(self.path(name), "the image has no such file")
-        if size not in (None, there):
-            raise cannot_read(self.path(name), f"it has another size than the {size:,} bytes of the image's manifest")
-        return ImageLayer(name, self.path(name), self.members, there, digest, unpacked)
+        if descriptor is None:
+            return ImageLayer(name, self.path(name), self.members, there, None, unpacked)
+        if descriptor.size != there:
+            raise _wrong_size(self.path(name), descriptor)
+        self._require_packing(name, descriptor.media_type)
+        return ImageLayer(name, self.path(name), self.members, there, descriptor.digest, unpacked)
 
-
-def _digest_parts(digest: Any) -> Digest:
-    found = _DIGEST.match(digest)
-    if not found:
-        raise ValueError(digest)
-    return found[1], found[2]
+    def _require_packing(self, name: str, media_type: str | None) -> None:
+        """Refuses a layer that isn't packed as its media type says, where that says it."""
+        said = None if media_type is None else LAYER_TYPES[media_type]
+        with self.members.opened(name) as part, reading(self.path(name)):
+            packing = part.packing()
+        if said not in (None, packing):
+            told = [word or "plain" for word in (said, packing)]
+            raise cannot_read(self.path(name), f"its media type says {told[0]}, and its bytes are {told[1]}")
 
 
 def _wrong_bytes(path: str, digest: Digest) -> ReadFault:
     return cannot_read(path, f"its bytes aren't those of the digest {':'.join(digest)}")
+
+
+def _wrong_size(path: str, descriptor: Descriptor) -> ReadFault:
+    return cannot_read(path, f"it has another size than the {descriptor.size:,} bytes that its descriptor says")
 
 
 def _require_digest(layer: ImageLayer, part: Slice, digest: Digest) -> None:
@@ -246,97 +268,97 @@ def _blob_in_layout(digest: Digest) -> str:
     return f"blobs/{digest[0]}/{digest[1]}"
 
 
-def _texts(values: Sequence[Any]) -> tuple[str, ...]:
-    """Values that must be texts."""
-    if not all(isinstance(value, str) for value in values):
-        raise TypeError(values)
-    return tuple(values)
-
-
-def _stated_size(layer: Mapping[str, Any]) -> int:
-    size = layer["size"]
-    if type(size) is not int or size < 0:
-        raise ValueError(size)
-    return size
-
-
 class _Layout:
     """An OCI image layout."""
 
     def __init__(self, documents: _Documents) -> None:
         self._documents = documents
         self._members = documents.members
-        self._choices: list[_Choice] = []
-        self._visited: set[tuple[str, tuple[str, ...]]] = set()
+        self._choices: dict[tuple[Digest, str | None], _InLayout] = {}
+        self._descriptors: dict[Digest, Descriptor] = {}
+        self._visited: set[tuple[Digest, tuple[str, ...]]] = set()
 
     def image(self, platform: str | None, tag: str | None) -> Image:
         """The one image that is meant."""
-        self._visit(self._documents.read("index.json"), "index.json", (), {}, 0)
-        chosen = _one_of(self._members.path, self._choices, platform, tag)
-        digest = _digest_parts(chosen.digest)
-        name = _blob_in_layout(digest)
-        manifest = self._documents.read(name, digest)
-        image = _image(self._documents, name, manifest, _blob_in_layout, chosen.stated)
-        return replace(image, names=chosen.names)
+        index = self._documents.decoded("index.json", index_of, self._documents.read("index.json"))
+        self._visit(index, "index.json", (), {}, 0)
+        chosen = _one_of(self._members.path, list(self._choices.values()), platform, tag)
+        return replace(_image(self._documents, chosen, _blob_in_layout), names=tuple(chosen.names))
 
     def _visit(
-        self, index: Any, name: str, names: tuple[str, ...], platform: Mapping[str, Any], depth: int
+        self, index: Index, name: str, names: tuple[str, ...], platform: Mapping[str, Json], depth: int
     ) -> None:
         """Finds the images of an index, and of those inside of it, whose manifests are there."""
         if depth > _MAX_DEPTH:
             raise cannot_read(self._documents.path(name), "an index inside too many others")
-        with self._documents.shaped(name):
-            for descriptor in index["manifests"]:
-                notes = descriptor.get("annotations") or {}
-                own = _texts([notes[key] for key in (REF_NAME, _FULL_NAME) if key in notes]) or names
-                digest = _digest_parts(descriptor["digest"])
-                if _ATTESTATION in notes or (descriptor["digest"], own) in self._visited:
-                    continue
-                self._visited.add((descriptor["digest"], own))
-                if self._members.size(_blob_in_layout(digest)) is None:
-                    continue
-                stated = platform_of(descriptor.get("platform") or {}) or platform
-                require_texts(stated)
-                self._take(descriptor, digest, own, stated, depth)
+        for descriptor in index.manifests:
+            notes = descriptor.annotations
+            own = tuple(notes[key] for key in (REF_NAME, _FULL_NAME) if key in notes) or names
+            if _ATTESTATION in notes or (descriptor.digest, own) in self._visited:
+                continue
+            self._visited.add((descriptor.digest, own))
+            if self._members.size(_blob_in_layout(descriptor.digest)) is not None:
+                self._take(descriptor, own, platform_of(descriptor.platform) or platform, depth)
 
     def _take(
-        self, descriptor: Mapping[str, Any], digest: Digest, names: tuple[str, ...], stated: Mapping[str, Any],
-        depth: int,
+        self, descriptor: Descriptor, names: tuple[str, ...], stated: Mapping[str, Json], depth: int
     ) -> None:
-        """An image, or an index inside of the one that is visited."""
-        kind, name = descriptor.get("mediaType"), _blob_in_layout(digest)
-        told = platform_text(stated)
-        document = self._documents.read(name, digest)
-        with self._documents.shaped(name):
-            if (kind or document.get("mediaType")) in _INDEXES:
-                self._visit(document, name, names, stated, depth + 1)
-            else:
-                told = told or self._config_platform(document)
-                self._choices.append(_Choice(descriptor["digest"], told, names, stated))
+        """An image, or an index inside of the one that is visited; whatever else is there isn't read."""
+        if descriptor.media_type not in (None, *INDEX_TYPES, *MANIFEST_TYPES):
+            return
+        self._require_same(descriptor)
+        name, told = _blob_in_layout(descriptor.digest), platform_text(stated)
+        before = self._choices.get((descriptor.digest, told))
+        if before:
+            before.names.update(dict.fromkeys(names))
+            return
+        value = self._documents.read(name, descriptor)
+        document = self._documents.decoded(name, document_of, value, descriptor.media_type)
+        if isinstance(document, Index):
+            self._visit(document, name, names, stated, depth + 1)
+        else:
+            self._choices[descriptor.digest, told] = _InLayout(
+                told or self._platform(document), dict.fromkeys(names), document, name, stated
+            )
 
-    def _config_platform(self, manifest: Any) -> str:
-        name = _blob_in_layout(_digest_parts(manifest["config"]["digest"]))
+    def _require_same(self, descriptor: Descriptor) -> None:
+        """Refuses descriptors of one digest that differ in size or media type."""
+        first = self._descriptors.setdefault(descriptor.digest, descriptor)
+        if (first.size, first.media_type) != (descriptor.size, descriptor.media_type):
+            name = _blob_in_layout(descriptor.digest)
+            raise cannot_read(self._documents.path(name), "its descriptors differ in size or media type")
+
+    def _platform(self, manifest: Manifest) -> str:
+        """The platform that an image's configuration names."""
+        name = _blob_in_layout(manifest.configuration.digest)
         if self._members.size(name) is None:
             return "unknown"
-        return platform_text(self._documents.read(name)) or "unknown"
+        return platform_text(self._documents.read(name, manifest.configuration)) or "unknown"
 
 
-def _image(
-    documents: _Documents, name: str, manifest: Any, blob: BlobName, stated: Mapping[str, Any]
-) -> Image:
+def _image(documents: _Documents, chosen: _InLayout, blob: BlobName) -> Image:
     """The image of a manifest, whose layers and configuration are members of these names."""
-    with documents.shaped(name):
-        listed = [(_digest_parts(layer["digest"]), _stated_size(layer)) for layer in manifest["layers"]]
-        digest = _digest_parts(manifest["config"]["digest"])
-        annotations = dict((manifest.get("annotations") or {}).items())
-        _texts(list(annotations.values()))
-    _require_count(documents, len(listed))
-    configuration, unpacked = documents.configuration(blob(digest), digest, len(listed))
-    return Image(
-        [documents.layer(blob(own), own, size, inner) for (own, size), inner in zip(listed, unpacked)],
-        with_platform(configuration, stated),
-        annotations={key: text for key, text in annotations.items() if not key.startswith(_BASE)},
+    manifest = chosen.manifest
+    _require_types(documents, chosen.name, manifest)
+    _require_count(documents, len(manifest.layers))
+    configuration, unpacked = documents.configuration(
+        blob(manifest.configuration.digest), manifest.configuration, None, len(manifest.layers)
     )
+    return Image(
+        [documents.layer(blob(own.digest), own, inner) for own, inner in zip(manifest.layers, unpacked)],
+        with_platform(configuration, chosen.stated),
+        annotations={key: text for key, text in manifest.annotations.items() if not key.startswith(_BASE)},
+    )
+
+
+def _require_types(documents: _Documents, name: str, manifest: Manifest) -> None:
+    """Refuses a configuration and layers of media types that no image has."""
+    own = manifest.configuration.media_type
+    if own not in (None, *CONFIGURATION_TYPES):
+        raise cannot_read(documents.path(name), f"it is no container image: its configuration is of type {own}")
+    for layer in manifest.layers:
+        if layer.media_type not in (None, *LAYER_TYPES):
+            raise cannot_read(documents.path(name), f"it has a layer of type {layer.media_type}, which isn't read")
 
 
 def _require_count(documents: _Documents, count: int) -> None:
@@ -344,20 +366,13 @@ def _require_count(documents: _Documents, count: int) -> None:
         raise cannot_read(documents.members.path, f"it has {count} layers, not 1 to {rules.MAX_LAYERS}")
 
 
-def _one_of(
-    path: str, choices: Sequence[_Choice], platform: str | None, tag: str | None
-) -> _Choice:
-    """The one image that is meant, or a fault that tells those that are there."""
-    by_digest: dict[str, _Choice] = {}
-    for choice in choices:
-        before = by_digest.get(choice.digest)
-        names = dict.fromkeys((before.names if before else ()) + choice.names)
-        by_digest[choice.digest] = replace(choice, names=tuple(names))
-    fitting = [choice for choice in by_digest.values() if choice.matches(platform, tag)]
+def _one_of(path: str, choices: Sequence[_C], platform: str | None, tag: str | None) -> _C:
+    """The one image that is meant, or a fault that lists those that are there."""
+    fitting = [choice for choice in choices if choice.matches(platform, tag)]
     if len(fitting) == 1:
         return fitting[0]
     asked = " and ".join([f"{word} {value}" for word, value in (("--tag", tag), ("--platform", platform)) if value])
-    raise _not_one(path, list(map(str, by_digest.values())), f"none of them is {asked}" if not fitting else None)
+    raise _not_one(path, list(map(str, choices)), f"none of them is {asked}" if not fitting else None)
 
 
 def _not_one(path: str, there: list[str], none: str | None) -> ReadFault:
@@ -368,29 +383,29 @@ def _not_one(path: str, there: list[str], none: str | None) -> ReadFault:
     return cannot_read(path, f"it has {len(there)} images ({'; '.join(there[:_MOST_TOLD])}{more}); {which}")
 
 
-def _copied_image(documents: _Documents, manifest: Mapping[str, Any]) -> Image:
+def _copied_image(documents: _Documents, value: Json) -> Image:
     """The image in a folder of skopeo's `dir:`, whose blobs have their digits as names."""
-    if "manifests" in manifest:
+    document = documents.decoded("manifest.json", document_of, value, None)
+    if isinstance(document, Index):
         raise cannot_read(documents.members.path, "it is an index in the form dir:; copy one image of it")
-    return _image(documents, "manifest.json", manifest, lambda digest: digest[1], {})
+    chosen = _InLayout("", {}, document, "manifest.json", {})
+    return _image(documents, chosen, lambda digest: digest[1])
 
 
-def _saved_image(documents: _Documents, manifest: Any, platform: str | None, tag: str | None) -> Image:
+def _saved_image(documents: _Documents, value: Json, platform: str | None, tag: str | None) -> Image:
     """The one image that is meant of those that `docker save` wrote."""
-    with documents.shaped("manifest.json"):
-        images = [
-            (str(image["Config"]), _texts(image["Layers"]), _texts(image.get("RepoTags") or ()))
-            for image in manifest
-        ]
     choices = [
-        _Choice(str(number), platform_text(documents.read(config)) or "unknown", names)
-        for number, (config, _, names) in enumerate(images)
+        _Saved(platform_text(documents.read(it.configuration)) or "unknown", dict.fromkeys(it.names), it)
+        for it in documents.decoded("manifest.json", saved_images_of, value)
     ]
     chosen = _one_of(documents.members.path, choices, platform, tag)
-    config, layers, names = images[int(chosen.digest)]
-    _require_count(documents, len(layers))
-    digits = re.search(r"([0-9a-f]{64})(\.json)?\Z", config)
-    configuration, digests = documents.configuration(config, ("sha256", digits[1]) if digits else None, len(layers))
+    image = chosen.image
+    _require_count(documents, len(image.layers))
+    digits = re.search(r"([0-9a-f]{64})(\.json)?\Z", image.configuration)
+    configuration, digests = documents.configuration(
+        image.configuration, None, ("sha256", digits[1]) if digits else None, len(image.layers)
+    )
     return Image(
-        [documents.layer(name, None, None, digest) for name, digest in zip(layers, digests)], configuration, names
+        [documents.layer(name, None, digest) for name, digest in zip(image.layers, digests)],
+        configuration, tuple(chosen.names),
     )

@@ -9,8 +9,8 @@ import tempfile
 from collections.abc import Hashable, Iterator
 from typing import Protocol
 
-from ..common.budgets import Budget, TooMuch
-from ..common.contents import PIECE, write_all
+from ..common.budgets import Budget, Counter, TooMuch
+from ..common.contents import PIECE, is_zeros, write_all
 from ..common.faults import TarFault, cannot_read, reading, writing
 from ..common.open_dirs import READ_WHERE_IT_LEADS
 from ..common.streams import HEAD_BYTES, SeekingSlice, Slice, Source, is_packed, unpacked
@@ -18,7 +18,9 @@ from ..tar.headers import HARD_LINK, REGULAR_TYPES, SYMLINK
 from ..tar.reader import TarReader
 
 STANDARD_INPUT = "-"
-_MAX_MEMBERS = 100_000
+_MAX_HEADERS = 100_000
+_MAX_NAME = 4_095  # bytes, as Linux has them
+_MAX_NAMES = 1 << 24  # bytes of all names and of what links lead to
 _MAX_LINKS = 8
 
 
@@ -66,10 +68,19 @@ def _copied(source: io.RawIOBase, told: str, files: contextlib.ExitStack, *, may
     with writing(tempfile.gettempdir()):
         copy = files.enter_context(tempfile.TemporaryFile(buffering=0)).fileno()
     with unpacked(source, told, may_wait=may_wait) as stream:
-        while piece := _read(stream, told):
-            with writing(tempfile.gettempdir()):
-                write_all(copy, piece)
+        with writing(tempfile.gettempdir()):
+            _write_with_holes(copy, iter(lambda: _read(stream, told), b""))
     return copy
+
+
+def _write_with_holes(file: int, pieces: Iterator[bytes]) -> None:
+    """Writes all pieces, and passes over those of zeros: a small file may unpack to gigabytes of them."""
+    for piece in pieces:
+        if is_zeros(piece):
+            os.lseek(file, len(piece), os.SEEK_CUR)
+        else:
+            write_all(file, piece)
+    os.truncate(file, os.lseek(file, 0, os.SEEK_CUR))
 
 
 def _read(stream: Source, told: str) -> bytes:
@@ -85,6 +96,13 @@ def _inner(name: str) -> str | None:
     except UnicodeEncodeError:
         return None
     return None if way.startswith(("/", "../")) or way in ("..", ".") or "\0" in way else way
+
+
+def _told(name: bytes) -> str:
+    """A name in an archive as a text, where the kernel has names that are as long."""
+    if len(name) > _MAX_NAME:
+        raise TarFault(f"a name of over {_MAX_NAME:,} bytes")
+    return os.fsdecode(name)
 
 
 class _Folder:
@@ -137,30 +155,36 @@ class _Archive:
         self._places: dict[str, tuple[int, int]] = {}
         self._links: dict[str, str] = {}
         with reading(path):
-            self._find(os.fstat(file).st_size)
+            size = os.fstat(file).st_size
+        try:
+            with reading(path):
+                self._find(size)
+        except TarFault as problem:
+            raise cannot_read(path, f"it is no tar archive: {problem}") from None
+        except TooMuch as problem:
+            raise cannot_read(path, str(problem)) from None
 
     def _find(self, size: int) -> None:
+        """Finds the place of each file. A later one of the same name counts, as where an archive is unpacked."""
         source = SeekingSlice(self._file, 0, size)
         archive = TarReader(source, Budget())
-        try:
-            for header in archive:
-                name = _inner(os.fsdecode(header.name))
-                if name is None:
-                    continue
-                if archive.is_sparse():
-                    raise TarFault(f"{name} is a sparse file in it")
-                if header.type in REGULAR_TYPES:
-                    self._places[name] = source.place, header.size
-                elif header.type == SYMLINK:
-                    self._links[name] = posixpath.join(posixpath.dirname(name), os.fsdecode(header.target))
-                elif header.type == HARD_LINK:
-                    self._links[name] = os.fsdecode(header.target)
-                if len(self._places) + len(self._links) > _MAX_MEMBERS:
-                    raise TarFault(f"it has over {_MAX_MEMBERS:,} files")
-        except TarFault as problem:
-            raise cannot_read(self.path, f"it is no tar archive: {problem}") from None
-        except TooMuch as problem:
-            raise cannot_read(self.path, str(problem)) from None
+        headers, names = Counter(_MAX_HEADERS, "files in its archive"), Counter(_MAX_NAMES, "bytes of their names")
+        for header in archive:
+            headers.take()
+            names.take(len(header.name) + len(header.target))
+            name = _inner(_told(header.name))
+            if name is None:
+                continue
+            self._places.pop(name, None)
+            self._links.pop(name, None)
+            if archive.is_sparse():
+                raise TarFault(f"{name} is a sparse file in it")
+            if header.type in REGULAR_TYPES:
+                self._places[name] = source.place, header.size
+            elif header.type == SYMLINK:
+                self._links[name] = posixpath.join(posixpath.dirname(name), _told(header.target))
+            elif header.type == HARD_LINK:
+                self._links[name] = _told(header.target)
 
     def size(self, name: str) -> int | None:
         """The size of a file."""

@@ -11,7 +11,8 @@ from ..common.faults import TarFault
 from ..model.times import ONE_SECOND, of_decimal
 
 BLOCK_BYTES = 512
-REGULAR_TYPES = b"\0" b"07"
+OLD_REGULAR = b"\0"  # with a slash at its name's end a directory
+REGULAR_TYPES = OLD_REGULAR + b"07"
 HARD_LINK = b"1"
 SYMLINK = b"2"
 CHAR = b"3"
@@ -33,7 +34,7 @@ SPARSE_NAME = b"GNU.sparse.name"
 SPARSE_SIZES = (b"GNU.sparse.realsize", b"GNU.sparse.size")
 _SPARSE_PLACES = (b"GNU.sparse.offset", b"GNU.sparse.numbytes")
 _SPARSE_RECORDS = frozenset([SPARSE_MAP, SPARSE_MAJOR, SPARSE_NAME, *SPARSE_SIZES])
-_FIELD_RECORDS = frozenset([b"path", b"linkpath", b"size", b"uid", b"gid", b"mtime"])
+FIELD_RECORDS = frozenset([b"path", b"linkpath", b"size", b"uid", b"gid", b"mtime"])
 # What says nothing that a manifest could have, or what another record says too.
 _SAID_ENOUGH = frozenset([
     b"atime", b"ctime", b"charset", b"comment", b"gname", b"hdrcharset", b"uname", b"GNU.sparse.minor",
@@ -43,6 +44,9 @@ _SAID_ENOUGH = frozenset([
 _OTHER_RECORD = b""  # stands for the key of a record that isn't read
 GNU_SPARSE = b"S"
 _SIGNED = 256
+_PREFIX_END = 500  # of the part of a name that stands before the other
+_STAR_PREFIX_END = 476  # of the same in archives of star, which have two times behind it
+_STAR_TRAILER = b"tar\0"
 
 
 @dataclass(slots=True)
@@ -63,6 +67,7 @@ class Header:
     cut_time: bool = False
     has_acl: bool = False
     has_label: bool = False
+    has_global: bool = False  # something of it comes from records for all entries
     other_record: bytes = b""  # the key of one that isn't read
     sparse: dict[bytes, bytes] = field(default_factory=dict)
 
@@ -75,14 +80,15 @@ def parse_header(block: bytes) -> Header | None:
     if stated != total and stated != total - _SIGNED * _high_bytes(block):
         raise TarFault("a header has a wrong checksum")
     kind = block[156:157]
-    name = _text(block[0:100])
+    name = text_of(block[0:100])
     if block[257:263] == b"ustar\0" and block[345]:
-        name = _text(block[345:500]) + b"/" + name
+        end = _STAR_PREFIX_END if block[508:512] == _STAR_TRAILER else _PREFIX_END
+        name = text_of(block[345:end]) + b"/" + name
     is_old = block[257:262] != b"ustar"
     return Header(
         name=name, type=kind, mode=number(block[100:108]) & 0o7777, uid=number(block[108:116]),
         gid=number(block[116:124]), size=number(block[124:136]), mtime_ns=number(block[136:148]) * ONE_SECOND,
-        target=_text(block[157:257]), major=0 if is_old else number(block[329:337]),
+        target=text_of(block[157:257]), major=0 if is_old else number(block[329:337]),
         minor=0 if is_old else number(block[337:345]),
     )
 
@@ -92,7 +98,8 @@ def _high_bytes(block: bytes) -> int:
     return sum(byte >= 128 for byte in block[:148] + block[156:])
 
 
-def _text(data: bytes) -> bytes:
+def text_of(data: bytes) -> bytes:
+    """A text of a header, which a NUL ends."""
     return data.split(b"\0", 1)[0]
 
 
@@ -103,7 +110,7 @@ def number(data: bytes) -> int:
         negative = data[0] & 0x40
         value = int.from_bytes(bytes([data[0] & 0x7F]) + data[1:], "big")
         return value - (1 << (8 * len(data) - 1)) if negative else value
-    digits = data.split(b"\0", 1)[0].strip(b" ")
+    digits = text_of(data.strip(b" \0"))
     if digits.strip(b"01234567"):
         raise TarFault("a number in a header isn't octal")
     return int(digits, 8) if digits else 0
@@ -119,7 +126,7 @@ def parse_records(data: bytes) -> dict[bytes, bytes]:
     places: list[bytes] = []
     attributes: dict[bytes, bytes] = {}
     for key, value in _split_records(data):
-        if key in _FIELD_RECORDS or key in _SPARSE_RECORDS or key.startswith(XATTR_RECORD):
+        if key in FIELD_RECORDS or key in _SPARSE_RECORDS or key.startswith(XATTR_RECORD):
             records[key] = value
         elif key in _SPARSE_PLACES:
             places.append(value)

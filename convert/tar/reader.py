@@ -8,8 +8,8 @@ from ..common.contents import PIECE, ZEROS, Piece
 from ..common.faults import EndsEarly, TarFault
 from ..common.streams import Source
 from .headers import (
-    BLOCK_BYTES, GNU_LONG_NAME, GNU_LONG_TARGET, GNU_SPARSE, PAX, PAX_GLOBAL, REGULAR_TYPES, XATTR_RECORD, Header,
-    apply_records, parse_header, parse_records,
+    BLOCK_BYTES, DIRECTORY, FIELD_RECORDS, GNU_LONG_NAME, GNU_LONG_TARGET, GNU_SPARSE, OLD_REGULAR, PAX, PAX_GLOBAL,
+    REGULAR_TYPES, XATTR_RECORD, Header, apply_records, parse_header, parse_records, text_of,
 )
 from .sparse import Places, old_places, record_places
 
@@ -103,6 +103,7 @@ class TarReader:
                 raise EndsEarly
             header = parse_header(block)
             if header is None:
+                self._require_end()
                 return None
             self._budget.headers.take()
             if header.type == PAX:
@@ -111,21 +112,30 @@ class TarReader:
                 self._budget.global_headers.take()
                 self._take_globals(parse_records(self._record_data(header.size)))
             elif header.type == GNU_LONG_NAME:
-                name = self._record_data(header.size).rstrip(b"\0")
+                name = text_of(self._record_data(header.size))
             elif header.type == GNU_LONG_TARGET:
-                target = self._record_data(header.size).rstrip(b"\0")
+                target = text_of(self._record_data(header.size))
             else:
                 break
-        header.name = header.name if name is None else name
-        header.target = header.target if target is None else target
-        self._budget.given_records.take(self._global_bytes)
-        if self._global_fields or records:
-            apply_records(header, self._global_fields | records)
-        if self._global_attributes:
-            header.attributes = self._global_attributes | header.attributes
+        self._apply(header, records)
+        # A long name of GNU's counts before a record's, as in Go's reader.
+        header.name = name or header.name
+        header.target = target or header.target
         self._budget.attributes.take(len(header.attributes))
         self._begin(header, block)
         return header
+
+    def _apply(self, header: Header, records: dict[bytes, bytes]) -> None:
+        """What PAX records say of an entry, its own before those for all."""
+        self._budget.given_records.take(self._global_bytes)
+        if self._global_fields or records:
+            apply_records(header, self._global_fields | records)
+            header.has_global = any(
+                value and key in FIELD_RECORDS and key not in records for key, value in self._global_fields.items()
+            )
+        if self._global_attributes:
+            header.has_global = header.has_global or not self._global_attributes.keys() <= header.attributes.keys()
+            header.attributes = self._global_attributes | header.attributes
 
     def _take_globals(self, records: dict[bytes, bytes]) -> None:
         self._globals |= records
@@ -139,9 +149,17 @@ class TarReader:
             else:
                 self._global_fields[key] = value
 
+    def _require_end(self) -> None:
+        """Refuses a block of zeros before another header: some readers end there, and others don't."""
+        if len(block := self._up_to(BLOCK_BYTES)) == BLOCK_BYTES and any(block):
+            raise TarFault("a single block of zeros before its end")
+
     def _begin(self, header: Header, block: bytes) -> None:
         if header.size < 0:
             raise TarFault("an entry of a negative size")
+        if header.type == OLD_REGULAR and header.name.endswith(b"/"):
+            self._require_no_data(header)
+            header.type = DIRECTORY
         if header.type in _WITHOUT_DATA:
             header.size = 0
         self._left = header.size
@@ -156,6 +174,11 @@ class TarReader:
         if self._places is not None:
             self._size = header.size
             self._budget.holes.take(header.size - self._left)
+
+    def _require_no_data(self, header: Header) -> None:
+        """Refuses data of an old archive's directory, which some readers take as the next header."""
+        if header.size:
+            raise TarFault("a directory with data")
 
     def _record_data(self, size: int) -> bytes:
         """Records or a long name; refuses what no honest archive has, before it is read."""

@@ -56,6 +56,12 @@ def _describe(path: str, kind: str, data: bytes) -> dict[str, object]:
     return {"mediaType": f"application/vnd.oci.image.{kind}", "digest": _put(path, data), "size": len(data)}
 
 
+def _packing(data: bytes) -> str:
+    """The end of a layer's media type."""
+    kinds = {b"\x1f\x8b": "+gzip", b"\x28\xb5\x2f\xfd": "+zstd"}
+    return next((kind for magic, kind in kinds.items() if data.startswith(magic)), "")
+
+
 def put_manifest(
     path: str, layers: list[bytes], unpacked: list[bytes] | None, platform: str,
     config: dict[str, object] | None = None, annotations: dict[str, str] | None = None,
@@ -68,7 +74,7 @@ def put_manifest(
     manifest: dict[str, object] = {
         "schemaVersion": 2,
         "config": _describe(path, "config.v1+json", json.dumps(config).encode()),
-        "layers": [_describe(path, "layer.v1.tar", data) for data in layers],
+        "layers": [_describe(path, f"layer.v1.tar{_packing(data)}", data) for data in layers],
     }
     if annotations is not None:
         manifest["annotations"] = annotations
