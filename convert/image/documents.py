@@ -44,6 +44,7 @@ LAYER_TYPES: Mapping[str, str | None] = {
 _MAX_DEPTH = 64  # of objects and lists in one another; real documents have 4
 _MAX_PARTS = 1 << 18  # objects and lists of a document, each of which takes memory
 _MAX_NAME = 60  # characters of a member's name that a fault gives
+_MOST_NAMES = 8  # of objects and lists in one another that it gives
 _DIGEST = re.compile(r"(?:(sha256):([0-9a-f]{64})|(sha384):([0-9a-f]{96})|(sha512):([0-9a-f]{128}))\Z")
 
 
@@ -61,7 +62,8 @@ class Misshapen(ValueError):
         return self
 
     def __str__(self) -> str:
-        place = "".join(f"[{it}]" if isinstance(it, int) else f".{_shortened(it)}" for it in self._place)
+        shown = self._place if len(self._place) <= _MOST_NAMES else [*self._place[:_MOST_NAMES], ".."]
+        place = "".join(f"[{it}]" if isinstance(it, int) else f".{_shortened(it)}" for it in shown)
         return f"{place.removeprefix('.') or 'it'} {self._words}"
 
 

@@ -294,7 +294,10 @@ class _Layout:
         for descriptor in index.manifests:
             notes = descriptor.annotations
             own = tuple(notes[key] for key in (REF_NAME, _FULL_NAME) if key in notes) or names
-            if _ATTESTATION in notes or (descriptor.digest, own) in self._visited:
+            if _ATTESTATION in notes:
+                continue
+            self._require_same(descriptor)
+            if (descriptor.digest, own) in self._visited:
                 continue
             self._visited.add((descriptor.digest, own))
             if self._members.size(_blob_in_layout(descriptor.digest)) is not None:
@@ -306,7 +309,6 @@ class _Layout:
         """An image, or an index inside of the one that is visited; whatever else is there isn't read."""
         if descriptor.media_type not in (None, *INDEX_TYPES, *MANIFEST_TYPES):
             return
-        self._require_same(descriptor)
         name, told = _blob_in_layout(descriptor.digest), platform_text(stated)
         before = self._choices.get((descriptor.digest, told))
         if before:

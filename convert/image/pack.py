@@ -290,7 +290,7 @@ def contents_of(entry: Entry, blobs: str) -> Iterator[bytes]:
 
 
 def _json(value: Any) -> bytes:
-    return json.dumps(value, separators=(",", ":"), sort_keys=True).encode()
+    return json.dumps(value, separators=(",", ":"), sort_keys=True, ensure_ascii=False).encode()
 
 
 def _descriptor(kind: str, digest: str, size: int) -> dict[str, Any]:

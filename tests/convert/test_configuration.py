@@ -13,7 +13,7 @@ from images import archive, member, put_index, put_manifest, write_layout, write
 from support import FolderTest, call
 
 CONFIG = {
-    "created": "2024-01-02T03:04:05.678Z", "author": "é \ud800", "docker_version": "20.10", "x-own": [1.5, {}],
+    "created": "2024-01-02T03:04:05.678Z", "author": "é \U0001f600", "docker_version": "20.10", "x-own": [1.5, {}],
     "os": "linux", "architecture": "arm64", "variant": "v8", "os.features": ["f"],
     "config": {
         "Cmd": ["/bin/sh", "-c", "x"], "Entrypoint": ["e"], "Env": ["A=b"], "User": "1:2", "WorkingDir": "/w",
@@ -109,8 +109,8 @@ class Kept(ConfigurationTest):
         write_layout(self.path("image"), LAYERS)
         self.unpack("image", "out")
         for text, reason in (
-            ("", "it isn't JSON"), ("[" * 100_000, "it isn't JSON"), ('{"a":' * 65 + "1" + "}" * 65, "it isn't JSON"),
-            ('{"x":1e999}', "it isn't JSON"), ('{"x":NaN}', "it isn't JSON"), ("[]", "no JSON object"),
+            ("", "it isn't JSON"), ("[" * 100_000, "it isn't JSON"), ('{"a":' * 65 + "1" + "}" * 65, "over 64 objects"),
+            ('{"x":1e999}', "it isn't JSON"), ('{"x":NaN}', "it isn't JSON"), ("[]", "it is no object"),
             ('{"config":[1]}', "config is no object"), ('{"os":1}', "is no string"), ('{"history":[1]}', "history"),
             (json.dumps({"x": "y" * (1 << 22)}), "over 4,194,304 bytes"), (" " * (1 << 26) + "{}", "isn't JSON"),
             ("[" + "[]," * 300_000 + "[]]", "over 262,144 objects and lists"),
@@ -146,7 +146,7 @@ class Kept(ConfigurationTest):
         descriptor = put_manifest(self.path("image"), LAYERS, None, "linux/amd64")
         self._name_config(descriptor, json.dumps(config, separators=(",", ":")).encode())
         self.unpack("image", "out")
-        self.assertGreater(os.path.getsize(self.path("out", "config.json")), 1 << 22)
+        self.assertLess(os.path.getsize(self.path("out", "config.json")), 1 << 22)
         self.require_done(self.pack(2, "new", "--config", self.path("out", "config.json")))
 
     def _name_config(self, descriptor: dict[str, Any], text: bytes) -> None:
