@@ -7,7 +7,7 @@ from collections.abc import Sequence
 from dataclasses import dataclass, replace
 from enum import Enum
 
-from ..common.faults import UsageFault, cannot_write, reading, writing
+from ..common.faults import UsageFault, cannot_write, writing
 from ..common.omissions import Loss, Losses
 from ..common.outputs import kept_folder, passing_folder, require_empty, write_text
 from ..common.progress import counted, note, note_path
@@ -21,8 +21,9 @@ from ..model.entries import SOCKET, drop_host_marks
 from ..model.layer_tree import whiteout
 from ..model.links import take_links, write_layer
 from ..model.manifests import read_manifest
+from ..model.show_report import read_report, report_of
 from ..squashfs import programs as squashfs
-from ..squashfs.limits import fitted_report
+from ..squashfs.limits import fitted_lines
 from .steps import AGAIN, BEFORE, STACK, Doing, carry_out, drop_unnamed, timed
 
 _NEW = "new"
@@ -175,6 +176,5 @@ class _DoingStack(Doing):
         """The report that the new layers are to show: that of the given ones, as far as their form can hold it."""
         if not self._options.is_squashfs():
             return BEFORE
-        with reading(self.path(BEFORE)), open(self.path(BEFORE), encoding="ascii") as lines:
-            write_text(self.path(_FITTED), fitted_report(lines))
+        write_text(self.path(_FITTED), report_of(fitted_lines(read_report(self.path(BEFORE)))))
         return _FITTED

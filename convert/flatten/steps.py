@@ -10,11 +10,11 @@ from typing import IO, Protocol
 from ..common.faults import Fault, reading, writing
 from ..common.program import makes_layers, require_program, run_program, words_of
 from ..common.progress import note
-from ..folder.mounted import escaped_path
 from ..model import stacks
 from ..model.entries import METACOPY, REDIRECT
 from ..model.links import links_path, names_in
 from ..model.manifests import blobs_named_in, has_attribute
+from ..model.show_report import escaped_path
 
 STACK = "stack"
 AGAIN = "again"

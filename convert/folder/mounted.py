@@ -12,9 +12,8 @@ from ..common.progress import Progress, note
 from ..model import times
 from ..model.attributes import can_read_trusted, read_attributes
 from ..model.entries import BLOCK, CHAR, FILE, OVERLAY, SYMLINK
+from ..model.show_report import NONE, ShowLine, escaped_path, report_of
 from .walks import Found, walk
-
-_NONE = "-"
 
 
 def report(folder: str, cross_file_systems: bool) -> Iterator[str]:
@@ -23,8 +22,14 @@ def report(folder: str, cross_file_systems: bool) -> Iterator[str]:
         note("trusted.* attributes can't be read without CAP_SYS_ADMIN; the report has none of them")
     with reading(folder):
         root = open_root(folder)
+    try:
+        yield from report_of(_lines(root, folder, cross_file_systems))
+    finally:
+        os.close(root)
+
+
+def _lines(root: int, folder: str, cross_file_systems: bool) -> Iterator[ShowLine]:
     progress = Progress("reading entries")
-    count = 0
     try:
         for found in walk(root, folder, cross_file_systems):
             try:
@@ -32,42 +37,33 @@ def report(folder: str, cross_file_systems: bool) -> Iterator[str]:
             except OSError as error:
                 raise cannot_read(folder + found.path, reason_of(error)) from error
             yield line
-            count += 1
             progress.step()
     finally:
         progress.end()
-        os.close(root)
-    yield f"entries {count}\n"
 
 
-def _line(found: Found) -> str:
+def _line(found: Found) -> ShowLine:
     status = found.status
-    size = str(status.st_size) if found.kind == FILE else _NONE
-    fields = [
-        found.kind, f"{stat.S_IMODE(status.st_mode):04o}", str(status.st_uid), str(status.st_gid),
-        times.shown(status.st_mtime_ns), size, _what(found), escaped_path(found.path),
-    ]
     attributes = {os.fsencode(name): value for name, value in read_attributes(found.place()).items()}
-    fields += [
-        f"{escaped(name)}={attributes[name].hex()}"
-        for name in sorted(attributes)
-        if not name.startswith(OVERLAY.encode())
-    ]
-    return " ".join(fields) + "\n"
-
-
-def escaped_path(path: str) -> str:
-    """A path as the show report has it."""
-    return "/".join(escaped(os.fsencode(name)) for name in path.split("/")) if path != "/" else "/"
+    return ShowLine(
+        kind=found.kind, mode=f"{stat.S_IMODE(status.st_mode):04o}", uid=str(status.st_uid), gid=str(status.st_gid),
+        mtime=times.shown(status.st_mtime_ns), size=str(status.st_size) if found.kind == FILE else NONE,
+        what=_what(found), path=escaped_path(found.path),
+        attributes=" ".join(
+            f"{escaped(name)}={attributes[name].hex()}"
+            for name in sorted(attributes)
+            if not name.startswith(OVERLAY.encode())
+        ),
+    )
 
 
 def _what(found: Found) -> str:
     if found.kind == SYMLINK:
-        return escaped(os.fsencode(found.target()))
+        return escaped_path(found.target())
     if found.kind in (CHAR, BLOCK):
         return f"{os.major(found.status.st_rdev)}:{os.minor(found.status.st_rdev)}"
     if found.kind != FILE or found.status.st_size == 0:
-        return _NONE
+        return NONE
     file = os.open(found.name, READ, dir_fd=found.folder)
     try:
         return digest_and_size(file)[0]

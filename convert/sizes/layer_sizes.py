@@ -3,12 +3,12 @@
 from collections.abc import Iterable, Sequence
 from dataclasses import dataclass, field, fields
 
-from ..common.escaping import escaped
-from ..common.faults import Fault, reading
+from ..common.faults import Fault
 from ..common.program import NAME
 from ..model.entries import DIRECTORY, FILE, METACOPY, Entry, is_opaque, is_whiteout
 from ..model.links import take_links
 from ..model.manifests import read_manifest
+from ..model.show_report import MISSING, NONE, ShowLine, escaped_path, read_report
 from .shown_tree import Directory, LayerFile, Node, ShownTree
 
 
@@ -166,19 +166,22 @@ def _classify(sizes: Sizes, own: LayerSizes, file: LayerFile, paying: _Paying) -
 def _take_merged(sizes: Sizes, report: str) -> None:
     """Counts the merged tree, which must be, line by line, the one that the program has printed."""
     merged, seen = sizes.merged, set[int]()
-    nodes = sizes.tree.nodes()
-    with reading(report), open(report, "rb") as file:
-        for line in file:
-            path, node = next(nodes, ("", None))
-            if node is None or not _is_line_of(line, path, node):
-                break
-            merged.entries += 1
-            if isinstance(node, LayerFile) and id(node) not in seen:
-                seen.add(id(node))
-                merged.files += 1
-                merged.bytes += shown_size(node)
-        if node is not None or line != f"entries {merged.entries}\n".encode():
-            raise Fault(f"{NAME} shows something else at {path or line!r}; please report this")
+    lines = read_report(report)
+    for path, node in sizes.tree.nodes():
+        line = next(lines, None)
+        if line is None or not _is_line_of(line, path, node):
+            raise _other(path)
+        merged.entries += 1
+        if isinstance(node, LayerFile) and id(node) not in seen:
+            seen.add(id(node))
+            merged.files += 1
+            merged.bytes += shown_size(node)
+    for line in lines:
+        raise _other(line.path)
+
+
+def _other(path: str) -> Fault:
+    return Fault(f"{NAME} shows something else at {path}; please report this")
 
 
 def shown_size(file: LayerFile) -> int:
@@ -187,17 +190,15 @@ def shown_size(file: LayerFile) -> int:
     return 0 if contents is None else contents.size
 
 
-def _is_line_of(line: bytes, path: str, node: Node) -> bool:
-    """Whether a line of the show report has this path, with these contents."""
-    parts = line.removesuffix(b"\n").split(b" ", 8)
-    if len(parts) < 8 or parts[7] != escaped(path.encode()).encode():
+def _is_line_of(line: ShowLine, path: str, node: Node) -> bool:
+    """Whether a line of the report is of this path, and of these contents there."""
+    if line.path != escaped_path(path):
         return False
-    kind, size, what = parts[0], parts[5], parts[6]
     if isinstance(node, Directory):
-        return kind == b"dir"
+        return line.kind == DIRECTORY
     if not isinstance(node, LayerFile):
-        return kind not in (b"dir", b"file")
+        return line.kind not in (DIRECTORY, FILE)
     contents = node.contents()
     if contents is None:
-        return (kind, what) == (b"file", b"missing")
-    return (kind, size, what) == (b"file", b"%d" % contents.size, contents.blob.hex().encode() or b"-")
+        return (line.kind, line.what) == (FILE, MISSING)
+    return (line.kind, line.size, line.what) == (FILE, str(contents.size), contents.blob.hex() or NONE)

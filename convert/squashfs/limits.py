@@ -4,13 +4,12 @@ from collections.abc import Iterable, Iterator
 
 from ..common.omissions import Loss, Losses
 from ..model.entries import SOCKET, Entry
+from ..model.show_report import ShowLine
 from ..model.times import ONE_SECOND, of_shown, shown
 
 _MAX_TIME = 2**32 - 1  # seconds
 MAX_OWNERS = 65_535  # numbers of users and groups together
 _PREFIXES = ("user.", "trusted.", "security.")
-_KIND, _TIME = 0, 4  # fields of a line of the show report
-_COUNT = "entries "
 
 
 def attributes_problem(names: Iterable[str]) -> str | None:
@@ -48,16 +47,8 @@ def fitting_time(time_ns: int) -> int:
     return min(max(time_ns // ONE_SECOND, 0), _MAX_TIME) * ONE_SECOND
 
 
-def fitted_report(lines: Iterable[str]) -> Iterator[str]:
-    """The lines of a show report as of a tree that a squashfs can hold."""
-    left_out = 0
+def fitted_lines(lines: Iterable[ShowLine]) -> Iterator[ShowLine]:
+    """The lines of the report of `show` as of a tree that a squashfs can hold."""
     for line in lines:
-        if line.startswith(_COUNT):
-            yield f"{_COUNT}{int(line.removeprefix(_COUNT)) - left_out}\n"
-            continue
-        fields = line.split(" ")
-        if fields[_KIND] == SOCKET:
-            left_out += 1
-            continue
-        fields[_TIME] = shown(fitting_time(of_shown(fields[_TIME])))
-        yield " ".join(fields)
+        if line.kind != SOCKET:
+            yield line._replace(mtime=shown(fitting_time(of_shown(line.mtime))))

@@ -4,12 +4,11 @@ import os
 from collections.abc import Iterable
 
 from ..common.faults import cannot_write, writing
-from ..model.entries import Entry
+from ..model.entries import FILE, Entry
 from ..model.links import FirstNames
+from ..model.show_report import read_report
 from ..model.times import ONE_SECOND
 from .headers import BLOCK_BYTES
-
-_SIZE_FIELD, _DIGEST_FIELD = 5, 6  # of a line of the show report
 
 
 def require_room(told: str, place: str, need: int) -> None:
@@ -41,13 +40,11 @@ def least_archive(entries: Iterable[Entry]) -> int:
 
 
 def least_shown(report: str) -> int:
-    """How many bytes a plain archive has at least of what a show report has."""
+    """How many bytes a plain archive has at least of what a report of `show` lists."""
     sizes: dict[str, int] = {}
-    count = 0
-    with open(report, encoding="ascii", errors="replace") as lines:
-        for line in lines:
-            count += 1
-            if line.startswith("file "):
-                fields = line.split(" ", _DIGEST_FIELD + 1)
-                sizes[fields[_DIGEST_FIELD]] = int(fields[_SIZE_FIELD])
+    count = 1  # what an archive ends with
+    for line in read_report(report):
+        count += 1
+        if line.kind == FILE:
+            sizes[line.what] = int(line.size)
     return count * BLOCK_BYTES + sum(sizes.values())

@@ -36,7 +36,7 @@ while [ "${{1#--}}" != "$1" ]; do
 done
 . "$here/manner"
 case $what in
-    show) echo 'entries 1' ;;
+    show) echo 'dir 0755 0 0 0 - - /'; echo 'entries 1' ;;
     fsck) echo 'faults 0 notes 0' ;;
     merge) cp "$1" "$out/layer-0.json" && cp "$2" "$out/layer-1.json" && echo 'entries 2' ;;
     *) cp "$1" "$out/layer-0.json" && echo "done $what" ;;

@@ -26,7 +26,7 @@ while [ $# -gt 0 ]; do [ "$1" = --out ] && out=$2; shift; done
 """
 _OTHER_AT_THE_END = """
 case $1 in
-    show) echo >> "$0.calls"; [ "$(wc -l < "$0.calls")" -lt 3 ] && echo 'entries 1' || echo 'entries 2' ;;
+    show) echo >> "$0.calls"; [ "$(wc -l < "$0.calls")" -lt 3 ] && echo 'entries 0' || echo 'entries 1' ;;
     fsck) echo 'faults 0 notes 0' ;;
 esac"""
 LOWEST = [folder("./"), folder("d"), member("d/f", b"lowest"), member("d/g", b"g"), member("l", kind=b"1", target="d/g")]

@@ -238,8 +238,12 @@ class Telling(SizesTest):
     def test_another_tree_than_the_program_shows(self) -> None:
         self.write_image()
         report = self.path("wrong")
-        for old, new in ((" /same", " /some"), (" 700 ", " 701 "), ("file 0644 0 0 0 0 -", "fifo 0644 0 0 0 - -"),
-                         ("entries 8", "entries 9"), ("entries 8\n", ""), ("dir 0755 0 0 0 - - /bin\n", "")):
+        other, cut = "ovl_layers shows something else at ", "ovl_layers show gave no whole report: "
+        for old, new, fault in (
+            (" /same", " /some", other), (" 700 ", " 701 ", other), ("file 0644 0 0 0 0 -", "fifo 0644 0 0 0 - -", other),
+            ("dir 0755 0 0 0 - - /bin\n", "", other), ("entries 8", "fifo 0644 0 0 0 - - /z\nentries 9", other),
+            ("entries 8", "entries 9", cut), ("entries 8\n", "", cut), ("entries 8\n", "entries 8\n\n", cut),
+        ):
             def wrong(_: str, words: Sequence[str], place: str, __: object, old: str = old, new: str = new) -> str:
                 plain_program(_, words, report, __)
                 with open(report, encoding="ascii") as given, open(place, "x", encoding="ascii") as file:
@@ -250,7 +254,7 @@ class Telling(SizesTest):
                 return ""
 
             self.program.side_effect = wrong
-            self.require_fault(call("sizes", self.path("image")), 5, "ovl_layers shows something else at ")
+            self.require_fault(call("sizes", self.path("image")), 5, fault)
 
 
 class Units(unittest.TestCase):
