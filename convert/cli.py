@@ -12,6 +12,7 @@ from . import VERSION
 from .common.escaping import printable
 from .common.faults import OTHER, Fault, UsageFault
 from .common.outputs import standard_output
+from .common.program import choose_program
 from .flatten.image import FlattenOptions, flatten, flatten_commands
 from .flatten.stack import FlattenStackOptions, OutForm, flatten_stack
 from .folder.build import BuildOptions
@@ -184,6 +185,7 @@ def main(words: Sequence[str]) -> int:
         signal.signal(number, _end)
     try:
         options = _parser().parse_args(list(words))
+        choose_program(options.unproved)
         run: Callable[[argparse.Namespace], None] = options.run
         run(options)
         return 0
@@ -211,6 +213,10 @@ def _parser() -> argparse.ArgumentParser:
         formatter_class=argparse.RawDescriptionHelpFormatter,
     )
     parser.add_argument("--version", action="version", version=f"{NAME} {VERSION}", help="print the version and exit")
+    parser.add_argument(
+        "--unproved", action="store_true",
+        help="run ovl_layers as compiled without proofs, which takes a minute and a half the first time",
+    )
     commands = parser.add_subparsers(title="commands", metavar="COMMAND", required=True)
     _add_scan(_command(commands, "scan", "a layer as a manifest and blobs", _SCAN, _scan))
     for name, short in (("store", "a layer of docker or podman with those below it; or import"), ("import", None)):

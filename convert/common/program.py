@@ -6,15 +6,18 @@ import shutil
 import signal
 import subprocess
 import sys
-from collections.abc import Iterator, Sequence
+from collections.abc import Iterable, Iterator, Sequence
 from pathlib import Path
 from typing import IO
 
-from .faults import ENDING, FAULTY, OTHER, Fault, ReadFault, reading, writing
+from .faults import ENDING, FAULTY, OTHER, Fault, ReadFault, UsageFault, reading, writing
 
 NAME = "ovl_layers"
 _HERE = Path(__file__).resolve().parents[2]
 _BUILT = _HERE / "crates" / NAME / "out" / NAME  # in the repository
+_UNPROVED = _BUILT.parent / "unproved" / NAME
+_LAUNCHER = _HERE / NAME
+_SMALLEST = _HERE / "examples" / "root.json"
 _INSTALLED = _HERE.parents[1] / "bin" / NAME  # of PREFIX/lib/ovl_layers, where `install` puts this converter
 # What each command is told that reads contents.
 _WORDS_ON_CONTENTS: tuple[str, ...] = ("--any-size",)
@@ -29,24 +32,48 @@ class Refused(Fault):
         self.status = status
 
 
+# Whether commands run the program that is compiled without proofs.
+_is_unproved = False
+
+
+def choose_program(unproved: bool) -> None:
+    """Has the commands of this process run the proved program, or the one that is compiled without proofs."""
+    global _is_unproved
+    _is_unproved = unproved
+    if unproved and not _LAUNCHER.is_file():
+        raise UsageFault(f"--unproved is for a checkout of the repository; here {NAME} is installed")
+
+
 def find_program() -> str | None:
     """The built program: beside this converter, or on the PATH."""
     places = [_BUILT] + ([_INSTALLED] if _HERE.parts[-2:] == ("lib", NAME) else [])
-    for place in places:
+    for place in [_UNPROVED] if _is_unproved else places:
         if place.is_file() and os.access(place, os.X_OK):
             return str(place)
-    return shutil.which(NAME)
+    return None if _is_unproved else shutil.which(NAME)
 
 
-def require_program() -> str:
-    """The same, or a fault that says how to get it."""
+def require_program(given: Iterable[str]) -> str:
+    """The same. In a checkout it is built first if it must be, once all paths that are given are there."""
+    if _is_unproved or find_program() is None and _LAUNCHER.is_file():
+        for path in given:
+            with reading(path):
+                os.stat(path)
+        _launch(*["--unproved"] * _is_unproved)
     program = find_program()
     if program is None:
-        raise ReadFault(
-            f"the program {NAME} is neither beside this one nor on the PATH; build it by "
-            "`./ovl_layers show examples/root.json` in its repository, or install it"
-        )
+        raise ReadFault(f"the program {NAME} is neither beside this one nor on the PATH; install it")
     return program
+
+
+def _launch(*words: str) -> None:
+    """Has the launcher prove and build the program, or compile it; it says on standard error how long that takes."""
+    command = [str(_LAUNCHER), *words, "show", str(_SMALLEST)]
+    # (asked to end, it keeps what is proved)
+    with _running(command, subprocess.DEVNULL, None, signal.SIGTERM) as launcher:
+        status = launcher.wait()
+    if status != 0:
+        raise ReadFault(f"the program {NAME} isn't built: {_LAUNCHER} ended with status {status}")
 
 
 def makes_layers(what: str) -> bool:
@@ -78,7 +105,7 @@ def run_program(program: str, words: Sequence[str], report: str, faults: IO[str]
 
     What it refuses is told as it is: its own words, or the report, among the faults, where that tells of any.
     """
-    with writing(report), open(report, "xb") as file, _running([program, *words], file) as process:
+    with writing(report), open(report, "xb") as file, _running([program, *words], file, subprocess.PIPE) as process:
         told = process.communicate()[1]
     print(told.decode("utf-8", "replace"), end="", file=sys.stderr)
     status = process.returncode
@@ -92,26 +119,30 @@ def run_program(program: str, words: Sequence[str], report: str, faults: IO[str]
 
 
 @contextlib.contextmanager
-def _running(words: Sequence[str], report: IO[bytes]) -> Iterator["subprocess.Popen[bytes]"]:
+def _running(
+    words: Sequence[str], out: IO[bytes] | int, told: int | None, end: signal.Signals = signal.SIGKILL,
+) -> Iterator["subprocess.Popen[bytes]"]:
     """A process that ends with this one's work: signals wait while it is started, so that none leaves it alone."""
     mask = signal.pthread_sigmask(signal.SIG_BLOCK, ENDING)
     try:
-        with _start(words, report, mask) as process:
+        with _start(words, out, told, mask) as process:
             try:
                 signal.pthread_sigmask(signal.SIG_SETMASK, mask)
                 yield process
             except BaseException:
-                process.kill()
+                process.send_signal(end)
                 process.wait()
                 raise
     finally:
         signal.pthread_sigmask(signal.SIG_SETMASK, mask)
 
 
-def _start(words: Sequence[str], report: IO[bytes], mask: set[int]) -> "subprocess.Popen[bytes]":
+def _start(
+    words: Sequence[str], out: IO[bytes] | int, told: int | None, mask: set[int]
+) -> "subprocess.Popen[bytes]":
     try:
         return subprocess.Popen(
-            words, stdin=subprocess.DEVNULL, stdout=report, stderr=subprocess.PIPE,
+            words, stdin=subprocess.DEVNULL, stdout=out, stderr=told,
             preexec_fn=lambda: signal.pthread_sigmask(signal.SIG_SETMASK, mask),
         )
     except OSError as error:

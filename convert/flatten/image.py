@@ -121,7 +121,8 @@ class _Doing(Doing):
 
     def __init__(self, options: FlattenOptions, folder: str, image: str) -> None:
         super().__init__(
-            folder, options.keep is not None, sys.stderr if options.out.is_standard_output else sys.stdout
+            folder, options.keep is not None, sys.stderr if options.out.is_standard_output else sys.stdout,
+            [options.image] if options.image != STANDARD_INPUT else [],
         )
         self._options = options
         self._image = image

@@ -99,7 +99,7 @@ class _DoingStack(Doing):
     """Does the steps of a stack. `made` is where the new layer is made, or the folder of the new layers."""
 
     def __init__(self, options: FlattenStackOptions, folder: str, made: str) -> None:
-        super().__init__(folder, options.keep is not None, sys.stdout)
+        super().__init__(folder, options.keep is not None, sys.stdout, options.stack.layers)
         self._options = options
         self._made = made
 

@@ -4,7 +4,7 @@ import contextlib
 import filecmp
 import os
 import time
-from collections.abc import Iterator, Sequence
+from collections.abc import Iterable, Iterator, Sequence
 from typing import IO, Protocol
 
 from ..common.faults import Fault, reading, writing
@@ -99,11 +99,11 @@ def new_layer(folder: str, number: int = 0) -> str:
 class Doing:
     """Does the steps, and tells each with its time. How layers come in and go out is of its kinds."""
 
-    def __init__(self, folder: str, is_kept: bool, faults: IO[str]) -> None:
+    def __init__(self, folder: str, is_kept: bool, faults: IO[str], given: Iterable[str]) -> None:
         self._folder = folder
         self._is_kept = is_kept
         self._faults = faults
-        self._program = require_program()
+        self._program = require_program(given)
         self.count = 0  # of the given layers
         self.data_layers: frozenset[str] = frozenset()  # the paths of those that are data-only
 

@@ -14,6 +14,7 @@ from ..common.program import require_program, run_program, words_of
 from ..folder.stack_layers import StackOptions, read_stack, require_ordinary
 from ..image.configuration import Document
 from ..image.images import image_place, opened_image
+from ..image.members import STANDARD_INPUT
 from ..image.unpack import UnpackOptions, unpack_opened
 from ..model import stacks
 from .layer_sizes import Sizes, sizes_of
@@ -52,7 +53,7 @@ def sizes(options: SizesOptions, tell: Callable[[Iterable[str]], None]) -> None:
     """Tells the sizes, and fails where more than may be isn't shown."""
     if options.stack is not None:
         require_ordinary(len(options.stack.layers), options.data_layers)
-    program = require_program()
+    program = require_program(_given_paths(options))
     with passing_folder(os.path.join(tempfile.gettempdir(), _WORK)) as folder:
         given = _given_image(options, folder) if options.stack is None else _given_stack(options.stack, folder)
         report = f"{folder}/{_SHOWN}"
@@ -63,6 +64,12 @@ def sizes(options: SizesOptions, tell: Callable[[Iterable[str]], None]) -> None:
     if options.page != STANDARD_OUTPUT:
         tell(json_text(found, given.origins) if options.as_json else table(found, given.origins, options.exact))
     _require_shown(found, options.fail_over)
+
+
+def _given_paths(options: SizesOptions) -> list[str]:
+    """Where what is measured is, unless it is standard input."""
+    paths = options.stack.layers if options.stack else [image_place(str(options.image), options.tag)[0]]
+    return [path for path in paths if path != STANDARD_INPUT]
 
 
 @dataclass(frozen=True)
