@@ -2,25 +2,29 @@
 """Looks whether the documents name what is there.
 
 - HEADLINE.md has every definition that is reached from the contracts of `command` and `merge_down`, beside its file.
-- PROVED.md has every public call of the crates, and none that isn't there.
-- definitions.txt has the text of these definitions.
+- PROVED.md is as proved.py makes it, and has every public call of the crates.
+- Each of these definitions has a text.
 - MADE_FAULTS.md has every function that names want of memory, or a fault of reading or writing, in its code,
   with how often, and no other.
-- Links of all documents lead somewhere. Files that ARCHITECTURE.md names are there, each with its crate where several
-  crates have one of that name.
+- Links of all documents lead somewhere. Files of crates that ARCHITECTURE.md and DEVELOPING.md name are there, each with its
+  crate where several crates have one of that name.
 - No name of a type, or of a fact or record of specs/, stands twice.
 - GLOSSARY.md or PROVED.md has every public type, and FORMATS.md every public limit, and none that isn't there.
 - Each block of code in the documentation of a crate's items is lines, one after another, of a file that the gate proves and
   runs: one of `ovl_caller` or of a crate of tests.
+- No document is longer than it may be, or has a turn that is refused (prose.py).
 
 Prints what is missing; the status is 1 where something is. Says nothing of what the documents say.
 
-    python3 tools/check_docs.py --definitions    # prints docs/definitions.txt: the definitions of HEADLINE.md, in its order
+    python3 -B tools/check_docs.py --definitions    # prints the definitions of HEADLINE.md, in its order
 """
 import collections
 import re
 import sys
 from pathlib import Path
+
+import proved
+import prose
 
 TOP = Path(__file__).resolve().parent.parent
 CLAUSES = ["IsOutcome", "is_outside", "request_of", "makes_layers", "KeepsTree", "after", "stays_sound", "HasSoundStack", "stands_alone",
@@ -119,7 +123,7 @@ def definitions_page():
     found, _ = definitions()
     seen, source = set(), ""
     yield "The definitions that the contracts of `command` and `merge_down` reach, in the order of HEADLINE.md, which says of each what it"
-    yield "says and from where. Made by `python3 tools/check_docs.py --definitions`."
+    yield "says and from where."
     for chapter, names, files, told in rows_of_headline():
         if chapter:
             yield f"\n\n==== {chapter} ===="
@@ -148,9 +152,10 @@ def headline():
     for name in (name for _, names, _, _ in rows for name in names):
         if name not in known:
             yield f"HEADLINE.md names {name}, which no specs/ has"
-    text = TOP / "docs/definitions.txt"
-    if not text.exists() or text.read_text(encoding="utf-8") != page():
-        yield "definitions.txt isn't what the definitions are: python3 tools/check_docs.py --definitions > docs/definitions.txt"
+    text = page()
+    for file, name in sorted(needed):
+        if f"\n-- {file}" not in text or not any(texts_of(file).get(name, [])):
+            yield f"the definition {name} of {file} has no text"
 
 
 def calls(crate):
@@ -178,22 +183,13 @@ def calls(crate):
     return found
 
 
-def proved():
+def public_items():
     text = (TOP / "docs/PROVED.md").read_text(encoding="utf-8")
-    chapters = re.split(r"^## ", text, flags=re.M)[1:]
+    if text != proved.page():
+        yield "PROVED.md isn't what the contracts are: python3 -B tools/proved.py"
     for crate in crates():
-        chapter = "\n".join(one for one in chapters if crate.name in one.split("\n")[0])
-        told = set(re.findall(r"`([\w:]+)`", chapter))
-        for call in sorted(calls(crate) - told):
-            yield f"PROVED.md lacks {call} of {crate.name}"
-    every = set()
-    for path in (TOP / "crates").rglob("*.rt"):
-        every |= set(re.findall(r"\bfn (\w+)", path.read_text(encoding="utf-8")))
-    for row in re.findall(r"^\| ((?:`[\w:]+`(?:, )?)+) \|", text, flags=re.M):
-        for call in re.findall(r"`([\w:]+)`", row):
-            name = call.split("::")[-1]
-            if name not in every and name[:1].islower():
-                yield f"PROVED.md names {call}, which no crate has"
+        for call in sorted(calls(crate) - {item.name for item in proved.items_of(crate)} if calls(crate) else ()):
+            yield f"proved.py doesn't find {call} of {crate.name}, which has no documentation"
 
 
 def code_lines(path):
@@ -261,21 +257,26 @@ def links():
 
 
 def files():
-    """Files of crates that ARCHITECTURE.md names: from `crates`, or by their name where one crate alone has it."""
+    """Files of crates that two documents name: from `crates`, or by their name where one crate alone has it."""
     owners = collections.defaultdict(set)
     for crate in crates():
         for path in [*(crate / "src").rglob("*.rt"), *(crate / "specs").rglob("*.antt")]:
             owners[path.name].add(crate.name)
-    text = (TOP / "docs/ARCHITECTURE.md").read_text(encoding="utf-8")
+    for page in ("ARCHITECTURE.md", "DEVELOPING.md"):
+        yield from files_of(page, owners)
+
+
+def files_of(page, owners):
+    text = (TOP / "docs" / page).read_text(encoding="utf-8")
     for file in sorted(set(re.findall(r"`([\w/]+\.(?:rt|antt))`", text))):
         name = file.rpartition("/")[2]
         if file.startswith("ovl_"):
             if not (TOP / "crates" / file).exists():
-                yield f"ARCHITECTURE.md names crates/{file}, which isn't there"
+                yield f"{page} names crates/{file}, which isn't there"
         elif len(owners[name]) > 1:
-            yield f"ARCHITECTURE.md names {file} without its crate, one of {', '.join(sorted(owners[name]))}"
+            yield f"{page} names {file} without its crate, one of {', '.join(sorted(owners[name]))}"
         elif not owners[name] and name.endswith(".rt"):
-            yield f"ARCHITECTURE.md names {file}, which isn't there"
+            yield f"{page} names {file}, which isn't there"
 
 
 def types(crate):
@@ -360,6 +361,6 @@ def blocks():
 if __name__ == "__main__":
     if sys.argv[1:] == ["--definitions"]:
         sys.exit(print(page(), end=""))
-    missing = [*headline(), *proved(), *made_faults(), *links(), *files(), *homonyms(), *names(), *blocks()]
+    missing = [*headline(), *public_items(), *made_faults(), *links(), *files(), *homonyms(), *names(), *blocks(), *prose.turns(), *prose.lengths()]
     print("\n".join(missing) or "nothing is missing")
     sys.exit(1 if missing else 0)

@@ -24,7 +24,7 @@ LENGTHS = {
 ALL = 30_000
 # What is refused, and what to write.
 TURNS = {
-    r"tell|tells|told|telling": "report, print, state",
+    r"tell|tells|told": "report, print, state",
     r"alone": "only, by itself",
     r"stands? (?!for\b)|stood|standing": "is",
     r"(?:only|except|exactly|but|else|even|save) where": "if, when",

@@ -21,7 +21,7 @@ TOP = Path(__file__).resolve().parent.parent
 PARTS = {"src": "src", "specs": "specs", "proofs": "proofs", "must-fail": "must-fail edits"}
 FOLDERS = {"convert": "converter", "tests": "tests", "bench": "bench", "tools": "tools", "docs": "documents",
            "man": "documents", "examples": "examples"}
-MADE = ("docs/definitions.txt",)
+MADE = ("docs/PROVED.md",)
 KINDS = [*PARTS.values(), "tests", "converter", "bench", "tools", "documents", "other", "examples", "made"]
 
 

@@ -21,7 +21,7 @@ from documents import KINDS, ROOT, Block, blocks_of, documents
 sys.path.insert(0, str(ROOT))
 sys.dont_write_bytecode = True
 
-from convert.attributes import can_read_trusted  # noqa: E402
+from convert.model.attributes import can_read_trusted  # noqa: E402
 
 PROGRAM = ROOT / "crates" / "ovl_layers" / "out" / "ovl_layers"
 UNPROVED = PROGRAM.parent / "unproved" / PROGRAM.name
