@@ -90,7 +90,7 @@ class ScanLosses:
     left_out: int = 0
 
     def tell(self) -> None:
-        """Says what was lost, where anything was."""
+        """Says what was lost, if anything was."""
         if self.hard_links:
             note(
                 counted(self.hard_links, "name of a hard link, now a file", "names of hard links, now files")

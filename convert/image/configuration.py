@@ -63,7 +63,7 @@ def platform_of(configuration: Mapping[str, Any]) -> Document:
 
 
 def platform_text(configuration: Any) -> str | None:
-    """A platform as `OS/ARCH` or `OS/ARCH/VARIANT`, or nothing where it has no system or no processor."""
+    """A platform as `OS/ARCH` or `OS/ARCH/VARIANT`, or nothing if it has no system or no processor."""
     if not isinstance(configuration, Mapping) or not configuration.get("os") or not configuration.get("architecture"):
         return None
     names = ("os", "architecture", "variant")
@@ -71,7 +71,7 @@ def platform_text(configuration: Any) -> str | None:
 
 
 def with_platform(configuration: Mapping[str, Any], stated: Mapping[str, Any]) -> Document:
-    """A configuration, with the platform of its descriptor where it names none itself."""
+    """A configuration, with the platform of its descriptor if it names none itself."""
     own = {name: value for name, value in configuration.items() if name not in _PLATFORM or value}
     return platform_of(stated) | own
 
@@ -113,7 +113,7 @@ def _chosen_platform(given: Mapping[str, Any], asked: str | None) -> Document:
 def _history(given: Sequence[Document], layers: int) -> list[Document]:
     """How the layers came to be.
 
-    Where the given history tells of as many layers, each keeps its entry. Otherwise what it tells was
+    If the given history has as many layers, each keeps its entry. Otherwise what it says was
     before these layers: it stays, as entries without a layer, and each layer gets an entry of its own.
     """
     if sum(not entry.get("empty_layer") for entry in given) == layers:

@@ -30,13 +30,13 @@ class Members(Protocol):
     path: str
 
     def size(self, name: str) -> int | None:
-        """The size of a file, or nothing where there is none of this name."""
+        """The size of a file, or nothing if there is none of this name."""
 
     def identity(self, name: str) -> Hashable:
         """The same for two names of one file."""
 
     def opened(self, name: str) -> contextlib.AbstractContextManager[Slice]:
-        """The bytes of a file while it is open; fails where there is none."""
+        """The bytes of a file while it is open; fails if there is none."""
 
 
 @contextlib.contextmanager
@@ -89,7 +89,7 @@ def _read(stream: Source, told: str) -> bytes:
 
 
 def _inner(name: str) -> str | None:
-    """A name as a way inside the image, or nothing where it leads out."""
+    """A name as a way inside the image, or nothing if it leads out."""
     way = posixpath.normpath(name)
     try:
         os.fsencode(way)

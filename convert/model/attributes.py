@@ -30,13 +30,13 @@ def can_read_trusted() -> bool:
 
 
 def require_trusted(path: str) -> None:
-    """Refuses to go on where marks would go unseen."""
+    """Refuses to go on if marks would go unseen."""
     if not can_read_trusted():
         raise cannot_read(path, HOW_TO_READ_TRUSTED)
 
 
 def read_attributes(place: str | int) -> Mapping[str, bytes]:
-    """All attributes of a file, of a link itself where it is one."""
+    """All attributes of a file, of a link itself if it is one."""
     follow = isinstance(place, int)
     try:
         names = os.listxattr(place, follow_symlinks=follow)
@@ -50,7 +50,7 @@ def read_attributes(place: str | int) -> Mapping[str, bytes]:
 
 
 def write_attributes(place: str | int, attributes: Mapping[str, bytes]) -> None:
-    """Sets attributes of a file, of a link itself where it is one."""
+    """Sets attributes of a file, of a link itself if it is one."""
     for name, value in attributes.items():
         try:
             os.setxattr(place, name, value, follow_symlinks=isinstance(place, int))

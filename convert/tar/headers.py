@@ -41,7 +41,7 @@ _SAID_ENOUGH = frozenset([
     b"GNU.sparse.numblocks", b"LIBARCHIVE.creationtime", b"SCHILY.dev", b"SCHILY.ino", b"SCHILY.nlink",
     b"SCHILY.realsize",
 ])
-_OTHER_RECORD = b""  # stands for the key of a record that isn't read
+_OTHER_RECORD = b""  # in place of the key of a record that isn't read
 GNU_SPARSE = b"S"
 _SIGNED = 256
 _PREFIX_END = 500  # of the part of a name that stands before the other
@@ -103,9 +103,9 @@ def text_of(data: bytes) -> bytes:
     return data.split(b"\0", 1)[0]
 
 
-@functools.lru_cache(maxsize=4096)  # the same few stand in most headers
+@functools.lru_cache(maxsize=4096)  # the same few are in most headers
 def number(data: bytes) -> int:
-    """A number of a header: octal digits, or GNU's two's complement in base 256 where the first bit is set."""
+    """A number of a header: octal digits, or GNU's two's complement in base 256 if the first bit is set."""
     if data[0] & 0x80:
         negative = data[0] & 0x40
         value = int.from_bytes(bytes([data[0] & 0x7F]) + data[1:], "big")
@@ -120,7 +120,7 @@ def parse_records(data: bytes) -> dict[bytes, bytes]:
     """PAX records: each its length, a space, `KEY=VALUE` and a newline. Later ones count.
 
     The places of a sparse file's data, which come one by one in the oldest of its forms, are put together
-    as in the next one. Of records that aren't read here one stands for all of its kind.
+    as in the next one. Of records that aren't read here one counts for all of its kind.
     """
     records: dict[bytes, bytes] = {}
     places: list[bytes] = []
@@ -236,7 +236,7 @@ def header_block(header: Header) -> bytes:
 
 @functools.lru_cache(maxsize=4096)  # as above
 def _octal(number: int, width: int) -> bytes:
-    """Octal digits, or base 256 where they have no place."""
+    """Octal digits, or base 256 if they have no place."""
     if 0 <= number < 8 ** (width - 1):
         return b"%0*o\0" % (width - 1, number)
     return bytes([0xFF if number < 0 else 0x80]) + (number % (1 << (8 * (width - 1)))).to_bytes(width - 1, "big")

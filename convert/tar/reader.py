@@ -69,7 +69,7 @@ class TarReader:
         return self._places is not None
 
     def stored(self) -> int:
-        """How many bytes of its data stand in the archive."""
+        """How many bytes of its data are in the archive."""
         return self._left
 
     def _with_holes(self, places: Places) -> Iterator[Piece]:
@@ -204,7 +204,7 @@ class TarReader:
         return not missing
 
     def _drain(self) -> None:
-        """Reads what stands after the end, as its digest is of all bytes."""
+        """Reads what is after the end, as its digest is of all bytes."""
         while self._source.read(PIECE):
             pass
 

@@ -34,7 +34,7 @@ _RUN_EITHER = '#!/bin/sh\nif [ "$1" = --unproved ]; then shift; exec {} "$@"; fi
 
 
 def program_words() -> list[str]:
-    """How the program is run; nothing where it can't be."""
+    """How the program is run; nothing if it can't be."""
     return shlex.split(os.environ.get("LAYERS_TEST_PROGRAM", str(PROGRAM) if PROGRAM.exists() else ""))
 
 
