@@ -1,6 +1,7 @@
 """Layers that are one file: squashfs and archives of a layer's folder."""
 
 import os
+import re
 import resource
 import shutil
 import socket
@@ -167,7 +168,7 @@ class Building(FileTest):
         """The commands of the README, run as they are there."""
         text = (ROOT / "convert" / "README.md").read_text(encoding="utf-8")
         chapter = text.split("## Between images and squashfs\n", 1)[1].split("\n## ", 1)[0]
-        commands = [line.strip() for line in chapter.splitlines() if line.startswith("    ")]
+        commands = re.findall(r"^```sh\n(.*?)^```$", chapter, re.MULTILINE | re.DOTALL)
         self.write("layers", f"#!/bin/sh\nexec {sys.executable} -B {COMMAND} \"$@\"\n".encode())
         os.chmod(self.path("layers"), 0o755)
         lower = [folder("./"), folder("d"), member("d/f", b"1"), member("g", kind=tarfile.LNKTYPE, target="d/f")]
