@@ -6,7 +6,6 @@ import signal
 import sys
 from collections.abc import Callable, Iterable, Sequence
 from fractions import Fraction
-from typing import Any
 
 from . import VERSION
 from .common.escaping import printable
@@ -219,10 +218,8 @@ def _parser() -> argparse.ArgumentParser:
     )
     commands = parser.add_subparsers(title="commands", metavar="COMMAND", required=True)
     _add_scan(_command(commands, "scan", "a layer as a manifest and blobs", _SCAN, _scan))
-    for name, short in (("store", "a layer of docker or podman with those below it; or import"), ("import", None)):
-        _add_store(_command(commands, name, short, _STORE, _store))
-    for name, short in (("build", "the folder of a manifest; or extract"), ("extract", None)):
-        _add_build(_command(commands, name, short, _BUILD, _build))
+    _add_store(_command(commands, "store", "a layer of docker or podman with those below it", _STORE, _store))
+    _add_build(_command(commands, "build", "the folder of a manifest, or a squashfs", _BUILD, _build))
     _add_unpack(_command(commands, "unpack", "an image's layers as manifests and blobs", _UNPACK, _unpack))
     _add_pack(_command(commands, "pack", "manifests and blobs as an image", _PACK, _pack))
     _add_flatten(_command(commands, "flatten", "an image with fewer layers that shows the same", _FLATTEN, _flatten))
@@ -232,13 +229,11 @@ def _parser() -> argparse.ArgumentParser:
 
 
 def _command(
-    commands: "argparse._SubParsersAction[argparse.ArgumentParser]", name: str, short: str | None, long: str,
+    commands: "argparse._SubParsersAction[argparse.ArgumentParser]", name: str, short: str, long: str,
     run: Callable[[argparse.Namespace], None],
 ) -> argparse.ArgumentParser:
-    """A command. Another word for one has nothing short, and isn't listed."""
-    listed: dict[str, Any] = {} if short is None else {"help": short}
     parser = commands.add_parser(
-        name, description=long, allow_abbrev=False, formatter_class=argparse.RawDescriptionHelpFormatter, **listed
+        name, help=short, description=long, allow_abbrev=False, formatter_class=argparse.RawDescriptionHelpFormatter
     )
     parser.set_defaults(run=run)
     return parser

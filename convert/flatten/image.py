@@ -23,7 +23,7 @@ from ..image.targets import ARCHIVE_SUFFIX, Form, Target
 from ..image.unpack import UnpackOptions, unpack
 from ..model import stacks
 from ..tar.disk_space import least_shown, require_room
-from .steps import AGAIN, BEFORE, REPORT, STACK, Doing, carry_out, drop_unnamed, new_layer, timed
+from .steps import AGAIN, BEFORE, REPORT, STACK, Doing, carry_out, new_layer, timed
 
 _IMAGE = "image"
 _SHOWN = f"{_IMAGE}.show"
@@ -133,7 +133,7 @@ class _Doing(Doing):
         """See `Steps`."""
         options = self._options
         with timed("unpack") as words:
-            image = _unpacked(UnpackOptions(
+            image = unpack(UnpackOptions(
                 image=options.image, out=self.path(STACK), platform=options.platform, tag=options.tag,
                 skip_unsupported=options.skip_unsupported, overlay_marks=options.overlay_marks,
             ))
@@ -173,13 +173,6 @@ class _Doing(Doing):
             again, marks = f"{folder}/{AGAIN}", self._options.overlay_marks
             found = unpack(UnpackOptions(image=image, out=again, overlay_marks=marks, digests_only=True))
             return self.run_on("show", stacks.layer_paths(again, len(found.layers)), self.path(_SHOWN))
-
-
-def _unpacked(options: UnpackOptions) -> Image:
-    """Unpacks an image, without blobs that no manifest names."""
-    image = unpack(options)
-    drop_unnamed(options.out, len(image.layers))
-    return image
 
 
 def _name_of(image: Image, options: FlattenOptions) -> str | None:

@@ -24,7 +24,7 @@ from ..model.manifests import read_manifest
 from ..model.show_report import read_report, report_of
 from ..squashfs import programs as squashfs
 from ..squashfs.limits import fitted_lines
-from .steps import AGAIN, BEFORE, STACK, Doing, carry_out, drop_unnamed, timed
+from .steps import AGAIN, BEFORE, STACK, Doing, carry_out, timed
 
 _NEW = "new"
 _FITTED = "fitted.show"
@@ -110,7 +110,6 @@ class _DoingStack(Doing):
             with writing(stack):
                 os.mkdir(stack)
             read_stack(self._options.stack, stack)
-            drop_unnamed(stack, self.count)
             words.append(counted(self.count, "layer", "layers"))
         paths = stacks.layer_paths(stack, self.count)
         self.data_layers = frozenset(paths[self.count - self._options.data_layers:])

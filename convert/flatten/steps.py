@@ -13,7 +13,7 @@ from ..common.progress import note
 from ..model import stacks
 from ..model.entries import METACOPY, REDIRECT
 from ..model.links import links_path, names_in
-from ..model.manifests import blobs_named_in, has_attribute
+from ..model.manifests import has_attribute
 from ..model.show_report import escaped_path
 
 STACK = "stack"
@@ -161,19 +161,6 @@ def _removed_in(report: str) -> set[str]:
     """The paths, as reports write them, that `vacuum` took away."""
     with reading(report), open(report, encoding="ascii") as lines:
         return {words[1] for words in map(str.split, lines) if words[0] == "removed" and words[1].startswith("/")}
-
-
-def drop_unnamed(folder: str, count: int) -> None:
-    """Takes blobs away that no manifest of a stack names: the program would read them too.
-
-    Such are those of files that a later entry of the same archive replaced.
-    """
-    named = {blob for layer in stacks.layer_paths(folder, count) for blob in blobs_named_in(layer)}
-    blobs = f"{folder}/{stacks.BLOBS}"
-    with writing(blobs):
-        for blob in os.listdir(blobs):
-            if blob not in named:
-                os.unlink(f"{blobs}/{blob}")
 
 
 @contextlib.contextmanager

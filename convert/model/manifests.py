@@ -61,7 +61,6 @@ _PIECE = 1 << 18
 _HEXADECIMAL = re.compile(r"(?:[0-9a-f]{2})*\Z")
 
 
-_BLOB = re.compile(rb'"blob":"([0-9a-f]{64})"')
 
 
 class _Refused(Exception):
@@ -307,12 +306,6 @@ def _attributes_text(entry: Entry) -> str:
         for name in sorted(entry.attributes)
     )
     return "{" + ",".join(parts) + "}"
-
-
-def blobs_named_in(path: str) -> set[str]:
-    """The blobs that a manifest names, of one in the text that is written of a layer."""
-    with _mapped(path) as text:
-        return {found[1].decode() for found in _BLOB.finditer(text)}
 
 
 def has_attribute(path: str, names: Iterable[str]) -> bool:

@@ -73,9 +73,6 @@ class Words(FolderTest):
             status, printed, told = call(*words)
             self.assertEqual((status, told), (0, ""))
             self.assertTrue(printed.startswith("usage: layers"))
-        for name, other in (("build", "extract"), ("store", "import")):
-            told, others = (call(word, "-h")[1].split() for word in (name, other))
-            self.assertEqual(["layers", other, *told[3:]], others[1:])
 
     def test_older_pythons(self) -> None:
         with open(COMMAND, encoding="utf-8") as file:

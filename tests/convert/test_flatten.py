@@ -149,11 +149,6 @@ class Steps(FlattenTest):
             ), strict=True):
                 self.assertRegex(line, rf"^layers: {begin}, \d+\.\d\d s")
 
-    def test_blobs_that_no_manifest_names_are_not_read(self) -> None:
-        self.require_done(self.flatten("--keep", self.path("in", "kept")))
-        wanted = sorted(hashlib.sha256(data).hexdigest() for data in (b"lowest", b"g", b"second", b"topmost"))
-        self.assertEqual(sorted(os.listdir(self.path("in", "kept", "stack", "blobs"))), wanted)
-
     def test_layers_with_redirects_are_unfolded_first(self) -> None:
         moved = folder("new", pax={"SCHILY.xattr.trusted.overlay.redirect": "/d"})
         meta = member("d/f", pax={"SCHILY.xattr.trusted.overlay.metacopy": ""})
