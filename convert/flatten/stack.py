@@ -17,7 +17,7 @@ from ..folder.build_squashfs import SUFFIX, build_squashfs
 from ..folder.stack_layers import StackOptions, read_stack, require_forms, require_ordinary
 from ..model import stacks
 from ..model.attributes import require_trusted
-from ..model.entries import SOCKET, drop_host_marks
+from ..model.entries import SOCKET, drop_host_marks, named
 from ..model.layer_tree import whiteout
 from ..model.links import take_links, write_layer
 from ..model.manifests import read_manifest
@@ -162,7 +162,7 @@ class _DoingStack(Doing):
         if marks:
             note_path(self._options.out, counted(marks, "mark", "marks") + " of the host's overlay left out")
         path = self.path(f"{_NEW}/{stacks.layer_name(number)}")
-        write_layer(path, lambda: entries, path, True)
+        write_layer(path, lambda: named(entries), path, True)
         return path
 
     def _show(self, built: Sequence[str]) -> str:

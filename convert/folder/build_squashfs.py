@@ -3,6 +3,7 @@
 import itertools
 import os
 from collections.abc import Iterator
+from dataclasses import replace
 
 from ..common.contents import PIECE, PRIVATE_MODE, ZEROS
 from ..common.faults import Fault, UsageFault, cannot_write, writing
@@ -125,6 +126,7 @@ def _require_same(path: str, entries: list[Entry], options: BuildOptions) -> Non
     """Reads the new file again: it gives the very entries, and the same of them are one file."""
     here, there = FirstNames(), FirstNames()
     tree = squashfs_tree(path, options.told, options.userxattr)
-    for wanted, found in itertools.zip_longest(entries, tree.entries()):
+    there_are = (replace(entry, path=path) for path, entry in tree.entries())
+    for wanted, found in itertools.zip_longest(entries, there_are):
         if wanted is None or found is None or wanted != found or here.before(wanted) != there.before(found):
             raise Fault(f"{options.told}: read again it has another {(wanted or found).path}, so it isn't written")

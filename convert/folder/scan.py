@@ -13,7 +13,7 @@ from ..common.progress import Progress, note_path
 from ..model import rules
 from ..model.attributes import Unstated, marks_from_user, read_attributes, require_trusted
 from ..model.blobs import Writer, writers
-from ..model.entries import BLOCK, CHAR, DIRECTORY, FILE, NO_ATTRIBUTES, SYMLINK, Entry, is_whiteout
+from ..model.entries import BLOCK, CHAR, DIRECTORY, FILE, NO_ATTRIBUTES, SYMLINK, Entry, is_whiteout, named
 from ..model.links import write_layer
 from ..model.workers import give_blobs
 from ..squashfs.layer_files import FileOptions, Form, form_of, scan_file
@@ -60,7 +60,7 @@ def scan_folder(options: ScanOptions, losses: ScanLosses, links: Iterator[int] |
         _store_contents(options, root, entries)
     finally:
         os.close(root)
-    losses.hard_links += write_layer(options.out, lambda: entries, options.layer, links is not None)
+    losses.hard_links += write_layer(options.out, lambda: named(entries), options.layer, links is not None)
     return entries
 
 

@@ -9,11 +9,10 @@ from ..common.omissions import ScanLosses
 from ..common.progress import counted
 from ..model import rules, stacks
 from ..model.blobs import blob_path, opened_blob, writers
-from ..model.entries import Entry
-from ..model.layer_tree import Folder
+from ..model.entries import REDIRECT, Entry, Named, named, without_paths
 from ..model.links import renumber, take_links, write_layer
-from ..model.lower_tree import Below, tree_of, write_shown_links
-from ..model.manifests import read_manifest
+from ..model.merged_tree import MergedTree, write_shown_links
+from ..model.manifests import has_attribute, read_manifest
 from ..squashfs.layer_files import FileOptions, Form, form_of, scan_file
 from .scan import ScanOptions, scan_folder
 
@@ -37,21 +36,22 @@ def read_stack(options: StackOptions, out: str) -> None:
     `out` is a folder that is there. A socket that a layer's file can't give hides what is below it all the same.
     """
     forms = require_forms(options)
-    losses, below, links = ScanLosses(), Below(), itertools.count(1)
+    losses, below, links = ScanLosses(), MergedTree(), itertools.count(1)
     for number, form in reversed(list(enumerate(forms))):
-        below.cover(_read(options, number, form, out, losses, links))
+        entries = _read(options, number, form, out, losses, links)
+        below.cover(entries, has_attribute(f"{out}/{stacks.layer_name(number)}", [REDIRECT]))
     write_shown_links(out, below)
     losses.tell()
 
 
 def _read(
     options: StackOptions, number: int, form: Form, out: str, losses: ScanLosses, links: Iterator[int]
-) -> Folder:
-    """Writes one layer; gives the tree of its entries."""
+) -> Iterator[Named]:
+    """Writes one layer; gives its entries."""
     layer, manifest = options.layers[number], f"{out}/{stacks.layer_name(number)}"
     blobs = None if options.digests_only else f"{out}/{stacks.BLOBS}"
     if form is Form.FOLDER:
-        return tree_of(scan_folder(ScanOptions(
+        return without_paths(scan_folder(ScanOptions(
             layer=layer, out=manifest, blobs=blobs, userxattr=options.userxattr,
             cross_file_systems=options.cross_file_systems, skip_unsupported=options.skip_unsupported,
             workers=options.workers,
@@ -62,8 +62,8 @@ def _read(
         renumber(entries, links)
         if blobs is not None:
             _copy_contents(entries, str(options.blobs), blobs)
-        write_layer(manifest, lambda: entries, layer, True)
-        return tree_of(entries)
+        write_layer(manifest, lambda: named(entries), layer, True)
+        return without_paths(entries)
     is_lowest = number == len(options.layers) - 1
     return scan_file(FileOptions(
         layer=layer, out=manifest, blobs=blobs, userxattr=options.userxattr,

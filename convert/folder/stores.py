@@ -17,7 +17,9 @@ from ..common.outputs import new_folder
 from ..common.progress import note_path
 from ..model import rules, stacks
 from ..model.attributes import require_trusted
-from ..model.lower_tree import Below, tree_of, write_shown_links
+from ..model.entries import REDIRECT, without_paths
+from ..model.manifests import has_attribute
+from ..model.merged_tree import MergedTree, write_shown_links
 from .scan import ScanOptions, scan_folder
 
 _DIFF = "diff"
@@ -54,16 +56,17 @@ def store(options: StoreOptions) -> None:
     layers = chain(options.folder)
     if len(layers) > rules.MAX_LAYERS:
         raise cannot_read(options.folder, f"it has {len(layers)} layers, over {rules.MAX_LAYERS}")
-    losses, below, links = ScanLosses(), Below(), itertools.count(1)
+    losses, below, links = ScanLosses(), MergedTree(), itertools.count(1)
     with new_folder(options.out) as stage:
         for number, layer in reversed(list(enumerate(layers))):
+            manifest = f"{stage}/{stacks.layer_name(number)}"
             entries = scan_folder(ScanOptions(
-                layer=layer, out=f"{stage}/{stacks.layer_name(number)}",
+                layer=layer, out=manifest,
                 blobs=None if options.digests_only else f"{stage}/{stacks.BLOBS}",
                 userxattr=options.userxattr, cross_file_systems=options.cross_file_systems,
                 skip_unsupported=options.skip_unsupported, workers=options.workers,
             ), losses, links)
-            below.cover(tree_of(entries))
+            below.cover(without_paths(entries), has_attribute(manifest, [REDIRECT]))
         write_shown_links(stage, below)
     for number, layer in enumerate(layers):
         note_path(layer, f"is {stacks.layer_name(number)}")

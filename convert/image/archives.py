@@ -22,7 +22,7 @@ from ..model.entries import (
     is_whiteout,
 )
 from ..model.layer_tree import Attributes, Blocked, Gap, Held, LayerTree, Unfit, whiteout
-from ..model.lower_tree import Below
+from ..model.merged_tree import MergedTree
 from ..model.times import ONE_SECOND
 from ..tar import headers as tar
 from ..tar.disk_space import require_room
@@ -79,7 +79,7 @@ class Taking:
     out: str
     writer: Writer
     held: Held
-    below: Below
+    below: MergedTree
     skip_unsupported: bool = False
     overlay_marks: bool = False
     is_folder: bool = False

@@ -7,10 +7,11 @@ from ..common.faults import cannot_read
 from ..common.outputs import new_folder, write_text
 from ..model import rules, stacks
 from ..model.blobs import writers
+from ..model.entries import REDIRECT
 from ..model.layer_tree import Held
 from ..model.links import LinkNames, links_path
-from ..model.lower_tree import Below, write_shown_links
-from ..model.manifests import write_manifest
+from ..model.manifests import has_attribute, write_manifest
+from ..model.merged_tree import MergedTree, write_shown_links
 from ..tar.disk_space import require_room
 from .ahead import NewWriter, layers_read
 from .archives import LayerArchive, Taking
@@ -56,7 +57,7 @@ def unpack_opened(options: UnpackOptions, image: Image) -> None:
 
 
 def _unpack_layers(options: UnpackOptions, layers: list[ImageLayer], stage: str, new_writer: NewWriter) -> None:
-    below, writer = Below(), new_writer()
+    below, writer = MergedTree(), new_writer()
     taking = Taking(
         out=options.out, skip_unsupported=options.skip_unsupported, overlay_marks=options.overlay_marks, writer=writer,
         held=Held(), below=below,
@@ -82,4 +83,4 @@ def _take_layers(layers: list[ImageLayer], taking: Taking, stage: str) -> None:
             raise cannot_read(
                 layer.path, f"the manifests of the layers have over {rules.MAX_IMAGE_MANIFESTS:,} bytes"
             )
-        taking.below.cover(tree.root)
+        taking.below.cover(tree.entries(), has_attribute(path, [REDIRECT]))

@@ -1,6 +1,6 @@
 """The entries of a layer, and what the marks of the overlay on them mean."""
 
-from collections.abc import Mapping
+from collections.abc import Iterable, Iterator, Mapping
 from dataclasses import dataclass, field
 from types import MappingProxyType
 
@@ -30,7 +30,7 @@ NO_ATTRIBUTES: Mapping[str, bytes] = MappingProxyType({})
 class Entry:
     """An entry of a layer as its manifest states it."""
 
-    path: str
+    path: str  # empty in a tree, where its names lead to it
     kind: str
     mode: int
     uid: int = 0
@@ -47,6 +47,21 @@ class Entry:
     def names_contents(self) -> bool:
         """Whether the manifest names a blob for this entry."""
         return self.kind == FILE and self.size > 0 and METACOPY not in self.attributes
+
+
+Named = tuple[str, Entry]  # an entry with its path, as trees give them
+
+
+def named(entries: Iterable[Entry]) -> Iterator[Named]:
+    """Entries that have their paths, with these."""
+    return ((entry.path, entry) for entry in entries)
+
+
+def without_paths(entries: Iterable[Entry]) -> Iterator[Named]:
+    """The same, which lose their paths as they pass by: what takes them in knows where they are."""
+    for entry in entries:
+        path, entry.path = entry.path, ""
+        yield path, entry
 
 
 def is_whiteout(entry: Entry) -> bool:

@@ -7,7 +7,8 @@ from enum import Enum, auto
 
 from ..common.budgets import Budget, TooMuch
 from . import rules
-from .entries import CHAR, DIRECTORY, IS_OPAQUE, NO_ATTRIBUTES, OPAQUE, OVERLAY, SYMLINK, Entry, is_whiteout
+from .entries import CHAR, DIRECTORY, IS_OPAQUE, NO_ATTRIBUTES, OPAQUE, OVERLAY, SYMLINK, Entry, Named, is_whiteout
+from .merged_tree import Directory, Node
 
 _IMPLIED_MODE = 0o755
 _ATTRIBUTE_BYTES = 256  # that an attribute takes at most beside its name and value
@@ -41,15 +42,15 @@ class Folder:
         """Whether nothing that lower layers have in it is shown. The root's mark says nothing."""
         return self.is_opaque or self.is_anew or (not self.is_root and self.entry.attributes.get(OPAQUE) == IS_OPAQUE)
 
-    def lower(self, under: "Folder | None", name: str) -> "Folder | Entry | None":
+    def lower(self, under: Directory | None, name: str) -> Node | None:
         """What lower layers show in this directory by this name, if they show `under` in its place."""
         is_hidden = under is None or name in self.whiteouts or self.hides_all()
         return None if is_hidden or under is None else under.children.get(name)
 
-    def says_nothing(self, under: "Folder | Entry | None") -> bool:
+    def says_nothing(self, under: Node | None) -> bool:
         """Whether it may be left out: it isn't stated, and has nothing in but whiteouts of what isn't there."""
         hides = bool(self.whiteouts) or self.is_opaque
-        return not (self.is_stated or self.children or (hides and isinstance(under, Folder)))
+        return not (self.is_stated or self.children or (hides and isinstance(under, Directory)))
 
 
 class Gap(Enum):
@@ -174,7 +175,7 @@ class LayerTree:
         self._way, self._last = names, folder
         return folder
 
-    def file_at(self, names: list[str], below: "Folder | None", with_whiteouts: bool = False) -> Entry | None:
+    def file_at(self, names: list[str], below: Directory | None, with_whiteouts: bool = False) -> Entry | None:
         """What isn't a directory at a path: of this layer as far as it has come, or of what is below it."""
         here: Folder | None = self.root
         for name in names[:-1]:
@@ -182,16 +183,16 @@ class LayerTree:
             inner = here.children.get(name) if here else None
             if isinstance(inner, Entry):
                 return None
-            here, below = inner, under if isinstance(under, Folder) else None
+            here, below = inner, under if isinstance(under, Directory) else None
         name = names[-1]
-        found = here.children.get(name) if here else None
+        found: Folder | Node | None = here.children.get(name) if here else None
         if found is None:
             found = here.lower(below, name) if here else below.children.get(name) if below else None
-        if found is None or isinstance(found, Folder) or (is_whiteout(found) and not with_whiteouts):
+        if not isinstance(found, Entry) or (is_whiteout(found) and not with_whiteouts):
             return None
         return found
 
-    def settle(self, below: "Folder | None", tell: Callable[[Gap, str], None]) -> None:
+    def settle(self, below: Directory | None, tell: Callable[[Gap, str], None]) -> None:
         """Gives directories that the archive leaves out what the layers below show there.
 
         If these show nothing, whiteouts by themselves make no directory. An opaque root, which overlayfs
@@ -204,15 +205,15 @@ class LayerTree:
                 self.put_whiteout([name], whiteout())
 
     def _settle(
-        self, folder: Folder, below: "Folder | None", path: str, tell: Callable[[Gap, str], None]
+        self, folder: Folder, below: Directory | None, path: str, tell: Callable[[Gap, str], None]
     ) -> None:
         inner = [(name, child) for name, child in folder.children.items() if isinstance(child, Folder)]
         for name, child in inner:
             under = folder.lower(below, name)
-            if child.is_anew and isinstance(under, Folder):
+            if child.is_anew and isinstance(under, Directory):
                 child.is_opaque = True
                 tell(Gap.ANEW, f"{path}/{name}")
-            self._settle(child, under if isinstance(under, Folder) else None, f"{path}/{name}", tell)
+            self._settle(child, under if isinstance(under, Directory) else None, f"{path}/{name}", tell)
             if child.says_nothing(under):
                 self._drop(folder, name, child)
                 for hidden in [*child.whiteouts, *([""] if child.is_opaque else [])]:
@@ -233,9 +234,24 @@ class LayerTree:
         if name not in parent.whiteouts:
             self._count -= 1
 
-    def entries(self) -> Iterator[Entry]:
-        """All entries, in path order. Each has its path until the next one is asked for."""
-        return entries_of(self.root)
+    def entries(self) -> Iterator[Named]:
+        """All entries with their paths, in path order."""
+        yield "/", self.root.entry
+        levels = [("", _sorted_names(self.root), self.root)]
+        while levels:
+            path, names, folder = levels[-1]
+            name = next(names, None)
+            if name is None:
+                levels.pop()
+                continue
+            child = folder.children.get(name) or folder.whiteouts[name]
+            if isinstance(child, Entry):
+                yield f"{path}/{name}", child
+                continue
+            if child.is_opaque or name in folder.whiteouts:
+                child.entry.attributes = {**child.entry.attributes, OPAQUE: IS_OPAQUE}
+            yield f"{path}/{name}", child.entry
+            levels.append((f"{path}/{name}", _sorted_names(child), child))
 
     def _cut(self, folder: Folder) -> None:
         """Counts what is in a directory out."""
@@ -252,26 +268,6 @@ class LayerTree:
         self._held.weigh(sys.getsizeof(name) + (sys.getsizeof(entry.target) if entry.target else 0))
 
 
-def entries_of(root: Folder) -> Iterator[Entry]:
-    """All entries of a tree, in path order. Each has its path until the next one is asked for."""
-    yield from _with_path(root.entry, "/")
-    levels = [("", _sorted_names(root), root)]
-    while levels:
-        path, names, folder = levels[-1]
-        name = next(names, None)
-        if name is None:
-            levels.pop()
-            continue
-        child = folder.children.get(name) or folder.whiteouts[name]
-        if isinstance(child, Entry):
-            yield from _with_path(child, f"{path}/{name}")
-            continue
-        if child.is_opaque or name in folder.whiteouts:
-            child.entry.attributes = {**child.entry.attributes, OPAQUE: IS_OPAQUE}
-        yield from _with_path(child.entry, f"{path}/{name}")
-        levels.append((f"{path}/{name}", _sorted_names(child), child))
-
-
 def whiteout(uid: int = 0, gid: int = 0, mtime_ns: int = 0) -> Entry:
     """A whiteout as the kernel makes it."""
     return Entry("", CHAR, 0, uid, gid, mtime_ns)
@@ -285,12 +281,6 @@ def _shown_directory(entry: Entry) -> Entry:
     """A directory as lower layers show it: all but the overlay's marks."""
     attributes = {name: value for name, value in entry.attributes.items() if not name.startswith(OVERLAY)}
     return replace(entry, path="", attributes=attributes or NO_ATTRIBUTES, link=0)
-
-
-def _with_path(entry: Entry, path: str) -> Iterator[Entry]:
-    entry.path = path
-    yield entry
-    entry.path = ""
 
 
 def _sorted_names(folder: Folder) -> Iterator[str]:

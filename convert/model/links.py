@@ -20,7 +20,7 @@ from ..common.open_dirs import READ_WHERE_IT_LEADS
 from ..common.outputs import is_replaced, write_text
 from ..common.progress import counted, note_path
 from . import rules
-from .entries import DIRECTORY, Entry, is_whiteout
+from .entries import DIRECTORY, Entry, Named, is_whiteout
 from .manifests import write_manifest
 
 SUFFIX = ".links"
@@ -41,14 +41,14 @@ class LinkNames:
     def __init__(self) -> None:
         self._counts: dict[int, int] = {}
 
-    def passing(self, entries: Iterable[Entry]) -> Iterator[Entry]:
+    def passing(self, entries: Iterable[Named]) -> Iterator[Named]:
         """The same entries."""
-        for entry in entries:
+        for path, entry in entries:
             if entry.link:
                 self._counts[entry.link] = self._counts.get(entry.link, 0) + 1
-            yield entry
+            yield path, entry
 
-    def write(self, path: str, entries: Callable[[], Iterable[Entry]], layer: str | None = None) -> None:
+    def write(self, path: str, entries: Callable[[], Iterable[Named]], layer: str | None = None) -> None:
         """Writes those of the same entries, which are of a manifest, or of what layers show together."""
         write_text(path, self._text(path, entries() if self.has_any() else (), layer))
 
@@ -60,16 +60,16 @@ class LinkNames:
         """How many names the files have together that have two or more."""
         return sum(count for count in self._counts.values() if count > 1)
 
-    def _text(self, path: str, entries: Iterable[Entry], layer: str | None) -> Iterator[str]:
+    def _text(self, path: str, entries: Iterable[Named], layer: str | None) -> Iterator[str]:
         yield _HEAD if layer is None else f'{_HEAD}"manifest":"{_digest(layer)}",'
         yield _NAMES
         numbers: dict[int, int] = {}
         before, left = "", rules.MAX_MANIFEST_BYTES
-        for entry in entries:
+        for name, entry in entries:
             if self._counts.get(entry.link, 0) < 2:
                 continue
             number = numbers.setdefault(entry.link, len(numbers) + 1)
-            text = f"{before}{quoted(entry.path)}:{number}"
+            text = f"{before}{quoted(name)}:{number}"
             left -= len(text.encode())
             if left < 0:
                 note_path(path, f"cut at {rules.MAX_MANIFEST_BYTES:,} bytes; names that follow are files of their own")
@@ -79,7 +79,7 @@ class LinkNames:
         yield "}}\n"
 
 
-def write_layer(out: str, entries: Callable[[], Iterable[Entry]], layer: str, is_of_stack: bool) -> int:
+def write_layer(out: str, entries: Callable[[], Iterable[Named]], layer: str, is_of_stack: bool) -> int:
     """Writes the manifest of a layer, and its file of links: if there are any, if one is there, and in a stack.
 
     Gives how many names of links are lost, if what is written is no file that another could be beside.
@@ -93,7 +93,7 @@ def write_layer(out: str, entries: Callable[[], Iterable[Entry]], layer: str, is
     return 0
 
 
-def count_links(entries: Iterable[Entry]) -> LinkNames:
+def count_links(entries: Iterable[Named]) -> LinkNames:
     """The same of entries that go nowhere else."""
     names = LinkNames()
     for _ in names.passing(entries):

@@ -14,7 +14,7 @@ from ..common.escaping import quoted
 from ..common.faults import cannot_read, reading
 from ..common.outputs import write_text
 from . import rules
-from .entries import BLOCK, CHAR, DIRECTORY, ESCAPED, FILE, NO_ATTRIBUTES, SYMLINK, Entry
+from .entries import BLOCK, CHAR, DIRECTORY, ESCAPED, FILE, NO_ATTRIBUTES, SYMLINK, Entry, Named
 from .times import ONE_SECOND
 
 _BASE = frozenset(["path", "kind", "mode", "uid", "gid", "mtime", "xattrs"])
@@ -259,17 +259,17 @@ def _numbers_fit(value: dict[str, Any], kind: str) -> bool:
     return type(below) is int and 0 <= below < ONE_SECOND
 
 
-def written(entries: Iterable[Entry]) -> Iterator[str]:
+def written(entries: Iterable[Named]) -> Iterator[str]:
     """The text of a layer, piece by piece: compact JSON, members sorted by name, and a newline."""
     yield _HEAD
     before = ""
-    for entry in entries:
-        yield before + _entry_text(entry)
+    for path, entry in entries:
+        yield before + _entry_text(path, entry)
         before = ","
     yield _SECOND.tail() + "\n"
 
 
-def write_manifest(path: str, entries: Iterable[Entry], layer: str) -> None:
+def write_manifest(path: str, entries: Iterable[Named], layer: str) -> None:
     """Writes the manifest of a layer; refuses a layer whose manifest is longer than the program reads."""
     write_text(path, _within_limit(written(entries), layer))
 
@@ -285,7 +285,7 @@ def _within_limit(pieces: Iterable[str], layer: str) -> Iterator[str]:
         yield piece
 
 
-def _entry_text(entry: Entry) -> str:
+def _entry_text(path: str, entry: Entry) -> str:
     seconds, below = divmod(entry.mtime_ns, ONE_SECOND)
     blob = f'"blob":"{entry.blob}",' if entry.blob is not None else ""
     device = f'"major":{entry.major},"minor":{entry.minor},' if entry.kind in (CHAR, BLOCK) else ""
@@ -293,7 +293,7 @@ def _entry_text(entry: Entry) -> str:
     target = f'"target":{quoted(entry.target)},' if entry.kind == SYMLINK else ""
     return (
         f'{{{blob}"gid":{entry.gid},"kind":"{entry.kind}",{device}"mode":{entry.mode},'
-        f'"mtime":{seconds},"mtime-nsec":{below},"path":{quoted(entry.path)},{size}{target}'
+        f'"mtime":{seconds},"mtime-nsec":{below},"path":{quoted(path)},{size}{target}'
         f'"uid":{entry.uid},"xattrs":{_attributes_text(entry)}}}'
     )
 

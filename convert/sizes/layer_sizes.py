@@ -5,11 +5,11 @@ from dataclasses import dataclass, field, fields
 
 from ..common.faults import Fault
 from ..common.program import NAME
-from ..model.entries import DIRECTORY, FILE, METACOPY, Entry, is_opaque, is_whiteout
+from ..model.entries import DIRECTORY, FILE, METACOPY, REDIRECT, Entry, is_opaque, is_whiteout, named
 from ..model.links import take_links
 from ..model.manifests import read_manifest
+from ..model.merged_tree import Directory, LayerFile, MergedTree, Node
 from ..model.show_report import MISSING, NONE, ShowLine, escaped_path, read_report
-from .shown_tree import Directory, LayerFile, Node, ShownTree
 
 
 @dataclass(slots=True)
@@ -48,7 +48,7 @@ class Sizes:
     sums: LayerSizes = field(default_factory=LayerSizes)
     merged: LayerSizes = field(default_factory=LayerSizes)  # of the merged tree: entries, files and bytes
     not_shown: list[NotShown] = field(default_factory=list)  # the largest first
-    tree: ShownTree = field(default_factory=ShownTree)
+    tree: MergedTree = field(default_factory=MergedTree)
 
 
 class _Stack:
@@ -60,7 +60,7 @@ class _Stack:
         self.lowest: dict[bytes, int] = {}  # the lowest layer that has some contents
         self._ordinary = count - data_layers
         self._data: list[dict[str, LayerFile]] = [{} for _ in range(data_layers)]
-        self.tree = ShownTree(self._data)
+        self.tree = MergedTree(self._data)
 
     def take(self, number: int, layer: str) -> None:
         """Puts the next layer on top, that of a manifest."""
@@ -68,7 +68,8 @@ class _Stack:
         take_links(layer, entries)
         taking = _Layer(number, self.layers[number], self.files[number])
         if number < self._ordinary:
-            self.tree.cover(number, entries, taking.file_of)
+            has_redirects = any(REDIRECT in entry.attributes for entry in entries)
+            self.tree.cover(named(entries), has_redirects, number, taking.leaf_of)
         else:
             below = self._data[number - self._ordinary]
             for entry in entries:
@@ -89,6 +90,10 @@ class _Layer:
         self._sizes = sizes
         self._files = files
         self._linked: dict[int, LayerFile] = {}
+
+    def leaf_of(self, _: str, entry: Entry) -> LayerFile | Entry:
+        """What stands in the tree for what is no directory."""
+        return self.file_of(entry) if entry.kind == FILE else entry
 
     def file_of(self, entry: Entry) -> LayerFile:
         """The file of an entry; the same one for the names of a hard link."""

@@ -6,8 +6,8 @@ from dataclasses import dataclass, field
 from typing import Any
 
 from ..common.escaping import printable
+from ..model.merged_tree import Directory, LayerFile
 from .layer_sizes import Sizes, shown_size
-from .shown_tree import Directory, LayerFile
 
 _MAX_BYTES = 1 << 20  # of the map's text
 _NODE_BYTES = 48  # that a node takes beside its name, at most

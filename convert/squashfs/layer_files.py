@@ -14,9 +14,10 @@ from ..common.progress import Progress
 from ..common.streams import Slice, Source, Watched, is_packed, unpacked
 from ..image.archives import LayerArchive, Taking
 from ..model.blobs import Digester, writers
-from ..model.layer_tree import Folder, Held, LayerTree, whiteout
+from ..model.entries import Named
+from ..model.layer_tree import Held, LayerTree, whiteout
 from ..model.links import renumber, write_layer
-from ..model.lower_tree import Below
+from ..model.merged_tree import MergedTree
 from ..tar.headers import BLOCK_BYTES, parse_header
 from . import programs as squashfs
 
@@ -118,8 +119,8 @@ class _FileLayer:
 
 def scan_file(
     options: FileOptions, form: Form, losses: ScanLosses, links: Iterator[int] | None = None
-) -> Folder:
-    """Writes the manifest of a squashfs or an archive, and the contents of its files; gives the tree of its entries.
+) -> Iterator[Named]:
+    """Writes the manifest of a squashfs or an archive, and the contents of its files; gives its entries.
 
     With numbers for files of several names it is of a stack; see `write_layer`.
     """
@@ -137,9 +138,9 @@ def scan_file(
             tree.put(path[1:].split("/"), whiteout())
     told.tell(layer.name)
     if links is not None:
-        renumber(tree.entries(), links)
+        renumber((entry for _, entry in tree.entries()), links)
     losses.hard_links += write_layer(options.out, tree.entries, options.layer, links is not None)
-    return tree.root
+    return tree.entries()
 
 
 def squashfs_tree(path: str, told_as: str, userxattr: bool) -> LayerTree:
@@ -149,7 +150,7 @@ def squashfs_tree(path: str, told_as: str, userxattr: bool) -> LayerTree:
     try:
         layer = _FileLayer(told_as, Form.SQUASHFS, file)
         taking = Taking(
-            out=told_as, overlay_marks=True, writer=Digester(), held=Held(), below=Below(), is_folder=True,
+            out=told_as, overlay_marks=True, writer=Digester(), held=Held(), below=MergedTree(), is_folder=True,
             userxattr=userxattr,
         )
         return LayerArchive(layer, taking).tree()
@@ -164,7 +165,7 @@ def _read(layer: _FileLayer, options: FileOptions) -> LayerTree:
         try:
             return LayerArchive(layer, Taking(
                 out=options.blobs or options.out, skip_unsupported=options.skip_unsupported, overlay_marks=True,
-                writer=writer, held=Held(), below=Below(), is_folder=True, userxattr=options.userxattr,
+                writer=writer, held=Held(), below=MergedTree(), is_folder=True, userxattr=options.userxattr,
                 most_contents=most,
             )).tree()
         finally:

@@ -9,7 +9,7 @@ from dataclasses import dataclass, field
 from support import ROOT  # noqa: F401  (sets the path of the modules)
 
 from convert.model import rules
-from convert.model.entries import BLOCK, CHAR, DIRECTORY, FIFO, FILE, HOST_MARKS, SOCKET, SYMLINK, Entry
+from convert.model.entries import BLOCK, CHAR, DIRECTORY, FIFO, FILE, HOST_MARKS, SOCKET, SYMLINK, Entry, named
 from convert.model.manifests import written
 from convert.model.times import ONE_SECOND
 
@@ -43,7 +43,7 @@ class RandomLayer:
 
     def manifest(self) -> bytes:
         """The layer's written text."""
-        return "".join(written(self.entries)).encode()
+        return "".join(written(named(self.entries))).encode()
 
 
 class Generator:

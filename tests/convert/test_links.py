@@ -119,7 +119,7 @@ class Links(FolderTest):
         self.assertEqual(links(f"{stack}/shown.links"), [])
 
     def test_what_redirects_show(self) -> None:
-        """Names of a directory that was moved, beside it, and below it again; one that is moved to twice is lost once."""
+        """Names of a directory that was moved, beside it, below it again, and to two places at once."""
         lower = [folder("./"), folder("d"), folder("d/e"), folder("k"), member("d/a", b"1"), member("k/a", b"1")] + [
             member(name, kind=LINK, target="d/a") for name in ("d/b", "d/e/c", "z")
         ] + [member("k/b", kind=LINK, target="k/a")]
@@ -127,16 +127,18 @@ class Links(FolderTest):
             ([folder("n", pax={REDIRECT: "/d"}), member(".wh.d")], [["/k/a", "/k/b"], ["/n/a", "/n/b", "/n/e/c", "/z"]]),
             ([folder("n", pax={REDIRECT: "d"}), member(".wh.d"), folder("n/x", pax={REDIRECT: "e"}), member("n/.wh.e")],
              [["/k/a", "/k/b"], ["/n/a", "/n/b", "/n/x/c", "/z"]]),
-            ([folder("d", pax={REDIRECT: "/k"})], [["/d/a", "/d/b"]]),
+            ([folder("d", pax={REDIRECT: "/k"})], [["/d/a", "/d/b", "/k/a", "/k/b"]]),
             ([folder("d", pax={REDIRECT: "/d/e"}), folder("k", pax={REDIRECT: "nowhere"})], [["/d/c", "/z"]]),
-            ([folder("d"), folder("d/e", pax={REDIRECT: "/d"})], [["/d/e/a", "/d/e/b", "/d/e/e/c", "/z"], ["/k/a", "/k/b"]]),
+            ([folder("d"), folder("d/e", pax={REDIRECT: "/d"})],
+             [["/d/a", "/d/b", "/d/e/a", "/d/e/b", "/d/e/e/c", "/z"], ["/k/a", "/k/b"]]),
             ([folder("n", pax={REDIRECT: "/k"}), folder("o", pax={REDIRECT: "/k"}), member(".wh.k")],
-             [["/d/a", "/d/b", "/d/e/c", "/z"], ["/n/a", "/n/b"]]),
+             [["/d/a", "/d/b", "/d/e/c", "/z"], ["/n/a", "/n/b", "/o/a", "/o/b"]]),
         ):
             self.empty()
             stack = self.path("stack")
             self.require_done(call("unpack", self.image(lower, upper), "--out", stack, "--overlay-marks"))
-            self.assertEqual(links(f"{stack}/shown.links"), shown)
+            with self.subTest(shown=shown):
+                self.assertEqual(links(f"{stack}/shown.links"), shown)
 
     def test_files_of_links_that_are_not_taken(self) -> None:
         """Each is reported with its reason, and changes nothing; one that is named must be good."""

@@ -7,7 +7,7 @@ from typing import Any
 
 from support import ROOT, FolderTest, call
 
-from convert.model.entries import Entry
+from convert.model.entries import Entry, named
 from convert.model.manifests import read_manifest, written
 
 FIRST = b'{"entries":[{"gid":0,"kind":"dir","mode":493,"mtime":0,"path":"/","uid":0,"xattrs":{}}],"overlay-layer":1}\n'
@@ -101,7 +101,7 @@ class Manifests(FolderTest):
             if text.endswith(b'"overlay-layer":1}\n'):
                 firsts.add(path.name)
                 text = text.replace(b',"path":', b',"mtime-nsec":0,"path":').replace(b'"overlay-layer":1', b'"overlay-layer":2')
-            self.assertEqual("".join(written(read_manifest(str(path)))).encode(), text, path)
+            self.assertEqual("".join(written(named(read_manifest(str(path))))).encode(), text, path)
         self.assertEqual(firsts, {"debian.json"})
 
     def test_escapes(self) -> None:
@@ -109,7 +109,7 @@ class Manifests(FolderTest):
         path = self.path("l.json")
         with open(path, "wb") as file:
             file.write(manifest(2, ROOT_ENTRY, entry("/" + name)))
-        text = "".join(written(read_manifest(path)))
+        text = "".join(written(named(read_manifest(path))))
         self.assertIn(r'"/\u0001\u0002\u0003\u0004\u0005\u0006\u0007\b\t\n\u000b\f\r\u000e', text)
         self.assertIn('\\u001f !\\"#', text)
         self.assertIn("[\\\\]^_", text)
@@ -126,10 +126,10 @@ class Manifests(FolderTest):
         for data in (text, compact, compact + b"\n"):
             found = self.read(data)
             self.assertEqual([it.mtime_ns for it in found], [-2 * 10**9, 0])
-            again = "".join(written(found)).encode()
+            again = "".join(written(named(found))).encode()
             self.assertEqual(self.read(again), found)
             self.assertEqual(json.loads(again)["overlay-layer"], 2)
-        self.assertEqual("".join(written(self.read(FIRST))).encode(), SECOND)
+        self.assertEqual("".join(written(named(self.read(FIRST)))).encode(), SECOND)
 
     def test_times(self) -> None:
         for seconds in (-(2**63), -1, 0, 2**63 - 1):
@@ -138,7 +138,7 @@ class Manifests(FolderTest):
                 for data in (text, b" " + text):
                     found = self.read(data)
                     self.assertEqual(found[0].mtime_ns, seconds * 10**9 + over)
-                    self.assertEqual("".join(written(found)).encode(), text)
+                    self.assertEqual("".join(written(named(found))).encode(), text)
 
     def read(self, data: bytes) -> list[Entry]:
         """The entries of a manifest of these bytes."""

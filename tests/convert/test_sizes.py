@@ -15,12 +15,12 @@ from plain_stacks import PlainSizes, PlainStack, random_stack
 from support import FolderTest, call, program_words, why_no_trusted
 
 from convert import cli as command
-from convert.model.entries import DIRECTORY, REDIRECT, SYMLINK, Entry
+from convert.model.entries import DIRECTORY, REDIRECT, SYMLINK, Entry, named
 from convert.common.faults import ReadFault
 from convert.sizes.layer_sizes import sizes_of
 from convert.model.links import count_links, links_path
 from convert.model.manifests import read_manifest, written
-from convert.sizes.shown_tree import ShownTree
+from convert.model.merged_tree import MergedTree
 from convert.sizes.texts import Origin, json_text, size_text
 
 _STACKS = 200
@@ -99,8 +99,8 @@ class Definitions(FolderTest):
         paths = [self.path(f"l{number}.json") for number in range(len(layers))]
         for path, layer in zip(paths, layers):
             with open(path, "w", encoding="utf-8") as file:
-                file.writelines(written(layer))
-            count_links(layer).write(links_path(path), partial(iter, layer), path)
+                file.writelines(written(named(layer)))
+            count_links(named(layer)).write(links_path(path), partial(named, layer), path)
         return paths
 
     def test_numbers(self) -> None:
@@ -143,11 +143,11 @@ class Definitions(FolderTest):
         lower += [Entry(f"/d/{number}", SYMLINK, 0o777, target="a") for number in range(4)]
         upper = [lower[0], *(Entry(f"/{name}", DIRECTORY, 0o755, attributes={REDIRECT: b"/d"}) for name in "abc")]
         for room, is_refused in ((13, False), (12, True)):  # the root's one name, and thrice four
-            tree = ShownTree()
+            tree = MergedTree()
             tree._room = room
-            tree.cover(1, lower, lambda _: self.fail())
+            tree.cover(named(lower), False)
             with self.assertRaises(ReadFault) if is_refused else contextlib.nullcontext():
-                tree.cover(0, upper, lambda _: self.fail())
+                tree.cover(named(upper), True)
 
 
 class Telling(SizesTest):

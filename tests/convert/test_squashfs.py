@@ -17,7 +17,7 @@ from squashfs_files import doubling, from_archive, require, spoilt, turned
 from support import COMMAND, ROOT, FolderTest, call, run, why_no_trusted
 
 from convert.squashfs import layer_files
-from convert.model.entries import Entry
+from convert.model.entries import Entry, named
 from convert.squashfs.limits import fitted
 from convert.common.omissions import Losses
 from convert.model.manifests import read_manifest, written
@@ -140,7 +140,7 @@ class Building(FileTest):
     def put(self, *entries: Entry) -> str:
         """The manifest of these entries, below a root."""
         with open(self.path("given.json"), "w", encoding="utf-8") as file:
-            file.writelines(written([Entry("/", "dir", 0o755), *entries]))
+            file.writelines(written(named([Entry("/", "dir", 0o755), *entries])))
         return self.path("given.json")
 
     def build(self, manifest: str, *words: str) -> tuple[int, str, str]:
@@ -157,7 +157,7 @@ class Building(FileTest):
                 words = ["--userxattr"] if number % 2 else []
                 self.require_done(self.build(self.path("given.json"), *words))
                 text, _ = self.scan(self.path("o.squashfs"), *words)
-                self.assertEqual(text, "".join(written(fitted(random_layer.entries, Losses()))).encode())
+                self.assertEqual(text, "".join(written(named(fitted(random_layer.entries, Losses())))).encode())
                 if reason is None:
                     words += ["--blobs", self.path("blobs"), "--out", self.path("built")]
                     self.require_done(call("build", self.path("out.json"), *words))

@@ -4,20 +4,22 @@ What layers show at several places, by redirects, is held once, and each node co
 redirects, or something in what an earlier one's repeat, the directories that it states are copied, within a bound.
 """
 
-from collections.abc import Callable, Iterator, Mapping, Sequence
+from collections.abc import Callable, Iterable, Iterator, Mapping, Sequence
 from dataclasses import dataclass, field
 
 from ..common.faults import ReadFault
-from ..model import rules
-from ..model.entries import DIRECTORY, FILE, METACOPY, REDIRECT, Entry, is_opaque, is_whiteout
+from . import rules, stacks
+from .entries import DIRECTORY, REDIRECT, Entry, Named, is_opaque, is_whiteout
+from .links import count_links
 
 MAX_COPIES = 1 << 24
 
 
 @dataclass(slots=True, eq=False)
 class Directory:
-    """A directory as layers show it."""
+    """A directory as layers show it, with the entry of the topmost one that states it."""
 
+    entry: Entry
     children: dict[str, "Node"] = field(default_factory=dict)
     uses: int = 0
 
@@ -40,39 +42,43 @@ class LayerFile:
         return self.data if self.is_metacopy else self
 
 
-@dataclass(slots=True, eq=False)
-class Other:
-    """Anything else."""
+Node = Directory | LayerFile | Entry
+LeafOf = Callable[[str, Entry], LayerFile | Entry]  # what stands in the tree for an entry that is no directory
 
 
-Node = Directory | LayerFile | Other
-_OTHER = Other()
+def _entry_itself(_: str, entry: Entry) -> Entry:
+    return entry
 
 
-class ShownTree:
+class MergedTree:
     """What the layers so far show. Data-only layers, the topmost first, are maps from paths to files."""
 
     def __init__(self, data_layers: Sequence[Mapping[str, LayerFile]] = ()) -> None:
-        self.root = Directory(uses=1)
+        self.root: Directory | None = None  # none before the first layer
         self._data_layers = data_layers
         self._room = MAX_COPIES
 
-    def cover(self, number: int, entries: Sequence[Entry], file_of: Callable[[Entry], LayerFile]) -> None:
-        """Puts a layer of this number on top."""
+    def cover(
+        self, entries: Iterable[Named], has_redirects: bool, number: int = 0, leaf_of: LeafOf = _entry_itself,
+    ) -> None:
+        """Puts a layer on top, of this number; its entries come in path order."""
         below = self.root
-        if any(REDIRECT in entry.attributes for entry in entries):
+        if has_redirects and below is not None:
             below.uses += 1  # what redirects lead to stays as it is until the layer is on top
-        covering = _Covering(number, below, self._data_layers, self._room)
-        for entry in entries[1:]:
-            covering.put(entry, file_of)
+        rest = iter(entries)
+        covering = _Covering(number, next(rest)[1], below, self._data_layers, self._room)
+        for path, entry in rest:
+            covering.put(path, entry, leaf_of)
         self.root, self._room = covering.root, covering.room
-        if self.root is not below:
+        self.root.uses = 1
+        if below is not None and self.root is not below:
             below.uses = 1
-            self.root.uses = 1
             covering.release(below)
 
     def nodes(self) -> Iterator[tuple[str, Node]]:
-        """All paths with what is there, in path order."""
+        """All paths with what stands there, in path order."""
+        if self.root is None:
+            return
         yield "/", self.root
         levels = [("", _sorted_children(self.root))]
         while levels:
@@ -86,15 +92,27 @@ class ShownTree:
             if isinstance(node, Directory):
                 levels.append((inner, _sorted_children(node)))
 
+    def entries(self) -> Iterator[Named]:
+        """The entries that stand in it."""
+        for path, node in self.nodes():
+            if not isinstance(node, LayerFile):
+                yield path, node.entry if isinstance(node, Directory) else node
+
+
+def write_shown_links(folder: str, tree: MergedTree) -> None:
+    """Writes the names that all layers of a stack show together as one file."""
+    count_links(tree.entries()).write(f"{folder}/{stacks.SHOWN_LINKS}", tree.entries)
+
 
 def _sorted_children(folder: Directory) -> Iterator[tuple[str, Node]]:
-    return iter(sorted(folder.children.items(), key=lambda item: item[0].encode()))
+    return iter(sorted(folder.children.items(), key=lambda item: item[0]))
 
 
 @dataclass(slots=True)
 class _Open:
     """A directory of the layer that is put on top, and what those below show in its place."""
 
+    path: str  # empty of the root
     folder: Directory
     lower: Directory | None
 
@@ -107,19 +125,21 @@ class _Covering:
     """One layer on its way onto those below."""
 
     def __init__(
-        self, number: int, below: Directory, data_layers: Sequence[Mapping[str, LayerFile]], room: int
+        self, number: int, root: Entry, below: Directory | None, data_layers: Sequence[Mapping[str, LayerFile]],
+        room: int,
     ) -> None:
         self._number = number
         self._below = below
         self._data_layers = data_layers
         self.room = room  # entries of directories that may be copied yet
-        self.root = self._over(below, below)
-        self._open = [_Open(self.root, below)]
+        self.root = self._over(root, below, below)
+        self._open = [_Open("", self.root, below)]
 
-    def put(self, entry: Entry, file_of: Callable[[Entry], LayerFile]) -> None:
+    def put(self, path: str, entry: Entry, leaf_of: LeafOf) -> None:
         """Puts in the next entry, in path order."""
-        *way, name = entry.path[1:].split("/")
-        del self._open[len(way) + 1:]
+        above, _, name = path.rpartition("/")
+        while self._open[-1].path != above:
+            self._open.pop()
         place = self._open[-1]
         if is_whiteout(entry):
             hidden = place.folder.children.pop(name, None)
@@ -128,16 +148,14 @@ class _Covering:
         elif entry.kind == DIRECTORY:
             lower = None if is_opaque(entry) else self._next(entry, place, name)
             lower = lower if isinstance(lower, Directory) else None
-            folder = self._over(place.folder.children.get(name), lower)
+            folder = self._over(entry, place.folder.children.get(name), lower)
             self._place(place.folder, name, folder)
-            self._open.append(_Open(folder, lower))
-        elif entry.kind == FILE:
-            file = file_of(entry)
-            if METACOPY in entry.attributes:
-                file.data = self._data(entry, place, name)
-            self._place(place.folder, name, file)
+            self._open.append(_Open(path, folder, lower))
         else:
-            self._place(place.folder, name, _OTHER)
+            leaf = leaf_of(path, entry)
+            if isinstance(leaf, LayerFile) and leaf.is_metacopy:
+                leaf.data = self._data(entry, place, name)
+            self._place(place.folder, name, leaf)
 
     def _next(self, entry: Entry, place: _Open, name: str) -> Node | None:
         """What those below show at the next path of an entry's walk."""
@@ -170,32 +188,31 @@ class _Covering:
         before = folder.children.get(name)
         if before is node:
             return
-        if not isinstance(node, Other):
-            node.uses += 1
+        _use(node)
         folder.children[name] = node
         if before is not None:
             self.release(before)
 
-    def _over(self, before: Node | None, lower: Directory | None) -> Directory:
+    def _over(self, entry: Entry, before: Node | None, lower: Directory | None) -> Directory:
         """The directory that is over what those below show in its place: the same if nothing else uses it."""
         if lower is None:
-            return Directory()
+            return Directory(entry)
         if lower is before and lower.uses == 1:
+            lower.entry = entry
             return lower
         self.room -= len(lower.children)
         if self.room < 0:
             raise ReadFault(f"layer {self._number}: what redirects repeat has over {MAX_COPIES:,} entries")
         for child in lower.children.values():
-            if not isinstance(child, Other):
-                child.uses += 1
-        return Directory(dict(lower.children))
+            _use(child)
+        return Directory(entry, dict(lower.children))
 
     def release(self, node: Node) -> None:
         """Takes one use away from what this layer hides, and from all in it that nothing else uses."""
         todo = [node]
         while todo:
             node = todo.pop()
-            if isinstance(node, Other):
+            if isinstance(node, Entry):
                 continue
             node.uses -= 1
             if node.uses > 0:
@@ -206,6 +223,11 @@ class _Covering:
                 node.hidden_by = self._number
                 if node.data is not None:
                     todo.append(node.data)
+
+
+def _use(node: Node) -> None:
+    if not isinstance(node, Entry):
+        node.uses += 1
 
 
 def read_redirect(value: bytes) -> str | list[str] | None:
