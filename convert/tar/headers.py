@@ -30,14 +30,15 @@ _ACL_RECORD = b"SCHILY.acl."
 _LABEL_RECORD = b"RHT.security.selinux"
 SPARSE_MAP = b"GNU.sparse.map"
 SPARSE_MAJOR = b"GNU.sparse.major"
+SPARSE_MINOR = b"GNU.sparse.minor"
 SPARSE_NAME = b"GNU.sparse.name"
 SPARSE_SIZES = (b"GNU.sparse.realsize", b"GNU.sparse.size")
 _SPARSE_PLACES = (b"GNU.sparse.offset", b"GNU.sparse.numbytes")
-_SPARSE_RECORDS = frozenset([SPARSE_MAP, SPARSE_MAJOR, SPARSE_NAME, *SPARSE_SIZES])
-FIELD_RECORDS = frozenset([b"path", b"linkpath", b"size", b"uid", b"gid", b"mtime"])
+_SPARSE_RECORDS = frozenset([SPARSE_MAP, SPARSE_MAJOR, SPARSE_MINOR, SPARSE_NAME, *SPARSE_SIZES])
+FIELD_RECORDS = _SPARSE_RECORDS | {b"path", b"linkpath", b"size", b"uid", b"gid", b"mtime"}  # what takes the place of a header's fields
 # What says nothing that a manifest could have, or what another record says too.
 _SAID_ENOUGH = frozenset([
-    b"atime", b"ctime", b"charset", b"comment", b"gname", b"hdrcharset", b"uname", b"GNU.sparse.minor",
+    b"atime", b"ctime", b"charset", b"comment", b"gname", b"hdrcharset", b"uname",
     b"GNU.sparse.numblocks", b"LIBARCHIVE.creationtime", b"SCHILY.dev", b"SCHILY.ino", b"SCHILY.nlink",
     b"SCHILY.realsize",
 ])
@@ -126,7 +127,7 @@ def parse_records(data: bytes) -> dict[bytes, bytes]:
     places: list[bytes] = []
     attributes: dict[bytes, bytes] = {}
     for key, value in _split_records(data):
-        if key in FIELD_RECORDS or key in _SPARSE_RECORDS or key.startswith(XATTR_RECORD):
+        if key in FIELD_RECORDS or key.startswith(XATTR_RECORD):
             records[key] = value
         elif key in _SPARSE_PLACES:
             places.append(value)

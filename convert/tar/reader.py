@@ -11,7 +11,7 @@ from .headers import (
     BLOCK_BYTES, DIRECTORY, FIELD_RECORDS, GNU_LONG_NAME, GNU_LONG_TARGET, GNU_SPARSE, OLD_REGULAR, PAX, PAX_GLOBAL,
     REGULAR_TYPES, XATTR_RECORD, Header, apply_records, parse_header, parse_records, text_of,
 )
-from .sparse import Places, old_places, record_places
+from .sparse import Places, has_places, old_places, record_places
 
 MAX_RECORDS = 1 << 20  # bytes of the PAX records and long names of an entry; real ones have a few thousand
 MAX_GLOBAL_RECORDS = 1 << 16  # bytes of the records for all entries
@@ -168,7 +168,7 @@ class TarReader:
         if header.type == GNU_SPARSE:
             header.size, self._places = old_places(block, header, self._exactly, self._budget)
             header.type = REGULAR_TYPES[-1:]
-        elif header.sparse and header.type in REGULAR_TYPES:
+        elif header.sparse and header.type in REGULAR_TYPES and has_places(header.sparse):
             header.size, used, self._places = record_places(header, self._exactly, self._budget)
             self._left -= used
         if self._places is not None:

@@ -1,10 +1,10 @@
 """Sparse files in tar archives: where their data are, in the four forms that GNU tar has had."""
 
-from collections.abc import Callable, Iterator, Sequence
+from collections.abc import Callable, Iterator, Mapping, Sequence
 
 from ..common.budgets import Budget
 from ..common.faults import TarFault
-from .headers import BLOCK_BYTES, SPARSE_MAJOR, SPARSE_MAP, SPARSE_NAME, SPARSE_SIZES, Header, decimal, number
+from .headers import BLOCK_BYTES, SPARSE_MAJOR, SPARSE_MAP, SPARSE_MINOR, SPARSE_NAME, SPARSE_SIZES, Header, decimal, number
 
 Read = Callable[[int], bytes]
 Places = list[tuple[int, int]]  # where data begin in the file, and how many bytes they are
@@ -12,6 +12,7 @@ Places = list[tuple[int, int]]  # where data begin in the file, and how many byt
 MAX_MAP_BYTES = 1 << 20
 _MORE_PLACES = 21  # of a block after the header
 _PLACE_BYTES = 24
+_VERSIONS = ((b"0", b"0"), (b"0", b"1"), (b"1", b"0"))
 
 
 def old_places(block: bytes, header: Header, read: Read, budget: Budget) -> tuple[int, Places]:
@@ -30,6 +31,14 @@ def old_places(block: bytes, header: Header, read: Read, budget: Budget) -> tupl
     numbers = [number(data[at:at + 12]) for at in range(0, len(data), 12)]
     places = [(begin, size) for begin, size in _pairs(numbers) if begin or size]
     return number(block[483:495]), checked(places, number(block[483:495]), header.size)
+
+
+def has_places(records: Mapping[bytes, bytes]) -> bool:
+    """Whether the PAX records of an entry make it a sparse file: by their version, or by a map where they have none."""
+    version = records.get(SPARSE_MAJOR, b""), records.get(SPARSE_MINOR, b"")
+    if any(version) and version not in _VERSIONS:
+        raise TarFault("a sparse file of an unknown version")
+    return version in _VERSIONS or bool(records.get(SPARSE_MAP))
 
 
 def record_places(header: Header, read: Read, budget: Budget) -> tuple[int, int, Places]:

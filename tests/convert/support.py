@@ -40,10 +40,11 @@ def call(*words: object) -> tuple[int, str, str]:
 
 def run(*words: object, **more: object) -> "subprocess.CompletedProcess[str]":
     """Runs the command in a process of its own."""
-    return subprocess.run(
+    done: subprocess.CompletedProcess[str] = subprocess.run(
         [sys.executable, "-B", str(COMMAND), *map(str, words)],
         capture_output=True, text=True, check=False, **more,  # type: ignore[call-overload]
     )
+    return done
 
 
 _AS_ANYBODY = """

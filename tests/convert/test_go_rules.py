@@ -97,6 +97,21 @@ class Rules(FolderTest):
         own = records({"uid": "7"}, b"g") + records({"uid": "8"}) + raw("x", b"0") + END
         self.assertEqual(self.unpacked(own)[:2], (0, ""))
 
+    def test_sparse_files(self) -> None:
+        """Records make a sparse file by their version, or by a map."""
+        for values, size in (
+            ({"GNU.sparse.size": "9"}, 3), ({"GNU.sparse.size": "9", "GNU.sparse.map": ""}, 3),
+            ({"GNU.sparse.size": "9", "GNU.sparse.map": "5,3"}, 9), ({"GNU.sparse.name": "other"}, 3),
+        ):
+            write_layout(self.path("image"), [records(values) + raw("x", b"0", b"abc") + END])
+            self.require_done(call("unpack", self.path("image"), "--out", self.path("out")))
+            sizes = {entry.path: entry.size for entry in read_manifest(self.path("out", "l0.json"))}
+            self.assertEqual(sizes, {"/": 0, "/x": size})
+            self.empty()
+        status, said, _ = self.unpacked(records({"GNU.sparse.major": "2"}) + raw("x", b"0", b"abc") + END)
+        self.assertEqual(status, 3)
+        self.assertIn("a sparse file of an unknown version", said)
+
     def test_as_umoci_unpacks_them(self) -> None:
         if shutil.which("umoci") is None:
             self.skipTest("needs umoci")

@@ -427,7 +427,7 @@ class Bomb(HostileTest):
         parts = 240_000
         text = b"%d\n" % parts + b"0\n0\n" * parts
         text += bytes(-len(text) % 512)
-        head = _header("f", len(text), {"GNU.sparse.major": "1", "GNU.sparse.realsize": "0"})
+        head = _header("f", len(text), {"GNU.sparse.major": "1", "GNU.sparse.minor": "0", "GNU.sparse.realsize": "0"})
         layer = subprocess.run(["zstd", "-q"], input=(head + text) * 200, stdout=subprocess.PIPE, check=True).stdout
         self.assertLess(len(layer), 30_000)
         write_layout(self.path("image"), [layer])
@@ -435,7 +435,7 @@ class Bomb(HostileTest):
 
     def test_a_layer_that_is_named_again(self) -> None:
         """It is read once, however often its image names it."""
-        layer = _header("f", 0, {"GNU.sparse.map": "", "GNU.sparse.size": str(GIGABYTE // 4)}) + bytes(1024)
+        layer = _header("f", 0, {"GNU.sparse.map": "0,0", "GNU.sparse.size": str(GIGABYTE // 4)}) + bytes(1024)
         write_layout(self.path("image"), [layer] * 100)
         result = self.bounded("--digests-only")
         self.assertEqual(result.returncode, 0, result.stderr[-500:])
@@ -444,7 +444,7 @@ class Bomb(HostileTest):
         result = self.bounded("--digests-only")
         self.assertEqual(result.returncode, 0, result.stderr[-500:])
         self.empty()
-        other = _header("f", 0, {"GNU.sparse.map": "", "GNU.sparse.size": str(GIGABYTE * 16 - 1)})
+        other = _header("f", 0, {"GNU.sparse.map": "0,0", "GNU.sparse.size": str(GIGABYTE * 16 - 1)})
         write_layout(self.path("image"), [layer, other])
         self.require_bounded("over 17,179,869,184 bytes of holes")
 

@@ -336,8 +336,9 @@ class Sparse(LayersTest):
             ({**sizes, "GNU.sparse.map": "0"}, "half a pair"),
             ({**sizes, "GNU.sparse.map": "50,1,0,2"}, "aren't in order"),
             ({**sizes, "GNU.sparse.map": "99,3"}, "don't fit"), ({**sizes, "GNU.sparse.map": "0,2"}, "don't fit"),
-            ({**sizes, "GNU.sparse.map": "x,3"}, "isn't decimal"), ({"GNU.sparse.realsize": "-5"}, "don't fit"),
-            ({"GNU.sparse.major": "1", "GNU.sparse.realsize": "9"}, "has no end"),
+            ({**sizes, "GNU.sparse.map": "x,3"}, "isn't decimal"), ({"GNU.sparse.map": "0,3", "GNU.sparse.realsize": "-5"}, "don't fit"),
+            ({"GNU.sparse.major": "1", "GNU.sparse.minor": "0", "GNU.sparse.realsize": "9"}, "has no end"),
+            ({"GNU.sparse.major": "2", "GNU.sparse.realsize": "9"}, "an unknown version"),
             ({"GNU.sparse.size": str(1 << 62), "GNU.sparse.map": "0,3"}, "the image has over 17,179,869,184 bytes of holes"),
         ):
             with self.subTest(records=records):
