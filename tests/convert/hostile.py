@@ -8,7 +8,7 @@ leave nothing outside of `--out`, and nothing at all where it refuses. With `--u
 are unpacked by umoci too: the trees must be equal, or one of the two refuses. What they read in two ways for a reason is
 left out, and counted. A case depends only on the seed and its number.
 
-    python3 tests/differential/hostile.py --count 2000 --umoci 200 --seed 1
+    python3 tests/convert/hostile.py --count 2000 --umoci 200 --seed 1
 """
 import argparse
 import collections
@@ -32,14 +32,11 @@ import traceback
 from collections.abc import Iterable, Iterator
 from dataclasses import dataclass
 
-_HERE = os.path.dirname(os.path.abspath(__file__))
-sys.path[:0] = [os.path.join(_HERE, "..", ".."), os.path.join(_HERE, "..", "convert")]
-
-from convert import cli  # noqa: E402
-from convert.model.entries import Entry, is_whiteout  # noqa: E402
-from convert.model.manifests import read_manifest  # noqa: E402
-from convert.tar.headers import pax_record  # noqa: E402
-from images import archive, member, put_index, put_manifest  # noqa: E402
+from images import archive, member, put_index, put_manifest
+from convert import cli
+from convert.model.entries import Entry, is_whiteout
+from convert.model.manifests import read_manifest
+from convert.tar.headers import pax_record
 
 SECONDS = 2.0  # of a processor that a case may take
 CHUNK = 50  # cases that a process does at a time
