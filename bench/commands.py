@@ -21,6 +21,8 @@ import sys
 import tempfile
 from collections.abc import Iterator, Sequence
 
+sys.path.append(os.path.join(os.path.dirname(__file__), "..", "tests", "makers"))
+
 import run
 from entries import entry
 from generate import LAST
@@ -44,7 +46,7 @@ def measure(command: list[str], statuses: Sequence[int], repeats: int) -> tuple[
 
 
 def make_layers(folder: str, entries: int, version: int, empty: bool = False) -> list[str]:
-    """Layers of other names; where it is asked for, with files that are all empty."""
+    """Layers of other names; if asked for, with only empty files."""
     files = []
     for n in range(1, LAYERS + 1):
         files.append(os.path.join(folder, "%s-%d.json" % ("empty" if empty else "layer", n)))

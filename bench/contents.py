@@ -4,7 +4,7 @@
 Python 3.11, standard library. In a temporary folder it makes files of contents with a layer that names each: sparse ones,
 of which one is over 4 GiB; some of 50 MiB; and many of 1 KiB. It runs the program several times, each run a fresh process,
 and prints Markdown tables: the least wall time and the largest peak of memory, beside `sha256sum` of the same files. The
-status is 1 where a command on the sparse files takes more than 64 MiB and 100 bytes a file beyond what `show` takes of the
+status is 1 if a command on the sparse files takes more than 64 MiB and 100 bytes a file beyond what `show` takes of the
 same layers.
 
     python3 bench/contents.py --program crates/ovl_layers/out/ovl_layers
@@ -20,6 +20,8 @@ import time
 from collections.abc import Callable
 from dataclasses import dataclass
 from typing import BinaryIO
+
+sys.path.append(os.path.join(os.path.dirname(__file__), "..", "tests", "makers"))
 
 import run
 from entries import entry
@@ -101,7 +103,7 @@ def show(program: str, what: str, contents: Contents, workers: int) -> list[str]
 
 
 def by_sha256sum(contents: Contents) -> float:
-    """Seconds that `sha256sum` takes for the named files, in one process after another where there are many."""
+    """Seconds that `sha256sum` takes for the named files, in one process after another if there are many."""
     paths = "\0".join(os.path.join(contents.blobs, digest) for _, digest in contents.named).encode()
     begin = time.perf_counter()
     subprocess.run(["xargs", "-0", "sha256sum"], input=paths, stdout=subprocess.DEVNULL, check=True)

@@ -5,7 +5,7 @@ Python 3.11, standard library, and valgrind. In a temporary folder it makes thre
 layers of the same number of entries, whose files are empty (generate.py, seeds 1
 to 3), writes them anew in each form, and runs `show` by one worker under
 valgrind's callgrind. The report must be that of the layers as they were. It
-prints a Markdown table; its status is 1 where white space, or another order of
+prints a Markdown table; its status is 1 if white space, or another order of
 the members, takes more than twice the instructions of the compact form.
 
     python3 bench/forms.py --program ./ovl_layers
@@ -19,6 +19,8 @@ import tempfile
 from collections.abc import Callable
 from dataclasses import dataclass
 from pathlib import Path
+
+sys.path.append(os.path.join(os.path.dirname(__file__), "..", "tests", "makers"))
 
 import commands
 import instructions
@@ -54,7 +56,7 @@ def exchanged(entry: Entry) -> Entry:
 
 @dataclass(frozen=True)
 class Form:
-    """How a manifest is written: the order of an entry's members, what stands between tokens, and an escape or none."""
+    """How a manifest is written: the order of an entry's members, what is between tokens, and an escape or none."""
 
     name: str
     order: Callable[[Entry], Entry] = as_written

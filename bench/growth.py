@@ -1,14 +1,14 @@
 #!/usr/bin/env python3
 """Measures how the program's cost grows with its input, on inputs that are dear for careless programs.
 
-Python 3.11, standard library; instructions are counted where valgrind is. Each
+Python 3.11, standard library; instructions are counted if valgrind is there. Each
 case makes layers of several sizes in a temporary folder (shapes.py) and has one
 command read them by one worker. It prints a Markdown table a case: wall time,
 peak memory and instructions at each size, and each of them for a byte of the
-input and the report together; or one row a case. The status is 1 where the
+input and the report together; or one row a case. The status is 1 if the
 instructions for a byte are more than the case allows, or grow more from a size
-to the next, for each doubling, and where the peak, beside what the program takes
-of a root alone, is more bytes for a byte.
+to the next, for each doubling, or if the peak, beside what the program takes
+of only a root, is more bytes for a byte.
 
     python3 bench/growth.py --program ./ovl_layers
 """
@@ -21,6 +21,8 @@ import tempfile
 from collections.abc import Callable, Iterator, Sequence
 from dataclasses import dataclass
 
+sys.path.append(os.path.join(os.path.dirname(__file__), "..", "tests", "makers"))
+
 import instructions
 import run
 import shapes
@@ -29,7 +31,7 @@ from small_layers import Layer, Sources, write
 # The most times that the instructions for a byte may grow at each doubling: in general, and of layers times directories
 # or files, each of which may be looked at in each layer.
 ALLOWED, LAYERED = 1.15, 2.2
-# The most instructions and bytes of memory for a byte, and a little more bytes than the program takes of a root alone.
+# The most instructions and bytes of memory for a byte, and a little more bytes than the program takes of only a root.
 INSTRUCTIONS, MEMORY, ITSELF = 400, 12, 4_000_000
 # The statuses of a stack in which a fault is found, of a manifest that is refused, and of a result over the limits.
 FAULTY, REFUSED, LIMIT = 1, 3, 5
@@ -48,7 +50,7 @@ class Case:
     status: int = 0
     # How many layers are data-only, at a size.
     data_only: Callable[[int], int] = lambda size: 0
-    # Whether members stand out of the order of their names.
+    # Whether members are out of the order of their names.
     unsorted: bool = False
     # Further words.
     words: tuple[str, ...] = ()
@@ -89,11 +91,11 @@ CASES = [
     Case("a directory with N attributes and N files", "show", shapes.many_attributes, (8_000, 16_000, 32_000)),
     Case("a directory with N attributes and N whiteouts", "fsck", shapes.attributes_and_whiteouts, (500, 1_000, 2_000)),
     *each("show deref merge flatten", "an entry of N attributes", shapes.short_attributes, (250_000, 500_000)),
-    Case("N directories with redirects of 20 N names that differ in the first alone, and N directories in each", "fsck",
+    Case("N directories with redirects of 20 N names that differ only in the first, and N directories in each", "fsck",
          shapes.apart_in_the_first, (16, 32, 64), status=FAULTY),
-    Case("N directories with redirects of 20 N names that differ in the last alone, and N directories in each", "fsck",
+    Case("N directories with redirects of 20 N names that differ only in the last, and N directories in each", "fsck",
          shapes.apart_in_the_last, (16, 32, 64), status=FAULTY),
-    Case("two directories with redirects of 20 N names that differ in the first alone, and N directories in each", "fsck",
+    Case("two directories with redirects of 20 N names that differ only in the first, and N directories in each", "fsck",
          shapes.two_apart, (200, 400, 800), status=FAULTY),
     Case("a directory with a redirect of 20 N names, and N moved directories in it", "fsck", shapes.moved_in_redirected,
          (200, 400, 800), status=FAULTY),
@@ -130,9 +132,9 @@ CASES = [
          shapes.long_chains_moved_on, (250, 500), status=LIMIT),
     # Layers.
     Case("N layers of 20,000 other names each", "show", shapes.other_names, (1, 3, 16, 64)),
-    Case("N - 1 layers of a root alone over one of 20,000 files", "show", shapes.empty_over_full, (1, 16, 64, 128)),
-    Case("N - 1 layers of a root alone over one of 5,000 directories", "show", shapes.empty_over_directories, (8, 32, 127), LAYERED),
-    Case("2,000 directories over N - 2 layers of a root alone, over the same", "merge",
+    Case("N - 1 layers of only a root over one of 20,000 files", "show", shapes.empty_over_full, (1, 16, 64, 128)),
+    Case("N - 1 layers of only a root over one of 5,000 directories", "show", shapes.empty_over_directories, (8, 32, 127), LAYERED),
+    Case("2,000 directories over N - 2 layers of only a root, over the same", "merge",
          shapes.empty_under_directories, (8, 32, 127), LAYERED),
     Case("N layers of 62 directories in each other, the lowest with 2,000 at their end", "show", shapes.at_the_end_of_chains,
          (8, 32, 127), LAYERED),
@@ -159,9 +161,9 @@ CASES = [
     Case("1,000 metacopy files that are redirected to the next of N layers", "fsck", shapes.copies_of_the_next, (8, 32, 127), LAYERED),
     Case("3,000 metacopy files whose data lie in the last of N data-only layers", "fsck", shapes.data_only_layers, (1, 8, 64),
          data_only=lambda size: size),
-    Case("20,000 metacopy files over N data-only layers, of which the last alone has anything", "fsck", shapes.empty_data_only_layers,
+    Case("20,000 metacopy files over N data-only layers, of which only the last has anything", "fsck", shapes.empty_data_only_layers,
          (1, 10, 100), LAYERED, data_only=lambda size: size),
-    Case("3,000 metacopy files in a moved directory over N data-only layers, of which the last alone has anything", "fsck",
+    Case("3,000 metacopy files in a moved directory over N data-only layers, of which only the last has anything", "fsck",
          shapes.moved_into_data, (1, 8, 64), LAYERED, data_only=lambda size: size),
     Case("3,000 metacopy files with redirects through N layers into a data-only one", "fsck",
          shapes.chains_into_data, (1, 8, 32, 64), LAYERED, data_only=lambda size: 1),
@@ -224,7 +226,7 @@ def cost(program: str, case: Case, size: int, longest: float, unsorted: bool = F
 
 @dataclass(frozen=True)
 class Marked:
-    """What a run took, and what is said of its instructions and of its peak where they are more than the case allows."""
+    """What a run took, and what is said of its instructions and of its peak if they are more than the case allows."""
 
     cost: Cost
     of_instructions: str
@@ -295,8 +297,8 @@ def main() -> None:
     words = argparse.ArgumentParser(description="Measures how the program's cost grows with its input.")
     words.add_argument("--program", required=True, help="path of the program")
     words.add_argument("--case", type=int, action="append", choices=range(1, len(CASES) + 1), help="only this case, counted from 1")
-    words.add_argument("--sizes", type=int, help="only so many of the smallest sizes of each case")
-    words.add_argument("--longest", type=float, default=5.0, help="count the instructions of runs of at most so many seconds (default 5)")
+    words.add_argument("--sizes", type=int, help="only this many of the smallest sizes of each case")
+    words.add_argument("--longest", type=float, default=5.0, help="count the instructions of runs of at most this many seconds (default 5)")
     words.add_argument("--unsorted", action="store_true", help="members out of the order of their names, which are read one by one")
     words.add_argument("--rows", action="store_true", help="a row a case, without seconds")
     given = words.parse_args()

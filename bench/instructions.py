@@ -5,7 +5,7 @@ Python 3.11, standard library, and valgrind. In a temporary folder it makes thre
 layers of the same number of entries (generate.py, seeds 1 to 3), runs each
 command by one worker under valgrind's callgrind, and prints a Markdown table.
 What reading takes is counted by a run with a fourth manifest that is none: it
-is refused where the three are read. Commands that make new layers are run as
+is refused once the three are read. Commands that make new layers are run as
 commands.py does.
 
     python3 bench/instructions.py --program ./ovl_layers
@@ -20,6 +20,8 @@ import tempfile
 from collections.abc import Iterator, Sequence
 from pathlib import Path
 
+sys.path.append(os.path.join(os.path.dirname(__file__), "..", "tests", "makers"))
+
 import commands
 import run
 from generate import LAST, MOST_NAMES
@@ -27,7 +29,7 @@ from generate import LAST, MOST_NAMES
 # The statuses of a command that can't read a manifest.
 UNREAD = (3,)
 # Of a part of an ELF file that is loaded; of machine code, the prefix of an instruction that no other processor's comes
-# between, and the codes of an exchange, which is such a one where it is with memory.
+# between, and the codes of an exchange, which is such a one if it is with memory.
 LOADED, LOCK, EXCHANGES = 1, 0xF0, (0x86, 0x87)
 EACH = ("--dump-instr=yes", "--compress-pos=no", "--compress-strings=no")
 
@@ -78,7 +80,7 @@ def each_of(out: str, program: str) -> Iterator[tuple[int, int]]:
             if line.startswith("ob="):
                 is_own = line[3:].strip() == os.path.realpath(program)
             found = re.match(r"0x([0-9a-f]+) \d+ (\d+)$", line)
-            # What stands behind a call is what its callee took.
+            # What comes after a call is what its callee took.
             if found and is_own and not is_call:
                 yield int(found[1], 16), int(found[2])
             is_call = line.startswith("calls=")
@@ -96,7 +98,7 @@ def main() -> None:
     words.add_argument("--program", required=True, help="path of the program")
     words.add_argument("--entries", type=int, default=10000, help="entries of each of three layers (default 10000)")
     words.add_argument("--version", type=int, choices=MOST_NAMES, default=LAST, help="version of the manifests (default %d)" % LAST)
-    words.add_argument("--dearest", type=int, default=0, help="list so many functions that took the most, with all that they call")
+    words.add_argument("--dearest", type=int, default=0, help="list this many functions that took the most, with all that they call")
     given = words.parse_args()
     program, listed = os.path.abspath(given.program), []
     print(run.row(["Command", "Instructions", "of reading", "of an entry, beside reading"]))

@@ -1,5 +1,5 @@
 #!/usr/bin/env python3
-"""Measures the program on large layers, beside Python's JSON reader alone.
+"""Measures the program on large layers, beside Python's JSON reader.
 
 Python 3.11, standard library. For each number of entries it writes a layer with
 generate.py into a temporary folder, runs each command several times, each run a
@@ -23,7 +23,7 @@ from collections.abc import Sequence
 from dataclasses import dataclass
 
 HERE = os.path.dirname(os.path.abspath(__file__))
-GENERATE = os.path.join(HERE, "generate.py")
+GENERATE = os.path.join(os.path.dirname(HERE), "tests", "makers", "generate.py")
 GNU_TIME = "/usr/bin/time"
 READ_ONE = "import json,sys; json.load(sys.stdin)"
 READ_ALL = "import json,sys; [json.load(open(f)) for f in sys.argv[1:]]"
@@ -32,7 +32,7 @@ READ_ALL = "import json,sys; [json.load(open(f)) for f in sys.argv[1:]]"
 def one_run(command: list[str], source: str, sink: str) -> tuple[float, int, int]:
     """(seconds, peak bytes, exit status) of one run in a process of its own.
 
-    GNU time reports the peak of its child alone. Without it the peak is that of
+    GNU time reports only the peak of its child. Without it the peak is that of
     os.wait4, which is never below this script's own (some 15 MB), since a child
     starts as a copy of it.
     """
@@ -81,13 +81,18 @@ class Used:
         return self.user + self.system
 
 
-def used(words: list[str], out: Sequence[str]) -> Used:
-    """What a command took that says nothing. Takes away first what it made before."""
+def clear(out: Sequence[str]) -> None:
+    """Takes away files and folders, as far as they are there."""
     for path in out:
         if os.path.isdir(path):
             shutil.rmtree(path)
         elif os.path.lexists(path):
             os.unlink(path)
+
+
+def used(words: list[str], out: Sequence[str]) -> Used:
+    """What a command took that says nothing. Takes away first what it made before."""
+    clear(out)
     began = time.monotonic()
     process = os.posix_spawnp(words[0], words, os.environ, file_actions=[
         (os.POSIX_SPAWN_OPEN, 1, os.devnull, os.O_WRONLY, 0), (os.POSIX_SPAWN_OPEN, 2, os.devnull, os.O_WRONLY, 0),

@@ -4,7 +4,11 @@ from __future__ import annotations
 import functools
 import hashlib
 import json
+import os
+import sys
 from collections.abc import Iterable, Mapping
+
+sys.path.append(os.path.join(os.path.dirname(__file__), "..", "tests", "makers"))
 
 from entries import METACOPY, OPAQUE, REDIRECT, Entry, entry
 from generate import LAST
@@ -66,7 +70,7 @@ def empty_over_directories(size: int) -> Sources:
 
 
 def empty_under_directories(size: int) -> Sources:
-    """Directories over layers of a root alone, of which the lowest has them too."""
+    """Directories over layers of only a root, of which the lowest has them too."""
     return [lambda: directories("", 2_000), *[Layer()] * (size - 2), lambda: directories("", 2_000)]
 
 
@@ -161,7 +165,7 @@ def over_the_limits(size: int) -> Sources:
 
 
 def redirected_apart(tops: int, size: int, is_first: bool) -> Sources:
-    """Moved directories whose redirects differ in the first name alone, or in the last."""
+    """Moved directories whose redirects differ only in the first name, or in the last."""
     layer = []
     for n in range(tops):
         top, own, alike = f"/m{n:05d}", f"/{n:05d}", "/a" * (20 * size - 1)
@@ -182,7 +186,7 @@ def two_apart(size: int) -> Sources:
 
 
 def moved_chain(depth: int, size: int, redirect: str, to_all: bool) -> Sources:
-    """Directories at the end of a chain of so many, the first moved or all of them, each by a name alone."""
+    """Directories at the end of a chain of this many, the first moved or all of them, each by a name only."""
     paths = ["/a" + "/x" * n for n in range(depth)]
     renamed = paths if to_all else paths[:1]
     upper = [entry(path, attrs={REDIRECT: redirect} if path in renamed else None) for path in paths]
@@ -363,7 +367,7 @@ def wrong_attributes(size: int) -> Sources:
 
 
 def attributes_of_root(members: Iterable[str]) -> Sources:
-    """A root with these attributes, as they stand in its manifest."""
+    """A root with these attributes, as they are in its manifest."""
     root = json.dumps({"entries": [entry("/")], "overlay-layer": LAST}, separators=(",", ":"), sort_keys=True)
     return [root.replace('"xattrs":{}', '"xattrs":{' + ",".join(members) + "}")]
 

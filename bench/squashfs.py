@@ -4,7 +4,7 @@
 Python 3.11, standard library; needs squashfs-tools-ng, and root for unsquashfs and the folder. In a temporary folder it
 runs each command several times, each run a fresh process, and prints a Markdown table: the least processor time of the
 command with its children (user and system), the least wall time, and the largest peak of memory of one of its processes.
-Beside `scan` of the file stands `unsquashfs` with `scan` of the folder, beside `build` `mksquashfs` of the folder, both
+Beside `scan` of the file is `unsquashfs` with `scan` of the folder, beside `build` `mksquashfs` of the folder, both
 packed alike. The folder of blobs is a new one for each run.
 
     sudo python3 bench/squashfs.py filesystem.squashfs
@@ -17,7 +17,7 @@ from pathlib import Path
 
 from run import used
 
-LAYERS = [sys.executable, "-B", str(Path(__file__).resolve().parent.parent / "layers.py")]
+LAYERS = [sys.executable, "-B", str(Path(__file__).resolve().parent.parent / "layers")]
 COMPRESSION = "gzip"
 
 

@@ -5,7 +5,7 @@ Python 3.11, standard library. In a temporary folder it makes three layers as co
 entries and one of ten times as many (generate.py), and chains of directories as growth.py does. Each run is a fresh
 process; the reader's and the program's are in turn, so that what else the machine does meets both. It prints a
 Markdown table of the targets: the least times of the runs, the largest peaks, their quotients, and whether each is at
-most what is wanted. The status is 1 where one isn't.
+most what is wanted. The status is 1 if one isn't.
 
     python3 bench/targets.py --program ./ovl_layers
 """
@@ -25,7 +25,7 @@ import run
 TIME = {1: 0.5, 4: 0.25}
 # The most times the bytes of the manifests that it has in memory; the most times that ten times the entries take.
 MEMORY, GROWTH, TENFOLD = 4, 11, 10
-# Chains: the most times the bytes of the manifests and the report in memory, through so many layers.
+# Chains: the most times the bytes of the manifests and the report in memory, through this many layers.
 CHAINED, CHAINS = 6, (32, 128)
 
 

@@ -6,11 +6,11 @@
 # What `umoci unpack` makes of both must be the same tree, what `skopeo inspect` prints of both the same configuration
 # but for the layers and their history, and the check of the new image must find no fault. It works in DIR, which must
 # be absent or empty and stays; without one it works in a temporary folder. It needs root, a network, some 2 GB and, of
-# Debian's packages, mmdebstrap, umoci and skopeo. It ends with status 0 where all is the same.
+# Debian's packages, mmdebstrap, umoci and skopeo. It ends with status 0 if all is the same.
 set -euo pipefail
 
 here=$(dirname -- "$(readlink -f -- "${BASH_SOURCE[0]}")")
-layers=$here/../layers.py
+layers=$here/../layers
 program=$here/../crates/ovl_layers/out/ovl_layers
 [[ -x $program ]] || program=ovl_layers
 
@@ -80,7 +80,7 @@ compare() {
     fi
 }
 
-# The tree that umoci makes of an image, as `show` tells trees.
+# The tree that umoci makes of an image, as `show` prints trees.
 tree() {
     umoci unpack --image "$1:debian" "$1-bundle" > /dev/null
     "$layers" mounted "$1-bundle/rootfs"

@@ -8,11 +8,11 @@
 # mounted, must show what the kernel showed of the overlay, with times cut to whole seconds, as squashfs has them. It
 # works in DIR, which must be absent or empty and stays; without one it works in a temporary folder. It needs root, loop
 # and overlay mounts, a network, some 2 GB and, of Debian's packages, mmdebstrap and squashfs-tools-ng. It ends with
-# status 0 where all is the same.
+# status 0 if all is the same.
 set -euo pipefail
 
 here=$(dirname -- "$(readlink -f -- "${BASH_SOURCE[0]}")")
-layers=$here/../layers.py
+layers=$here/../layers
 
 for tool in mmdebstrap sqfs2tar tar2sqfs; do
     command -v "$tool" > /dev/null || { echo "$0: $tool isn't there" >&2; exit 1; }

@@ -3,11 +3,10 @@
 
     examples/make_image.py DIR
 
-The lowest layer is a small system, the second changes it (a file removed, a directory replaced), and the
-third adds to it. Python 3.11 and its standard library; no network.
+`examples/image` is what it writes. The lowest layer is a small system, the second changes it (a file removed, a
+directory replaced), and the third adds to it. Python 3.11 and its standard library; no network.
 """
 
-import gzip
 import hashlib
 import io
 import json
@@ -51,7 +50,7 @@ def _member(name: str, kind: bytes, data: bytes, mode: int) -> Member:
 
 LAYERS: list[list[Member]] = [
     [
-        folder("bin"), file("bin/sh", "#!shell\n", 0o755), hard_link("bin/ash", "bin/sh"), folder("etc"),
+        folder("bin"), file("bin/sh", "a shell\n", 0o755), hard_link("bin/ash", "bin/sh"), folder("etc"),
         file("etc/motd", "Welcome\n"), file("etc/old.conf", "old=1\n"), folder("etc/app"),
         file("etc/app/a.conf", "a=1\n"), file("etc/app/b.conf", "b=1\n"), folder("tmp", 0o1777),
     ],
@@ -60,6 +59,8 @@ LAYERS: list[list[Member]] = [
     [folder("srv"), file("srv/hello", "hello\n"), link("srv/motd", "../etc/motd"), folder("etc"),
      file("etc/motd", "Welcome\n")],
 ]
+# What made each layer, the lowest first.
+MADE_BY = ["COPY rootfs /", "RUN rm -r /etc/old.conf /etc/app && install-app", "COPY srv /srv"]
 
 
 def archive(members: list[Member]) -> bytes:
@@ -94,13 +95,14 @@ def main(words: list[str]) -> int:
     os.makedirs(f"{path}/blobs/sha256")
     plain = [archive(members) for members in LAYERS]
     config = {
-        "architecture": "amd64", "os": "linux",
+        "architecture": "amd64", "os": "linux", "config": {"Cmd": ["/bin/sh"], "Env": ["PATH=/bin"]},
+        "history": [{"created_by": line} for line in MADE_BY],
         "rootfs": {"type": "layers", "diff_ids": [f"sha256:{hashlib.sha256(data).hexdigest()}" for data in plain]},
     }
     manifest = {
         "schemaVersion": 2, "mediaType": f"{MEDIA}.manifest.v1+json",
         "config": describe(path, "config.v1+json", json.dumps(config).encode()),
-        "layers": [describe(path, "layer.v1.tar+gzip", gzip.compress(data, mtime=0)) for data in plain],
+        "layers": [describe(path, "layer.v1.tar", data) for data in plain],
     }
     listed = describe(path, "manifest.v1+json", json.dumps(manifest).encode())
     write_document(f"{path}/index.json", {"schemaVersion": 2, "manifests": [listed]})

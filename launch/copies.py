@@ -1,6 +1,6 @@
 """Copies of the repository in which crates are proved side by side.
 
-`rt` lets one command at a time work in a crate and in those below it, and nearly all crates stand on the same few. So
+`rt` lets one command at a time work in a crate and in those below it, and nearly all crates depend on the same few. So
 each crate is proved in a copy of its own: with the sources, the libraries that were built of the crates below it, and
 what earlier proofs of it kept. What it makes goes back where `rt` would have left it.
 """
@@ -48,7 +48,7 @@ class Copies:
         return out.parent
 
     def take_back(self, name: str) -> None:
-        """Puts what was kept of a crate, and the program where it was built, where `rt` would have left it."""
+        """Puts what was kept of a crate, and the program if it was built, where `rt` would have left it."""
         made, out = _out(self._folder / name, name), _out(self._root, name)
         out.mkdir(exist_ok=True)
         for part in (*_KEPT, *_BUILT):

@@ -1,4 +1,4 @@
-"""The crates that the program stands on, as crates.txt lists them."""
+"""The crates that the program depends on, as crates.txt lists them."""
 
 from __future__ import annotations
 
@@ -12,7 +12,7 @@ PARTS = ("src", "specs", "proofs")
 
 @dataclass(frozen=True)
 class Crate:
-    """A crate: its line, the crates of the repository that it stands on, lowest first, and how long its chain is.
+    """A crate: its line, the crates of the repository that it depends on, lowest first, and how long its chain is.
 
     A chain is the crate with the longest way from there up to the program. Its length is in lines of sources, which
     say well enough how long a proof takes.
@@ -25,7 +25,7 @@ class Crate:
 
 
 def crates_of(root: Path) -> dict[str, Crate]:
-    """The program's crate and all that it stands on, each after those below it."""
+    """The program's crate and all that it depends on, each after those below it."""
     lines = _lines_of_list(root)
     uses = {name: [it for it in line.partition(":")[2].split() if it in lines] for name, line in lines.items()}
     order = [*_below(uses, PROGRAM), PROGRAM]

@@ -1,7 +1,7 @@
-"""Compiles the program without proofs, keeps it beside where the proved one stands, and runs it with the given words.
+"""Compiles the program without proofs, keeps it beside the place of the proved one, and runs it with the given words.
 
 `rt try` compiles a program, runs it, and keeps nothing. So it runs here on a layer that waits, and while it does, the
-launcher takes a copy of it. Where that can't be done, the status is 126.
+launcher takes a copy of it. If that can't be done, the status is 126.
 """
 
 from __future__ import annotations
@@ -54,7 +54,7 @@ def compile_unproved(room: Path) -> Path:
 
 
 def _once_read(waiting: Path, rt: subprocess.Popen[bytes]) -> int | None:
-    """Opens the layer for writing once the program reads it; nothing where `rt` ends before."""
+    """Opens the layer for writing once the program reads it; nothing if `rt` ends before."""
     while rt.poll() is None:
         try:
             layer = os.open(waiting, os.O_WRONLY | os.O_NONBLOCK)

@@ -1,6 +1,6 @@
 """Proves the crates of the program side by side, builds it, and then runs it with the given words.
 
-What doesn't stand on one another is proved at the same time, the longest chain first. Where that can't be done, the
+What doesn't depend on one another is proved at the same time, the longest chain first. If that can't be done, the
 status is 126. An interrupt leaves what was proved.
 """
 
@@ -62,7 +62,7 @@ class Proofs:
         self._failed = False
 
     def run(self) -> bool:
-        """Proves all, or as many as can be, and tells whether all are."""
+        """Proves all, or as many as can be; true if all are proved."""
         say(f"proving and building the program: {len(self._left)} crates, at most {self._places} at a time")
         try:
             while self._start() or self._running:
@@ -73,7 +73,7 @@ class Proofs:
         return not self._left
 
     def _start(self) -> bool:
-        """Starts what can be proved now, the longest chain first, and tells whether there was any."""
+        """Starts what can be proved now, the longest chain first; true if there was any."""
         ready = [] if self._failed else self._ready()
         started = ready[: self._places - len(self._running)]
         for crate in started:
@@ -156,7 +156,7 @@ def jobs_beside(processors: int) -> int:
 
 
 def look_for_signals() -> None:
-    """Waits a little, and ends the work where a signal came."""
+    """Waits a little, and ends the work if a signal came."""
     time.sleep(_LOOK)
     if _came:
         raise Interrupted

@@ -1,4 +1,4 @@
-"""What the launcher tells on standard error."""
+"""What the launcher prints on standard error."""
 
 import sys
 import time

@@ -2,7 +2,7 @@
 //! what it should; where one of them tells that it is out of memory, the function is called again
 //! with the same arguments, and then has memory. So it is seen that no call gives anything else
 //! than its answer or out of memory, and that what it was lent is as it was. As the gate runs them
-//! all calls have memory. `bench/refusals.py` runs each test again and again, with the first, the
+//! all calls have memory. `tests/program/refusals.py` runs each test again and again, with the first, the
 //! second and each later request for memory refused, and no other.
 #![tactic(auto)]
 

@@ -1,0 +1,30 @@
+"""How bytes and paths are written for a person and in the show report."""
+
+import json.encoder
+import re
+from collections.abc import Callable
+
+quoted: Callable[[str], str] = json.encoder.encode_basestring  # type: ignore[attr-defined]
+_PLAIN = re.compile(rb"[\x21-\x5b\x5d-\x7e]*\Z")
+
+
+def escaped(data: bytes) -> str:
+    r"""Each byte outside 0x21 to 0x7E, and each backslash, as `\xHH`, as the show report has them."""
+    if _PLAIN.match(data):
+        return data.decode("ascii")
+    return "".join(
+        chr(byte) if 0x21 <= byte <= 0x7E and byte != 0x5C else f"\\x{byte:02x}" for byte in data
+    )
+
+
+def printable(text: str) -> str:
+    r"""A path or another text for a message: what isn't UTF-8 and what a terminal would obey is written as `\xHH`."""
+    if text.isprintable():
+        return text
+    return "".join(letter if letter.isprintable() else _escaped_letter(letter) for letter in text)
+
+
+def _escaped_letter(letter: str) -> str:
+    """A letter's bytes, or the byte that it means if the system's names aren't UTF-8."""
+    errors = "surrogateescape" if "\udc80" <= letter <= "\udcff" else "surrogatepass"
+    return "".join(f"\\x{byte:02x}" for byte in letter.encode("utf-8", errors))

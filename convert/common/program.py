@@ -1,0 +1,161 @@
+"""The proved program, run on manifests."""
+
+import contextlib
+import os
+import shutil
+import signal
+import subprocess
+import sys
+from collections.abc import Iterable, Iterator, Sequence
+from pathlib import Path
+from typing import IO
+
+from .faults import ENDING, FAULTY, OTHER, Fault, ReadFault, UsageFault, reading, writing
+
+NAME = "ovl_layers"
+_HERE = Path(__file__).resolve().parents[2]
+_BUILT = _HERE / "crates" / NAME / "out" / NAME  # in the repository
+_UNPROVED = _BUILT.parent / "unproved" / NAME
+_LAUNCHER = _HERE / NAME
+_SMALLEST = _HERE / "examples" / "root.json"
+_INSTALLED = _HERE.parents[1] / "bin" / NAME  # of PREFIX/lib/ovl_layers, where `install` puts this converter
+# What each command is told that reads contents.
+_WORDS_ON_CONTENTS: tuple[str, ...] = ("--any-size",)
+_LAST_BYTES = 4_096
+
+
+class Refused(Fault):
+    """The program ended with this status, and has said why."""
+
+    def __init__(self, text: str, status: int) -> None:
+        super().__init__(text)
+        self.status = status
+
+
+# Whether commands run the program that is compiled without proofs.
+_is_unproved = False
+
+
+def choose_program(unproved: bool) -> None:
+    """Has the commands of this process run the proved program, or the one that is compiled without proofs."""
+    global _is_unproved
+    _is_unproved = unproved
+    if unproved and not _LAUNCHER.is_file():
+        raise UsageFault(f"--unproved is for a checkout of the repository; here {NAME} is installed")
+
+
+def find_program() -> str | None:
+    """The built program: beside this converter, or on the PATH."""
+    places = [_BUILT] + ([_INSTALLED] if _HERE.parts[-2:] == ("lib", NAME) else [])
+    for place in [_UNPROVED] if _is_unproved else places:
+        if place.is_file() and os.access(place, os.X_OK):
+            return str(place)
+    return None if _is_unproved else shutil.which(NAME)
+
+
+def require_program(given: Iterable[str]) -> str:
+    """The same. In a checkout it is built first if it must be, once all paths that are given are there."""
+    if _is_unproved or find_program() is None and _LAUNCHER.is_file():
+        for path in given:
+            with reading(path):
+                os.stat(path)
+        _launch(*["--unproved"] * _is_unproved)
+    program = find_program()
+    if program is None:
+        raise ReadFault(f"the program {NAME} is neither beside this one nor on the PATH; install it")
+    return program
+
+
+def _launch(*words: str) -> None:
+    """Has the launcher prove and build the program, or compile it; it says on standard error how long that takes."""
+    command = [str(_LAUNCHER), *words, "show", str(_SMALLEST)]
+    # (asked to end, it keeps what is proved)
+    with _running(command, subprocess.DEVNULL, None, signal.SIGTERM) as launcher:
+        status = launcher.wait()
+    if status != 0:
+        raise ReadFault(f"the program {NAME} isn't built: {_LAUNCHER} ended with status {status}")
+
+
+def makes_layers(what: str) -> bool:
+    """Whether a command writes new layers into a folder."""
+    return what not in ("show", "fsck")
+
+
+def words_of(
+    what: str, layers: Sequence[str], blobs: str, out: str, data_layers: int = 0, own: Sequence[str] = (),
+) -> list[str]:
+    """A command of the program with its own words, and the folders, which are given to those that take them."""
+    words = [what, *own]
+    if data_layers:
+        words += ["--data-layers", str(data_layers)]
+    if what != "show":
+        words += [*_WORDS_ON_CONTENTS, "--blobs", word_of_path(blobs)]
+    if makes_layers(what):
+        words += ["--out", word_of_path(out)]
+    return [*words, *map(word_of_path, layers)]
+
+
+def word_of_path(path: str) -> str:
+    """A path as a word that isn't taken for an option."""
+    return f"./{path}" if path.startswith("-") else path
+
+
+def run_program(program: str, words: Sequence[str], report: str, faults: IO[str]) -> str:
+    """Runs it, with its report into a file. Gives the report's last line, which sums it up.
+
+    What it refuses is told as it is: its own words, or the report, among the faults, where that tells of any.
+    """
+    with writing(report), open(report, "xb") as file, _running([program, *words], file, subprocess.PIPE) as process:
+        told = process.communicate()[1]
+    print(told.decode("utf-8", "replace"), end="", file=sys.stderr)
+    status = process.returncode
+    if status == FAULTY:
+        _copy(report, faults)
+    if status < 0:
+        raise Refused(f"{NAME} {words[0]} was ended by signal {-status}; nothing is written", OTHER)
+    if status > 0:
+        raise Refused(f"{NAME} {words[0]} ended with status {status}; nothing is written", status)
+    return _last_line(report)
+
+
+@contextlib.contextmanager
+def _running(
+    words: Sequence[str], out: IO[bytes] | int, told: int | None, end: signal.Signals = signal.SIGKILL,
+) -> Iterator["subprocess.Popen[bytes]"]:
+    """A process that ends with this one's work: signals wait while it is started, so that none leaves it alone."""
+    mask = signal.pthread_sigmask(signal.SIG_BLOCK, ENDING)
+    try:
+        with _start(words, out, told, mask) as process:
+            try:
+                signal.pthread_sigmask(signal.SIG_SETMASK, mask)
+                yield process
+            except BaseException:
+                process.send_signal(end)
+                process.wait()
+                raise
+    finally:
+        signal.pthread_sigmask(signal.SIG_SETMASK, mask)
+
+
+def _start(
+    words: Sequence[str], out: IO[bytes] | int, told: int | None, mask: set[int]
+) -> "subprocess.Popen[bytes]":
+    try:
+        return subprocess.Popen(
+            words, stdin=subprocess.DEVNULL, stdout=out, stderr=told,
+            preexec_fn=lambda: signal.pthread_sigmask(signal.SIG_SETMASK, mask),
+        )
+    except OSError as error:
+        raise ReadFault(f"cannot run {words[0]}: {error.strerror}") from error
+
+
+def _copy(report: str, out: IO[str]) -> None:
+    with reading(report), open(report, encoding="ascii", errors="backslashreplace", newline="") as file:
+        shutil.copyfileobj(file, out)
+    out.flush()
+
+
+def _last_line(report: str) -> str:
+    with reading(report), open(report, "rb") as file:
+        file.seek(max(0, os.path.getsize(report) - _LAST_BYTES))
+        return file.read().decode("ascii", "backslashreplace").rstrip("\n").rpartition("\n")[2]

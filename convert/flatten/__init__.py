@@ -1,0 +1,1 @@
+"""`flatten` of images and of stacks on disk."""

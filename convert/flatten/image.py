@@ -1,0 +1,285 @@
+"""`flatten`: an image with fewer layers that shows the same."""
+
+import contextlib
+import os
+import shlex
+import sys
+import time
+from collections.abc import Iterator, Sequence
+from dataclasses import dataclass, replace
+from pathlib import Path
+
+from ..common.contents import PIECE
+from ..common.faults import UsageFault, cannot_write, writing
+from ..common.outputs import kept_folder, new_folder, passing_folder, standard_output
+from ..common.program import NAME, find_program, makes_layers, word_of_path, words_of
+from ..common.progress import counted, note, note_path
+from ..common.stages import removing, tidy, told
+from ..image.compression import NONE
+from ..image.images import Image, image_place, opened_image, spellings
+from ..image.members import STANDARD_INPUT
+from ..image.pack import PackOptions, pack
+from ..image.targets import ARCHIVE_SUFFIX, Form, Target
+from ..image.unpack import UnpackOptions, unpack
+from ..model import stacks
+from ..tar.disk_space import least_shown, require_room
+from .steps import AGAIN, BEFORE, REPORT, STACK, Doing, carry_out, new_layer, timed
+
+_IMAGE = "image"
+_SHOWN = f"{_IMAGE}.show"
+_ANNOTATIONS = f"{STACK}/{stacks.ANNOTATIONS}"
+_FOR_PACK = (stacks.BLOBS, stacks.CONFIG, stacks.SHOWN_LINKS)
+_TOOL = Path(__file__).resolve().parents[2] / "layers"
+
+
+@dataclass(frozen=True, kw_only=True)
+class FlattenOptions:
+    """What the words of `flatten` say."""
+
+    image: str
+    out: Target
+    layers: int = 1
+    keep: str | None = None
+    platform: str | None = None
+    tag: str | None = None
+    skip_unsupported: bool = False
+    overlay_marks: bool = False
+    compress: str = NONE
+
+
+def flatten(options: FlattenOptions) -> None:
+    """Writes an image with all that the given one's layers show in one layer, or with the topmost layers merged.
+
+    Nothing is written unless it shows, read again, what the given image shows.
+    """
+    options = _with_place(options)
+    _require_free(options)
+    begun = time.monotonic()
+    with _new_image(options.out) as image:
+        with passing_folder(image) if options.keep is None else kept_folder(options.keep) as folder:
+            before, after = carry_out(_Doing(options, folder, image), options.layers)
+    seconds = time.monotonic() - begun
+    note_path(options.out.told, f"{counted(after, 'layer', 'layers')} in place of {before}, {seconds:.2f} s in all")
+
+
+def flatten_commands(options: FlattenOptions) -> list[str]:
+    """The commands that do the same by hand, each a line for a shell."""
+    telling = _Telling(_with_place(options))
+    carry_out(telling, options.layers)
+    return telling.lines
+
+
+def _with_place(options: FlattenOptions) -> FlattenOptions:
+    image, tag = image_place(options.image, options.tag)
+    return replace(options, image=image, tag=tag)
+
+
+def _require_free(options: FlattenOptions) -> None:
+    """Refuses at once what couldn't be written in the end."""
+    out = options.out
+    if out.is_standard_output:
+        return
+    if options.keep is not None and os.path.realpath(options.keep) == os.path.realpath(out.path):
+        raise UsageFault("--keep and --out must be two places")
+    if out.form is Form.ARCHIVE and os.path.lexists(out.path) and not os.path.isfile(out.path):
+        raise cannot_write(out.path, "it is no regular file")
+
+
+@contextlib.contextmanager
+def _new_image(out: Target) -> Iterator[str]:
+    """Where the new image is to be made. It gets its name at the end, and only there."""
+    if out.form is not Form.ARCHIVE:
+        with new_folder(out.path) as stage:
+            image = f"{stage}/{_IMAGE}"
+            yield image
+            with writing(out.path):
+                for name in os.listdir(image):
+                    os.rename(f"{image}/{name}", f"{stage}/{name}")
+                os.rmdir(image)
+        return
+    place = os.path.realpath(out.place)
+    for found in tidy(os.path.dirname(place)):
+        note(f"there is {told(found)}")
+    with passing_folder(place, out.told) as stage:
+        image = f"{stage}/{_IMAGE}{ARCHIVE_SUFFIX}"
+        yield image
+        if out.is_standard_output:
+            _print_image(image)
+        else:
+            with writing(out.path):
+                os.rename(image, place)
+
+
+def _print_image(image: str) -> None:
+    with open(image, "rb") as file, standard_output() as out:
+        while piece := file.read(PIECE):
+            out.buffer.write(piece)
+
+
+class _Doing(Doing):
+    """Does the steps of an image, and tells each with its time."""
+
+    def __init__(self, options: FlattenOptions, folder: str, image: str) -> None:
+        super().__init__(
+            folder, options.keep is not None, sys.stderr if options.out.is_standard_output else sys.stdout,
+            [options.image] if options.image != STANDARD_INPUT else [],
+        )
+        self._options = options
+        self._image = image
+        self._name: str | None = None
+        self._has_annotations = False
+
+    def unpack(self) -> int:
+        """See `Steps`."""
+        options = self._options
+        with timed("unpack") as words:
+            image = unpack(UnpackOptions(
+                image=options.image, out=self.path(STACK), platform=options.platform, tag=options.tag,
+                skip_unsupported=options.skip_unsupported, overlay_marks=options.overlay_marks,
+            ))
+            self._name, self.count = _name_of(image, options), len(image.layers)
+            self._has_annotations = bool(image.annotations)
+            words.append(counted(self.count, "layer", "layers"))
+        return self.count
+
+    def run(self, step: str, what: str, layers: Sequence[str], new: str, own: Sequence[str] = ()) -> None:
+        """See `Steps`."""
+        super().run(step, what, layers, new, own)
+        if new == BEFORE and self._options.compress == NONE:
+            require_room(self._options.out.told, self._image, least_shown(self.path(new)))
+
+    def pack(self, layers: Sequence[str]) -> None:
+        """See `Steps`."""
+        blobs, config, links = (self.path(f"{STACK}/{name}") for name in _FOR_PACK)
+        with timed("pack") as words:
+            pack(PackOptions(
+                layers=[self.path(layer) for layer in layers], blobs=blobs, out=self._target(), tag=self._name,
+                config=config, compress=self._options.compress, links=links, has_checked_blobs=True,
+                annotations=self.path(_ANNOTATIONS) if self._has_annotations else None,
+            ))
+            words.append(counted(len(layers), "layer", "layers"))
+        needless = () if self._options.keep else (blobs,)
+        with timed("the new image, read again") as words, removing(*needless):
+            words.append(self._shown(self._image))
+            self.compare(_SHOWN)
+
+    def _target(self) -> Target:
+        """The image that is made, on its way to its name."""
+        return replace(self._options.out, path=self._image, given=self._options.out.path)
+
+    def _shown(self, image: str) -> str:
+        """Writes what an image shows."""
+        with passing_folder(self.path(AGAIN)) as folder:
+            again, marks = f"{folder}/{AGAIN}", self._options.overlay_marks
+            found = unpack(UnpackOptions(image=image, out=again, overlay_marks=marks, digests_only=True))
+            return self.run_on("show", stacks.layer_paths(again, len(found.layers)), self.path(_SHOWN))
+
+
+def _name_of(image: Image, options: FlattenOptions) -> str | None:
+    """The name of the new image: the one that was asked for, as the given image spells it, or else its first."""
+    asked = spellings(options.tag) if options.tag else image.names
+    return options.out.tag or next((name for name in image.names if name in asked), options.tag)
+
+
+class _InWork(str):
+    """A path in the folder of the work."""
+
+
+class _Telling:
+    """Tells a command for each step, as a shell takes them."""
+
+    def __init__(self, options: FlattenOptions) -> None:
+        self._options = options
+        self._program = find_program() or NAME
+        self._name: str | None = None
+        self._has_annotations = False
+        self._marks = ["--overlay-marks"] if options.overlay_marks else []
+        self.lines = ["set -e\n"]
+        if options.keep is None:
+            self.lines += [
+                "work=$(mktemp -d)\n", "trap 'rm -rf -- \"$work\"' EXIT\n", "trap 'exit 1' HUP INT TERM\n",
+            ]
+        else:
+            self.lines.append(f"work={shlex.quote(word_of_path(options.keep))}\n")
+            self._add("mkdir", "-p", "--", _InWork(""))
+
+    def unpack(self) -> int:
+        """See `Steps`."""
+        options = self._options
+        with opened_image(options.image, options.platform, options.tag) as image:
+            count, self._name = len(image.layers), _name_of(image, options)
+            self._has_annotations = bool(image.annotations)
+        words = _given("--platform", options.platform) + _given("--tag", options.tag)
+        if options.skip_unsupported:
+            words.append("--skip-unsupported")
+        self._add_tool("unpack", _word_of_image(options.image), "--out", self._path(STACK), *words, *self._marks)
+        return count
+
+    def run(self, step: str, what: str, layers: Sequence[str], new: str, own: Sequence[str] = ()) -> None:
+        """See `Steps`."""
+        report = self._path(new)
+        if makes_layers(what):
+            self._add("mkdir", report)
+            report = self._path(f"{new}/{REPORT}")
+        blobs = self._path(f"{STACK}/{stacks.BLOBS}")
+        words = words_of(what, [self._path(layer) for layer in layers], blobs, self._path(new), own=own)
+        self._add(self._program, *words, into=report)
+
+    def vacuum(self, step: str, layers: Sequence[str], new: str) -> str:
+        """See `Steps`."""
+        self.run(step, "vacuum", layers, new)
+        self.lines.append("# where it takes away names that a file of links has, go on with the layer before it\n")
+        return new_layer(new)
+
+    def moved(self, layers: Sequence[str]) -> list[int]:
+        """None: without marks of the image's own there are none, and with them nobody knows before it is unpacked."""
+        if self._marks:
+            self.lines.append(f"# here `{NAME} deref` of each layer with redirects or metacopy files, lowest first\n")
+        return []
+
+    def compare(self, report: str) -> None:
+        """See `Steps`."""
+        self._add("cmp", self._path(BEFORE), self._path(report))
+
+    def pack(self, layers: Sequence[str]) -> None:
+        """See `Steps`."""
+        paths, target = [self._path(layer) for layer in layers], self._options.out
+        out = self._path(f"{_IMAGE}{ARCHIVE_SUFFIX}") if target.is_standard_output else word_of_path(target.word)
+        blobs, config, links = (self._path(f"{STACK}/{name}") for name in _FOR_PACK)
+        self._add_tool(
+            "pack", *paths, "--blobs", blobs, "--config", config, "--links", links, "--out", out,
+            "--compress", self._options.compress, *_given("--tag", self._name),
+            *_given("--annotations", self._path(_ANNOTATIONS) if self._has_annotations else None),
+        )
+        self._add_tool("unpack", out, "--out", self._path(AGAIN), "--digests-only", *self._marks)
+        again = [self._path(layer) for layer in stacks.layer_paths(AGAIN, len(layers))]
+        self._add(self._program, "show", *again, into=self._path(_SHOWN))
+        self.compare(_SHOWN)
+        if target.is_standard_output:
+            self._add("cat", out)
+
+    def _path(self, name: str) -> _InWork:
+        return _InWork(name)
+
+    def _add_tool(self, *words: str) -> None:
+        self._add(str(_TOOL), *words)
+
+    def _add(self, *words: str, into: str | None = None) -> None:
+        report = [] if into is None else [">", _quoted(into)]
+        self.lines.append(" ".join([*map(_quoted, words), *report]) + "\n")
+
+
+def _word_of_image(path: str) -> str:
+    return path if path == STANDARD_INPUT else word_of_path(path)
+
+
+def _given(option: str, value: str | None) -> list[str]:
+    """An option with its value, where there is one."""
+    return [] if value is None else [option, value]
+
+
+def _quoted(word: str) -> str:
+    """A word as a shell takes it."""
+    if isinstance(word, _InWork):
+        return f'"$work/{word}"' if word else '"$work"'
+    return shlex.quote(word)

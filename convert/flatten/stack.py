@@ -1,0 +1,179 @@
+"""`flatten --stack`: layers on a disk as fewer ones that show the same, as folders or squashfs files."""
+
+import os
+import sys
+import time
+from collections.abc import Sequence
+from dataclasses import dataclass, replace
+from enum import Enum
+
+from ..common.faults import UsageFault, cannot_write, writing
+from ..common.omissions import Loss, Losses
+from ..common.outputs import kept_folder, passing_folder, require_empty, write_text
+from ..common.progress import counted, note, note_path
+from ..common.stages import tidy, told
+from ..folder.build import BuildOptions, build
+from ..folder.build_squashfs import SUFFIX, build_squashfs
+from ..folder.stack_layers import StackOptions, read_stack, require_forms, require_ordinary
+from ..model import stacks
+from ..model.attributes import require_trusted
+from ..model.entries import SOCKET, drop_host_marks, named
+from ..model.layer_tree import whiteout
+from ..model.links import take_links, write_layer
+from ..model.manifests import read_manifest
+from ..model.show_report import read_report, report_of
+from ..squashfs import programs as squashfs
+from ..squashfs.limits import fitted_lines
+from .steps import AGAIN, BEFORE, STACK, Doing, carry_out, timed
+
+_NEW = "new"
+_FITTED = "fitted.show"
+_SHOWN = f"{_NEW}.show"
+
+
+class OutForm(Enum):
+    """What layers are written as."""
+
+    FOLDER = "folder"
+    SQUASHFS = "squashfs"
+
+
+@dataclass(frozen=True, kw_only=True)
+class FlattenStackOptions:
+    """What the words of `flatten --stack` say."""
+
+    stack: StackOptions
+    out: str
+    form: OutForm | None = None
+    layers: int = 1
+    data_layers: int = 0
+    keep: str | None = None
+    compress: str | None = None
+
+    def is_squashfs(self) -> bool:
+        """Whether squashfs files are written."""
+        return self.form is OutForm.SQUASHFS if self.form else self.out.endswith(SUFFIX)
+
+
+def flatten_stack(options: FlattenStackOptions) -> None:
+    """Writes all that the layers show as one layer, or the layers with the topmost ones merged.
+
+    Nothing is written unless that shows, read again, what the given layers show, but for what was told.
+    """
+    _require_sound(options)
+    begun, place = time.monotonic(), os.path.realpath(options.out)
+    for found in tidy(os.path.dirname(place)):
+        note(f"there is {told(found)}")
+    with passing_folder(place) as stage:
+        made = f"{stage}/{os.path.basename(place)}"
+        with passing_folder(made) if options.keep is None else kept_folder(options.keep) as folder:
+            before, after = carry_out(_DoingStack(options, folder, made), options.layers, options.data_layers)
+        with writing(options.out):
+            os.rename(made, place)
+    seconds = time.monotonic() - begun
+    note_path(options.out, f"{counted(after, 'layer', 'layers')} in place of {before}, {seconds:.2f} s in all")
+
+
+def _require_sound(options: FlattenStackOptions) -> None:
+    """Refuses at once what couldn't be done in the end."""
+    forms = require_forms(options.stack)
+    require_ordinary(len(forms), options.data_layers)
+    if options.layers > 1 and options.out.endswith(SUFFIX):
+        raise UsageFault("with --layers over 1 --out is a folder of layers; --form squashfs makes them squashfs files")
+    if options.keep is not None and os.path.realpath(options.keep) == os.path.realpath(options.out):
+        raise UsageFault("--keep and --out must be two places")
+    if options.is_squashfs():
+        squashfs.require_programs()
+    elif options.compress is not None:
+        raise UsageFault(f"--compress is of squashfs, and --out doesn't end in {SUFFIX}")
+    elif not options.stack.userxattr:
+        require_trusted(options.out)
+    if options.is_squashfs() and options.layers == 1:
+        if os.path.lexists(options.out) and not os.path.isfile(options.out):
+            raise cannot_write(options.out, "it is no regular file")
+    else:
+        require_empty(options.out)
+
+
+class _DoingStack(Doing):
+    """Does the steps of a stack. `made` is where the new layer is made, or the folder of the new layers."""
+
+    def __init__(self, options: FlattenStackOptions, folder: str, made: str) -> None:
+        super().__init__(folder, options.keep is not None, sys.stdout, options.stack.layers)
+        self._options = options
+        self._made = made
+
+    def unpack(self) -> int:
+        """See `Steps`."""
+        self.count, stack = len(self._options.stack.layers), self.path(STACK)
+        with timed("scan") as words:
+            with writing(stack):
+                os.mkdir(stack)
+            read_stack(self._options.stack, stack)
+            words.append(counted(self.count, "layer", "layers"))
+        paths = stacks.layer_paths(stack, self.count)
+        self.data_layers = frozenset(paths[self.count - self._options.data_layers:])
+        return self.count
+
+    def pack(self, layers: Sequence[str]) -> None:
+        """See `Steps`."""
+        with writing(self.path(_NEW)):
+            os.mkdir(self.path(_NEW))
+        with timed("build") as words:
+            built = [self._build(number, layer, len(layers)) for number, layer in enumerate(layers)]
+            words.append(counted(len(layers), "layer", "layers"))
+        with timed("the new layers, read again") as words:
+            words.append(self._show(built))
+            self.compare(_SHOWN, self._wanted())
+
+    def _build(self, number: int, layer: str, count: int) -> str:
+        """Writes a layer in its form; gives its path."""
+        out, name = self._made, self._options.out
+        if self._options.layers > 1:
+            suffix = SUFFIX if self._options.is_squashfs() else ""
+            with writing(name):
+                os.makedirs(out, 0o700, exist_ok=True)
+            out, name = f"{out}/l{number}{suffix}", f"{name}/l{number}{suffix}"
+        manifest = self._without_host_marks(number, layer, is_lowest=number == count - 1)
+        options = BuildOptions(
+            layer=manifest, blobs=self.path(f"{STACK}/{stacks.BLOBS}"), out=out,
+            userxattr=self._options.stack.userxattr, compress=self._options.compress, name=name,
+        )
+        if self._options.is_squashfs():
+            build_squashfs(options)
+        else:
+            build(options)
+        return out
+
+    def _without_host_marks(self, number: int, layer: str, is_lowest: bool) -> str:
+        """Writes the manifest of a new layer as it is to be built; gives its path.
+
+        A socket that can't be had hides what is below it all the same.
+        """
+        losses, marks = Losses(), 0
+        entries = read_manifest(self.path(layer))
+        take_links(self.path(layer), entries, self.path(f"{STACK}/{stacks.SHOWN_LINKS}"))
+        for place, entry in enumerate(entries):
+            marks += drop_host_marks(entry)
+            if entry.kind == SOCKET and self._options.is_squashfs() and not is_lowest:
+                losses.add(Loss.SOCKET, entry.path)
+                entries[place] = replace(whiteout(), path=entry.path)
+        losses.tell(self._options.out)
+        if marks:
+            note_path(self._options.out, counted(marks, "mark", "marks") + " of the host's overlay left out")
+        path = self.path(f"{_NEW}/{stacks.layer_name(number)}")
+        write_layer(path, lambda: named(entries), path, True)
+        return path
+
+    def _show(self, built: Sequence[str]) -> str:
+        """Writes what the new layers show."""
+        with passing_folder(self.path(AGAIN)) as folder:
+            read_stack(replace(self._options.stack, layers=built, digests_only=True), folder)
+            return self.run_on("show", stacks.layer_paths(folder, len(built)), self.path(_SHOWN))
+
+    def _wanted(self) -> str:
+        """The report that the new layers are to show: that of the given ones, as far as their form can hold it."""
+        if not self._options.is_squashfs():
+            return BEFORE
+        write_text(self.path(_FITTED), report_of(fitted_lines(read_report(self.path(BEFORE)))))
+        return _FITTED

@@ -1,0 +1,176 @@
+"""The steps that lead from layers to fewer ones that show the same, done or told."""
+
+import contextlib
+import filecmp
+import os
+import time
+from collections.abc import Iterable, Iterator, Sequence
+from typing import IO, Protocol
+
+from ..common.faults import Fault, reading, writing
+from ..common.program import makes_layers, require_program, run_program, words_of
+from ..common.progress import note
+from ..model import stacks
+from ..model.entries import METACOPY, REDIRECT
+from ..model.links import links_path, names_in
+from ..model.manifests import has_attribute
+from ..model.show_report import escaped_path
+
+STACK = "stack"
+AGAIN = "again"
+BEFORE = "before.show"
+_AFTER = "after.show"
+REPORT = "report"
+
+
+class Steps(Protocol):
+    """The steps, by names in the folder of the work."""
+
+    def unpack(self) -> int:
+        """Unpacks the image into the folder `stack`. Gives the number of its layers."""
+
+    def run(self, step: str, what: str, layers: Sequence[str], new: str, own: Sequence[str] = ()) -> None:
+        """Runs the program, a command with words of its own: its report is the file `new`, or where it makes layers, in
+        a folder `new` with them."""
+
+    def vacuum(self, step: str, layers: Sequence[str], new: str) -> str:
+        """The topmost layer without what changes nothing, or as it is where that takes away a name of a hard link, or
+        shows one: below stands the same, but not as the same file."""
+
+    def moved(self, layers: Sequence[str]) -> list[int]:
+        """The layers with redirects or metacopy files, which no image can state; the lowest first."""
+
+    def compare(self, report: str) -> None:
+        """Goes on only where a report is that of the given image."""
+
+    def pack(self, layers: Sequence[str]) -> None:
+        """Writes the image, where it shows the same when it is read again."""
+
+
+def carry_out(steps: Steps, wanted: int, data_layers: int = 0) -> tuple[int, int]:
+    """Does it all: checks and makes the new layers, and then looks at what they show. Gives how many layers there
+    were, and how many there are.
+
+    The lowest layers may be data-only. They go along until no file needs their contents.
+    """
+    count = steps.unpack()
+    given = stacks.layer_paths(STACK, count)
+    is_one = min(count - data_layers, wanted) == 1
+    new = _as_one(steps, given) if is_one else _merged_down(steps, given, wanted, data_layers)
+    steps.run("show", "show", given, BEFORE)
+    steps.run("show of the new layers", "show", new, _AFTER)
+    steps.compare(_AFTER)
+    steps.pack(new)
+    return count, len(new)
+
+
+def _as_one(steps: Steps, layers: Sequence[str]) -> list[str]:
+    """All that the layers show as one layer; the program checks them first."""
+    steps.run("flatten", "flatten", layers, "flatten")
+    return [new_layer("flatten")]
+
+
+def _merged_down(steps: Steps, given: Sequence[str], wanted: int, data_layers: int) -> list[str]:
+    """The layers without redirects, metacopy files and what changes nothing, the topmost merged so that so many are
+    left."""
+    layers = list(given)
+    steps.run("fsck", "fsck", layers, f"fsck.{REPORT}")
+    layers[0] = steps.vacuum("vacuum", layers, "vacuum")
+    # Over layers without redirects each loses its own, and then no merge makes any.
+    for number in steps.moved(layers[:len(layers) - data_layers]):
+        steps.run(f"deref of layer {number}", "deref", layers[number:], f"deref-{number}")
+        layers[number] = new_layer(f"deref-{number}")
+    merges = max(0, len(layers) - data_layers - wanted)
+    if merges:
+        steps.run(f"merge of {merges + 1} layers", "merge", layers, "merged", ("--down-to", str(wanted)))
+        # The new topmost layer holds a root alone, which the one below it has too.
+        layers[:merges + 1] = [new_layer("merged", 1)]
+    del layers[len(layers) - data_layers:]
+    if merges:
+        layers[0] = steps.vacuum("vacuum of the merged layer", layers, "vacuum-merged")
+    return layers
+
+
+def new_layer(folder: str, number: int = 0) -> str:
+    """Where the program writes a new layer."""
+    return f"{folder}/layer-{number}.json"
+
+
+class Doing:
+    """Does the steps, and tells each with its time. How layers come in and go out is of its kinds."""
+
+    def __init__(self, folder: str, is_kept: bool, faults: IO[str], given: Iterable[str]) -> None:
+        self._folder = folder
+        self._is_kept = is_kept
+        self._faults = faults
+        self._program = require_program(given)
+        self.count = 0  # of the given layers
+        self.data_layers: frozenset[str] = frozenset()  # the paths of those that are data-only
+
+    def path(self, name: str) -> str:
+        """A name in the folder of the work."""
+        return f"{self._folder}/{name}"
+
+    def run(self, step: str, what: str, layers: Sequence[str], new: str, own: Sequence[str] = ()) -> None:
+        """See `Steps`."""
+        with timed(step) as words:
+            words.append(self.run_on(what, [self.path(layer) for layer in layers], self.path(new), own))
+
+    def run_on(self, what: str, layers: Sequence[str], new: str, own: Sequence[str] = ()) -> str:
+        """Runs the program on layers at paths; gives the last line of its report."""
+        blobs = self.path(f"{STACK}/{stacks.BLOBS}")
+        words = words_of(what, layers, blobs, new, sum(layer in self.data_layers for layer in layers), own)
+        report = new
+        if makes_layers(what):
+            with writing(new):
+                os.mkdir(new)
+            report = f"{new}/{REPORT}"
+        return run_program(self._program, words, report, self._faults)
+
+    def vacuum(self, step: str, layers: Sequence[str], new: str) -> str:
+        """See `Steps`."""
+        self.run(step, "vacuum", layers, new)
+        removed = _removed_in(self.path(f"{new}/{REPORT}"))
+        if removed and any(escaped_path(name) in removed for name in self._linked()):
+            note(f"{step}: not used, since it takes away names of hard links")
+            return layers[0]
+        return new_layer(new)
+
+    def _linked(self) -> Iterator[str]:
+        """The names of the hard links that the given layers have or show."""
+        yield from names_in(self.path(f"{STACK}/{stacks.SHOWN_LINKS}"))
+        for layer in map(self.path, stacks.layer_paths(STACK, self.count)):
+            yield from names_in(links_path(layer), layer)
+
+    def moved(self, layers: Sequence[str]) -> list[int]:
+        """See `Steps`."""
+        return [
+            number for number in reversed(range(len(layers)))
+            if has_attribute(self.path(layers[number]), (REDIRECT, METACOPY))
+        ]
+
+    def compare(self, report: str, wanted: str = BEFORE) -> None:
+        """See `Steps`."""
+        if not filecmp.cmp(self.path(wanted), self.path(report), shallow=False):
+            kept = f"see {wanted} and {report} in {self._folder}"
+            hint = kept if self._is_kept else "--keep DIR keeps both reports"
+            raise Fault(f"the new layers show something else, so nothing is written; {hint}")
+
+
+def _removed_in(report: str) -> set[str]:
+    """The paths, as reports write them, that `vacuum` took away."""
+    with reading(report), open(report, encoding="ascii") as lines:
+        return {words[1] for words in map(str.split, lines) if words[0] == "removed" and words[1].startswith("/")}
+
+
+@contextlib.contextmanager
+def timed(step: str) -> Iterator[list[str]]:
+    """Tells a step that ended well, with the words that it gives and its time."""
+    begun = time.monotonic()
+    words: list[str] = []
+    yield words
+    _tell(step, words, begun)
+
+
+def _tell(step: str, words: Sequence[str], begun: float) -> None:
+    note(f"{step}: {', '.join([*words, f'{time.monotonic() - begun:.2f} s'])}")

@@ -1,0 +1,1 @@
+"""Folders of layers, scanned and built, stores of engines, and mounted trees."""

@@ -1,0 +1,104 @@
+"""The layers of a stack, each a folder, a squashfs, an archive or a manifest, as manifests and blobs in one folder."""
+
+import itertools
+from collections.abc import Iterable, Iterator, Sequence
+from dataclasses import dataclass
+
+from ..common.faults import UsageFault, cannot_read, reading
+from ..common.omissions import ScanLosses
+from ..common.progress import counted
+from ..model import rules, stacks
+from ..model.blobs import blob_path, opened_blob, writers
+from ..model.entries import REDIRECT, Entry, Named, named, without_paths
+from ..model.links import renumber, take_links, write_layer
+from ..model.merged_tree import MergedTree, write_shown_links
+from ..model.manifests import has_attribute, read_manifest
+from ..squashfs.layer_files import FileOptions, Form, form_of, scan_file
+from .scan import ScanOptions, scan_folder
+
+
+@dataclass(frozen=True, kw_only=True)
+class StackOptions:
+    """Which layers are read, the topmost first, and how. `blobs` has the contents of those that are manifests."""
+
+    layers: Sequence[str]
+    blobs: str | None = None
+    userxattr: bool = False
+    cross_file_systems: bool = False
+    skip_unsupported: bool = False
+    digests_only: bool = False
+    workers: int = 1
+
+
+def read_stack(options: StackOptions, out: str) -> None:
+    """Writes `l0.json`, the topmost layer, and so on, their links, and the folder `blobs` unless digests are enough.
+
+    `out` is a folder that is there. A socket that a layer's file can't give hides what is below it all the same.
+    """
+    forms = require_forms(options)
+    losses, below, links = ScanLosses(), MergedTree(), itertools.count(1)
+    for number, form in reversed(list(enumerate(forms))):
+        entries = _read(options, number, form, out, losses, links)
+        below.cover(entries, has_attribute(f"{out}/{stacks.layer_name(number)}", [REDIRECT]))
+    write_shown_links(out, below)
+    losses.tell()
+
+
+def _read(
+    options: StackOptions, number: int, form: Form, out: str, losses: ScanLosses, links: Iterator[int]
+) -> Iterator[Named]:
+    """Writes one layer; gives its entries."""
+    layer, manifest = options.layers[number], f"{out}/{stacks.layer_name(number)}"
+    blobs = None if options.digests_only else f"{out}/{stacks.BLOBS}"
+    if form is Form.FOLDER:
+        return without_paths(scan_folder(ScanOptions(
+            layer=layer, out=manifest, blobs=blobs, userxattr=options.userxattr,
+            cross_file_systems=options.cross_file_systems, skip_unsupported=options.skip_unsupported,
+            workers=options.workers,
+        ), losses, links))
+    if form is Form.MANIFEST:
+        entries = read_manifest(layer)
+        take_links(layer, entries)
+        renumber(entries, links)
+        if blobs is not None:
+            _copy_contents(entries, str(options.blobs), blobs)
+        write_layer(manifest, lambda: named(entries), layer, True)
+        return without_paths(entries)
+    is_lowest = number == len(options.layers) - 1
+    return scan_file(FileOptions(
+        layer=layer, out=manifest, blobs=blobs, userxattr=options.userxattr,
+        skip_unsupported=options.skip_unsupported, hides_sockets=not is_lowest,
+    ), form, losses, links)
+
+
+def require_forms(options: StackOptions) -> list[Form]:
+    """What each layer is given as; refuses what can't be read before anything is."""
+    if not 1 <= len(options.layers) <= rules.MAX_LAYERS:
+        raise UsageFault(f"layers must be 1 to {rules.MAX_LAYERS}")
+    forms = [form_of(layer) for layer in options.layers]
+    if Form.MANIFEST in forms and options.blobs is None and not options.digests_only:
+        raise UsageFault(
+            f"{options.layers[forms.index(Form.MANIFEST)]} is a manifest: --blobs must name the folder of its contents"
+        )
+    return forms
+
+
+def require_ordinary(count: int, data_layers: int) -> None:
+    """Refuses data-only layers of a stack if no other is left."""
+    if data_layers >= count:
+        raise UsageFault(f"of {counted(count, 'layer', 'layers')} {data_layers} can't be data-only")
+
+
+def _copy_contents(entries: Iterable[Entry], given: str, blobs: str) -> None:
+    """Copies what the files of a layer hold from one folder of blobs into another."""
+    named = {str(entry.blob): entry.size for entry in entries if entry.names_contents()}
+    with writers(blobs) as new_writer:
+        writer = new_writer()
+        try:
+            for blob, size in sorted(named.items()):
+                path = blob_path(given, blob)
+                with opened_blob(given, blob, size) as file, reading(path):
+                    if writer.put(file, size) != blob:
+                        raise cannot_read(path, "its contents have another digest")
+        finally:
+            writer.close()

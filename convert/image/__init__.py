@@ -1,0 +1,1 @@
+"""Container images, read, unpacked and packed."""

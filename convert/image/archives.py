@@ -1,0 +1,370 @@
+"""A layer's archive on its way into a tree, and the contents of its files into blobs."""
+
+import contextlib
+import copy
+import functools
+import os
+from collections.abc import Callable, Hashable, Mapping
+from dataclasses import dataclass, replace
+from typing import Protocol
+
+from ..common.budgets import TooMuch
+from ..common.contents import PIECE
+from ..common.faults import cannot_read
+from ..common.omissions import Loss, Losses
+from ..common.progress import Progress, note
+from ..common.streams import Digesting, Source, buffered, read_ahead
+from ..model import rules
+from ..model.attributes import Unstated, marks_from_user
+from ..model.blobs import Digester, Writer
+from ..model.entries import (
+    BLOCK, CHAR, DIRECTORY, FIFO, FILE, LINK_MODE, METACOPY, NO_ATTRIBUTES, OVERLAY, SYMLINK, WHITEOUT, Entry,
+    is_whiteout,
+)
+from ..model.layer_tree import Attributes, Blocked, Gap, Held, LayerTree, Unfit, whiteout
+from ..model.merged_tree import MergedTree
+from ..model.times import ONE_SECOND
+from ..tar import headers as tar
+from ..tar.disk_space import require_room
+from ..tar.headers import HARD_LINK, REGULAR_TYPES, Header
+from ..tar.reader import TarReader
+from .archive_names import AUFS_LINKS, OPAQUE_NAME, WHITEOUT_PREFIX, Paths, is_of_aufs, may_be_special
+from .layer_cache import NO_CONTENTS, Contents, Keeping, KeptLayers
+
+_KINDS = {
+    tar.SYMLINK: SYMLINK, tar.CHAR: CHAR, tar.BLOCK: BLOCK, tar.DIRECTORY: DIRECTORY, tar.FIFO: FIFO,
+    HARD_LINK: FILE, **{bytes([kind]): FILE for kind in REGULAR_TYPES},
+}
+Store = Callable[[], Contents]  # gives the contents of an entry, which are blobs then
+Take = Callable[[Header, Store], None]  # takes the next entry of an archive
+_GAPS = {
+    Gap.UNKNOWN: Loss.UNKNOWN, Gap.OVER_OTHER: Loss.OVER_OTHER, Gap.WHITEOUT: Loss.WHITEOUT,
+    Gap.ANEW: Loss.ANEW,
+}
+
+
+class Layer(Protocol):
+    """A layer whose archive can be read."""
+
+    @property
+    def name(self) -> str:
+        """What it is called in notes."""
+
+    @property
+    def path(self) -> str:
+        """What it is called in faults."""
+
+    @property
+    def unpacked_digest(self) -> tuple[str, str] | None:
+        """The algorithm and the digits of the digest of the archive's bytes, where they are known."""
+
+    def is_checked(self) -> bool:
+        """Whether these bytes are looked at before they are read."""
+
+    def identity(self) -> Hashable:
+        """The same for two layers of the same bytes."""
+
+    def archive(self, progress: Progress) -> contextlib.AbstractContextManager[Source]:
+        """The bytes of its archive, unpacked. Tells what is wrong with them as a fault of its path."""
+
+
+@dataclass(frozen=True, kw_only=True)
+class Taking:
+    """What is taken of the archives of layers, and where it goes.
+
+    The archive of a layer's folder has whiteouts as the kernel has them, and no names with a meaning of their
+    own; its marks are those of a mount, with `userxattr` or without.
+    """
+
+    out: str
+    writer: Writer
+    held: Held
+    below: MergedTree
+    skip_unsupported: bool = False
+    overlay_marks: bool = False
+    is_folder: bool = False
+    userxattr: bool = False
+    most_contents: int | None = None  # bytes of all its files, where they are bounded
+    kept: KeptLayers | None = None  # of an image, which may name a layer again
+
+
+class ArchiveReader:
+    """Reads one layer's archive: entry by entry, and the contents of its files into blobs."""
+
+    def __init__(self, layer: Layer, taking: Taking) -> None:
+        self._layer = layer
+        self._taking = taking
+        self._contents = 0
+
+    def read(self, take: Take) -> None:
+        """Gives each entry on, where the layer's bytes are those that the image names."""
+        progress = Progress(f"unpacking bytes of {self._layer.name[-20:]}")
+        try:
+            with self._layer.archive(progress) as stream:
+                self._read_checked(stream, take)
+        except TooMuch as problem:
+            raise cannot_read(self._layer.path, str(problem)) from None
+        finally:
+            progress.end()
+
+    def _read_checked(self, stream: Source, take: Take) -> None:
+        if self._layer.unpacked_digest is None or self._layer.is_checked():
+            with read_ahead(stream) as ahead:
+                self._read(ahead, take)
+            return
+        algorithm, wanted = self._layer.unpacked_digest
+        source = Digesting(stream, algorithm)
+        with read_ahead(source) as ahead:
+            self._read(ahead, take)
+        if source.digest.hexdigest() != wanted:
+            raise cannot_read(self._layer.path, f"its unpacked bytes aren't those of {algorithm}:{wanted}")
+
+    def _read(self, stream: Source, take: Take) -> None:
+        archive = TarReader(buffered(stream), self._taking.held.budget)
+        for header in archive:
+            take(header, functools.partial(self._store, archive, header))
+
+    def _store(self, archive: TarReader, header: Header) -> Contents:
+        """Writes an entry's data as a blob, zeros as holes."""
+        most, writer = self._taking.most_contents, self._taking.writer
+        self._contents += header.size
+        if most is not None and self._contents > most:
+            raise TooMuch(f"its files have over {most:,} bytes, which is more than its own size speaks for")
+        if header.size == 0:
+            return NO_CONTENTS
+        self._require_space(archive.stored())
+        return writer.take(archive.data(), header.size), header.size
+
+    def _require_space(self, size: int) -> None:
+        if size > PIECE and not isinstance(self._taking.writer, Digester):
+            require_room(self._taking.out, self._taking.out, size)
+
+
+class LayerArchive:
+    """One layer's archive."""
+
+    def __init__(self, layer: Layer, taking: Taking) -> None:
+        self._layer = layer
+        self._taking = taking
+        self._tree = LayerTree(taking.held)
+        self._paths = Paths(not taking.is_folder)
+        self._losses = Losses()
+        self._aufs_links: dict[str, Entry] = {}
+
+    def tree(self) -> LayerTree:
+        """The layer, where its bytes are those that the image names."""
+        layer = self._layer
+        try:
+            self._take_all()
+            self._tree.settle(self._taking.below.root, lambda gap, path: self._losses.add(_GAPS[gap], path))
+        except TooMuch as problem:
+            raise cannot_read(layer.path, str(problem)) from None
+        self._losses.tell(layer.name)
+        return self._tree
+
+    def _take_all(self) -> None:
+        """Takes the entries of its archive, or of one of the same bytes that was read, whose contents are blobs."""
+        layers = self._taking.kept
+        kept = layers.kept(self._layer) if layers else None
+        if kept is not None:
+            for header, contents in kept.entries(self._taking.held.budget):
+                self._take_fitting(header, _known(contents))
+            return
+        keeping = layers.keeping(self._layer) if layers else None
+        reader = ArchiveReader(self._layer, self._taking)
+        if keeping is None:
+            reader.read(self._take_fitting)
+        else:
+            reader.read(functools.partial(self._take_and_keep, keeping))
+
+    def _take_and_keep(self, keeping: Keeping, header: Header, store: Store) -> None:
+        contents = store() if has_contents(header) else NO_CONTENTS
+        keeping.add(header, contents)
+        self._take_fitting(header, _known(contents))
+
+    def _take_fitting(self, header: Header, store: Store) -> None:
+        try:
+            self._take(header, store)
+        except Unfit as problem:
+            self._refuse_or_note(header, str(problem))
+        except Unstated as problem:
+            raise cannot_read(self._layer.path, f"{os.fsdecode(header.name)}: {problem.text}") from None
+
+    def _take(self, header: Header, store: Store) -> None:
+        names = self._paths.names(header.name)
+        if may_be_special(header.name) and _is_special(names):
+            if not self._taking.is_folder:
+                self._take_special(header, names, store)
+                return
+            self._losses.add(Loss.WHITEOUT_NAME, _path(names))
+        entry = self._entry(header, names)
+        self._tree.folder(names[:-1])
+        if header.type == HARD_LINK:
+            entry = self._linked(header, names)
+        elif entry.kind == FILE:
+            _fill(entry, store)
+        elif is_whiteout(entry) and not self._taking.is_folder:
+            self._losses.add(Loss.DEVICE, _path(names))
+        self._tree.put(names, entry)
+
+    def _take_special(self, header: Header, names: list[str], store: Store) -> None:
+        """What is no entry of the layer: a whiteout, an opaque mark, or what aufs keeps for itself."""
+        if is_of_aufs(names):
+            self._losses.add(Loss.AUFS, _path(names))
+            if _is_aufs_link(names) and header.type in REGULAR_TYPES:
+                entry = self._entry(header, names)
+                self._taking.held.grow()
+                _fill(entry, store)
+                self._aufs_links[_path(names)] = entry
+            return
+        try:
+            self._take_whiteout(header, names)
+        except Blocked:
+            self._losses.add(Loss.WHITEOUT, _path(names))
+
+    def _take_whiteout(self, header: Header, names: list[str]) -> None:
+        *folder, last = names
+        if last == OPAQUE_NAME:
+            _check_place(folder)
+            self._tree.put_opaque(folder)
+            return
+        hidden = last[len(WHITEOUT_PREFIX):]
+        problem = rules.name_problem(hidden)
+        if problem:
+            raise Unfit(f"a whiteout of nothing: {problem}")
+        entry = self._entry(replace(header, type=b"0", size=0, name=hidden.encode()), [*folder, hidden])
+        if WHITEOUT not in entry.attributes:
+            attributes = entry.attributes
+            entry = whiteout(entry.uid, entry.gid, entry.mtime_ns)
+            entry.attributes = attributes
+        self._tree.put_whiteout([*folder, hidden], entry)
+
+    def _entry(self, header: Header, names: list[str]) -> Entry:
+        """The entry of a header but for a file's contents."""
+        _check_place(names)
+        kind = _KINDS.get(header.type)
+        if kind is None:
+            raise Unfit(f"an entry of type {header.type!r}, which can't be stated")
+        entry = Entry("", kind, header.mode, header.uid, header.gid, header.mtime_ns)
+        if kind == SYMLINK:
+            entry.mode = LINK_MODE
+            entry.target = header.target.decode("utf-8", "surrogateescape")
+        elif kind in (CHAR, BLOCK):
+            entry.major, entry.minor = header.major, header.minor
+        _check_values(entry)
+        if header.attributes:
+            entry.attributes = self._attributes(header, names)
+        if header.cut_time:
+            self._losses.add(Loss.CUT_TIME, _path(names))
+        if header.has_acl:
+            self._losses.add(Loss.ACCESS_LIST, _path(names))
+        if header.has_label:
+            self._losses.add(Loss.LABEL, _path(names))
+        if header.has_global:
+            self._losses.add(Loss.GLOBAL, _path(names))
+        if header.other_record:
+            self._losses.add(Loss.RECORD, f"{_path(names)} ({os.fsdecode(header.other_record)})")
+        return entry
+
+    def _attributes(self, header: Header, names: list[str]) -> Mapping[str, bytes]:
+        raw = header.attributes
+        found = self._taking.held.attributes(tuple(raw.items()), lambda: self._decoded(raw))
+        if found.marks:
+            self._losses.add(Loss.MARK, _path(names), found.marks)
+        return found.kept
+
+    def _decoded(self, raw: Mapping[bytes, bytes]) -> Attributes:
+        attributes: Mapping[str, bytes] = {
+            name.decode("utf-8", "surrogateescape"): value for name, value in raw.items()
+        }
+        if self._taking.userxattr:
+            attributes = marks_from_user(attributes)
+        takes_marks = self._taking.overlay_marks
+        kept = {name: value for name, value in attributes.items() if takes_marks or not name.startswith(OVERLAY)}
+        problem = next(filter(None, map(rules.attribute_problem, kept)), None) or rules.attributes_problem(kept)
+        if problem:
+            raise Unfit(problem)
+        return Attributes(kept or NO_ATTRIBUTES, len(attributes) - len(kept))
+
+    def _linked(self, header: Header, names: list[str]) -> Entry:
+        """One more name of a file of this layer, or a copy of one of the layers below."""
+        told, is_folder = os.fsdecode(header.target), self._taking.is_folder
+        linked = Paths(not is_folder).names(header.target, "the file that it links to")
+        aufs = self._aufs_links.get(_path(linked))
+        here = aufs or (self._tree.file_at(linked, None, is_folder) if linked else None)
+        found = here or (self._tree.file_at(linked, self._taking.below.root) if linked else None)
+        if found is None:
+            raise Unfit(f"it links to {told}, which is no file of this layer so far or of those below")
+        if METACOPY in found.attributes and not is_folder:
+            raise Unfit(f"it links to {told}, a file without its contents")
+        self._taking.held.budget.attributes.take(len(found.attributes))
+        if here is None:
+            self._losses.add(Loss.LOWER_LINK, _path(names))
+        elif not is_whiteout(here):  # the kernel links the whiteouts of a mount to one another, which nothing shows
+            here.link = here.link or self._taking.held.new_link()
+        own = copy.copy(found)
+        own.link = here.link if here else 0
+        return own
+
+    def _refuse_or_note(self, header: Header, problem: str) -> None:
+        name = os.fsdecode(header.name)
+        if not self._taking.skip_unsupported:
+            raise cannot_read(self._layer.path, f"{name}: {problem}")
+        note(f"{self._layer.path}: {name}: left out: {problem}")
+
+
+def _known(contents: Contents) -> Store:
+    return lambda: contents
+
+
+def has_contents(header: Header) -> bool:
+    """Whether what an entry of an image's layer has as data are contents of a file, where it can be stated at all."""
+    if header.type not in REGULAR_TYPES:
+        return False
+    if not may_be_special(header.name):
+        return True
+    try:
+        names = Paths().names(header.name)
+    except Unfit:
+        return False
+    return not _is_special(names) or _is_aufs_link(names)
+
+
+def _is_special(names: list[str]) -> bool:
+    """Whether a name stands for something else than an entry of the layer."""
+    return bool(names) and (names[-1].startswith(WHITEOUT_PREFIX) or is_of_aufs(names))
+
+
+def _is_aufs_link(names: list[str]) -> bool:
+    """Whether it is a file to which names of aufs' layers link."""
+    return names[0] == AUFS_LINKS and is_of_aufs(names)
+
+
+def _fill(entry: Entry, store: Store) -> None:
+    digest, entry.size = store()
+    entry.blob = digest if entry.names_contents() else None
+
+
+def _path(names: list[str]) -> str:
+    return "/" + "/".join(names)
+
+
+def _check_place(names: list[str]) -> None:
+    problem = rules.path_problem(_path(names), len(names))
+    if problem:
+        raise Unfit(problem)
+
+
+def _check_values(entry: Entry) -> None:
+    """Refuses what the members of a manifest's entry have no place for."""
+    problem = (
+        rules.number_problem("owner", entry.uid, 0, rules.MAX_NUMBER)
+        or rules.number_problem("group", entry.gid, 0, rules.MAX_NUMBER)
+        or rules.number_problem("time", entry.mtime_ns // ONE_SECOND, rules.MIN_TIME, rules.MAX_TIME)
+        or rules.number_problem("major number", entry.major, 0, rules.MAX_NUMBER)
+        or rules.number_problem("minor number", entry.minor, 0, rules.MAX_NUMBER)
+    )
+    if problem is None and entry.kind == SYMLINK:
+        problem = rules.target_problem(entry.target)
+    if problem:
+        raise Unfit(problem)

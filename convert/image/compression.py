@@ -1,0 +1,122 @@
+"""Packing a layer's archive while it is written: not at all, by gzip or by zstd."""
+
+import contextlib
+import os
+import shutil
+import struct
+import subprocess
+import zlib
+from collections import deque
+from collections.abc import Iterator
+from concurrent.futures import Future, ThreadPoolExecutor
+from typing import IO
+
+from ..common.contents import Write
+from ..common.faults import Fault, cannot_write
+
+NONE, GZIP, ZSTD = "none", "gzip", "zstd"
+COMPRESSIONS = (NONE, GZIP, ZSTD)
+_GZIP_HEADER = b"\x1f\x8b\x08\0\0\0\0\0\0\x03"  # packed by deflate, without a name and a time, on Unix
+_GZIP_LEVEL = 6
+BLOCK = 1 << 19  # bytes that one processor packs at once
+_DICTIONARY = 1 << 15
+_ZSTD_WORDS = ["--compress", "-3", "--single-thread", "--quiet", "--stdout"]
+
+
+def media_type(compression: str) -> str:
+    """What an image's manifest calls a layer that is packed so."""
+    suffix = "" if compression == NONE else f"+{compression}"
+    return f"application/vnd.oci.image.layer.v1.tar{suffix}"
+
+
+def require_program(compression: str) -> None:
+    """Refuses a way of packing whose program isn't there."""
+    if compression == ZSTD and shutil.which("zstd") is None:
+        raise Fault("there is no zstd program; install zstd, or use --compress gzip")
+
+
+@contextlib.contextmanager
+def packing(compression: str, file: IO[bytes]) -> Iterator[Write]:
+    """What takes the bytes of an archive and writes them packed; at its end all is in the file."""
+    file.flush()
+    if compression == GZIP:
+        with ThreadPoolExecutor(len(os.sched_getaffinity(0))) as workers:
+            gzip = _Gzip(file, workers)
+            yield gzip.write
+            gzip.end()
+    elif compression == ZSTD:
+        with _by_zstd(file) as write:
+            yield write
+    else:
+        yield file.write
+    file.flush()
+
+
+class _Gzip:
+    """A gzip stream of blocks that are packed by themselves, so by as many processors as there are.
+
+    Each block begins with what the one before it had last as its dictionary, as `pigz` does it. So the bytes
+    don't depend on how many threads pack them, and hardly differ in number from those of one block.
+    """
+
+    def __init__(self, file: IO[bytes], workers: ThreadPoolExecutor) -> None:
+        self._file = file
+        self._workers = workers
+        self._most_waiting = 2 * len(os.sched_getaffinity(0))
+        self._waiting: deque[Future[bytes]] = deque()
+        self._held = bytearray()
+        self._before = b""
+        self._check = 0
+        self._size = 0
+        file.write(_GZIP_HEADER)
+
+    def write(self, piece: bytes) -> None:
+        """Takes bytes; those of whole blocks go to be packed."""
+        self._held += piece
+        while len(self._held) > BLOCK:
+            self._pack(bytes(self._held[:BLOCK]), zlib.Z_SYNC_FLUSH)
+            del self._held[:BLOCK]
+
+    def end(self) -> None:
+        """Packs what is held, and ends the stream."""
+        self._pack(bytes(self._held), zlib.Z_FINISH)
+        while self._waiting:
+            self._file.write(self._waiting.popleft().result())
+        self._file.write(struct.pack("<II", self._check, self._size % (1 << 32)))
+
+    def _pack(self, block: bytes, flush: int) -> None:
+        while len(self._waiting) >= self._most_waiting:
+            self._file.write(self._waiting.popleft().result())
+        self._waiting.append(self._workers.submit(_packed_block, block, self._before, flush))
+        self._before = block[-_DICTIONARY:]
+        self._check = zlib.crc32(block, self._check)
+        self._size += len(block)
+
+
+def _packed_block(block: bytes, before: bytes, flush: int) -> bytes:
+    packer = zlib.compressobj(_GZIP_LEVEL, zlib.DEFLATED, -zlib.MAX_WBITS, zdict=before)
+    return packer.compress(block) + packer.flush(flush)
+
+
+@contextlib.contextmanager
+def _by_zstd(file: IO[bytes]) -> Iterator[Write]:
+    process = subprocess.Popen(
+        [str(shutil.which("zstd")), *_ZSTD_WORDS], stdin=subprocess.PIPE, stdout=file, stderr=subprocess.PIPE
+    )
+    assert process.stdin is not None and process.stderr is not None
+    is_done = False
+    try:
+        with contextlib.suppress(BrokenPipeError):
+            yield process.stdin.write
+            process.stdin.close()
+        is_done = True
+    finally:
+        if not is_done:
+            process.kill()
+        with contextlib.suppress(BrokenPipeError):
+            process.stdin.close()
+        reason = process.stderr.read().decode("utf-8", "replace").strip()
+        process.stderr.close()
+        status = process.wait()
+    if status != 0:
+        raise cannot_write("a layer", f"zstd ended with {reason or f'status {status}'}")

@@ -1,0 +1,88 @@
+"""The files of a new image: in a folder, or in one tar archive, which is written once."""
+
+import os
+from collections.abc import Callable
+from typing import IO, Protocol
+
+from ..common.contents import PIECE
+from ..tar.headers import BLOCK_BYTES, DIRECTORY, Header, header_block
+from ..tar.writer import TarWriter
+
+Fill = Callable[[IO[bytes]], str]
+BLOBS = "blobs/sha256"
+_FILE = b"0"
+
+
+class ImageFiles(Protocol):
+    """Takes the files of an image, one after the other."""
+
+    def blob(self, fill: Fill) -> None:
+        """A blob that is written at a file's place; `fill` gives its digest, by which it is named."""
+
+    def put(self, name: str, data: bytes) -> None:
+        """A file of this name."""
+
+
+class FolderFiles:
+    """In a folder."""
+
+    def __init__(self, folder: str, blobs: str) -> None:
+        self._folder = folder
+        self._blobs = os.path.join(folder, blobs)
+        os.makedirs(self._blobs, exist_ok=True)
+
+    def blob(self, fill: Fill) -> None:
+        """See `ImageFiles`."""
+        path = os.path.join(self._blobs, "layer")
+        with open(path, "x+b", buffering=PIECE) as file:
+            digest = fill(file)
+        os.rename(path, os.path.join(self._blobs, digest))
+
+    def put(self, name: str, data: bytes) -> None:
+        """See `ImageFiles`."""
+        with open(os.path.join(self._folder, name), "wb") as file:
+            file.write(data)
+
+
+class ArchiveFiles:
+    """In a tar archive. The header of a blob is written last, when its name and its size are known."""
+
+    def __init__(self, file: IO[bytes]) -> None:
+        self._file = file
+        self._archive = TarWriter(file.write)
+        self._there: set[str] = set()
+        way = ""
+        for name in BLOBS.split("/"):
+            way += f"{name}/"
+            self._archive.entry(Header(way.encode(), DIRECTORY, 0o755, 0, 0, 0, 0, b"", 0, 0))
+
+    def blob(self, fill: Fill) -> None:
+        """See `ImageFiles`. One that is there already isn't kept twice."""
+        file = self._file
+        begin = file.tell()
+        file.write(bytes(BLOCK_BYTES))
+        digest = fill(file)
+        end = file.seek(0, os.SEEK_END)
+        file.seek(begin)
+        if digest in self._there:
+            file.truncate()
+            return
+        self._there.add(digest)
+        size = end - begin - BLOCK_BYTES
+        file.write(header_block(_header(f"{BLOBS}/{digest}", size)))
+        file.seek(end)
+        self._archive.end_data(size)
+
+    def put(self, name: str, data: bytes) -> None:
+        """See `ImageFiles`."""
+        self._archive.entry(_header(name, len(data)))
+        self._archive.data(data)
+        self._archive.end_data(len(data))
+
+    def end(self) -> None:
+        """Writes the end of the archive."""
+        self._archive.end()
+
+
+def _header(name: str, size: int) -> Header:
+    return Header(name.encode(), _FILE, 0o644, 0, 0, size, 0, b"", 0, 0)

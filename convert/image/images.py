@@ -1,0 +1,413 @@
+"""Images: OCI image layouts, what `docker save` writes, and the folders of skopeo's `dir:`."""
+
+import contextlib
+import hashlib
+import io
+import os
+import re
+from collections.abc import Callable, Hashable, Iterator, Mapping, Sequence
+from dataclasses import dataclass, field, replace
+from typing import Any, TypeVar
+
+from ..common.faults import ReadFault, UsageFault, cannot_read, reading
+from ..common.progress import Progress
+from ..common.streams import Slice, Source, Watched, digest_of, unpacked
+from ..model import rules
+from .configuration import MAX_BYTES, Document, no_configuration, platform_of, platform_text, with_platform
+from .documents import (
+    CONFIGURATION_TYPES, INDEX_TYPES, LAYER_TYPES, MANIFEST_TYPES, Descriptor, Digest, Index, Json, Manifest,
+    Misshapen, SavedImage, document_of, index_of, layer_digests, parse, require_configuration, saved_images_of,
+)
+from .members import Members, opened_members
+from .quick_gzip import find_program, unpacked_quickly
+from .targets import TRANSPORTS
+
+MAX_DOCUMENTS = 1 << 24  # bytes of an image's documents together, each as often as it is named
+_MAX_DEPTH = 4
+_MOST_TOLD = 20
+REF_NAME = "org.opencontainers.image.ref.name"
+_FULL_NAME = "io.containerd.image.name"
+_BASE = "org.opencontainers.image.base."
+_ATTESTATION = "vnd.docker.reference.type"
+BlobName = Callable[[Digest], str]
+_T = TypeVar("_T")
+
+
+@dataclass(frozen=True)
+class ImageLayer:
+    """The archive of a layer, and the digests that the image has of its bytes."""
+
+    name: str
+    path: str
+    members: Members
+    size: int
+    digest: Digest | None
+    unpacked_digest: Digest | None
+
+    def identity(self) -> Hashable:
+        """The same for two layers of the image that are one file, and must unpack to the same."""
+        return self.digest or self.members.identity(self.name), self.unpacked_digest
+
+    @contextlib.contextmanager
+    def opened(self) -> Iterator[Slice]:
+        """The archive's bytes, which are those of its digest."""
+        with self.members.opened(self.name) as part:
+            if self.digest is not None:
+                _require_digest(self, part.again(), self.digest)
+            yield part
+
+    @contextlib.contextmanager
+    def archive(self, progress: Progress) -> Iterator[Source]:
+        """The same, unpacked."""
+        with self.opened() as part, unpacked(Watched(part, progress), self.path) as stream:
+            yield stream
+
+    @contextlib.contextmanager
+    def archive_quickly(self, progress: Progress) -> Iterator[Source]:
+        """The same of a gzip stream, by a program that is quicker and less strict than zlib; see `quick_gzip`."""
+        with self.opened() as part:
+            progress.expect(part.size())
+            with unpacked_quickly(part, progress) as stream:
+                yield stream
+
+    def is_checked(self) -> bool:
+        """Whether the digest of its bytes, which are looked at before they are read, is that of the unpacked ones."""
+        return self.digest is not None and self.digest == self.unpacked_digest and self.packed_size() is None
+
+    def bytes_read(self) -> int:
+        """How many bytes of the image it takes to read it, those that are digested before."""
+        return self.size * (1 if self.digest is None else 2)
+
+    def may_be_quick(self) -> bool:
+        """Whether it can be unpacked by that program: what comes of it is checked by its digest."""
+        if self.unpacked_digest is None or find_program() is None:
+            return False
+        with self.members.opened(self.name) as part, reading(self.path):
+            return part.is_gzip()
+
+    def packed_size(self) -> int | None:
+        """How many bytes it has in the image, where these are compressed."""
+        with self.members.opened(self.name) as part, reading(self.path):
+            return self.size if part.is_packed() else None
+
+
+@dataclass(frozen=True)
+class Image:
+    """The layers of an image, the lowest first, its configuration with the platform in it, and its names."""
+
+    layers: list[ImageLayer]
+    configuration: Document
+    names: tuple[str, ...] = ()
+    annotations: Mapping[str, str] = field(default_factory=dict)  # but for those of the base, which new layers haven't
+
+
+@dataclass(frozen=True)
+class _Choice:
+    """One of the images that are there."""
+
+    platform: str
+    names: dict[str, None]
+
+    def matches(self, platform: str | None, tag: str | None) -> bool:
+        """Whether it is meant by what a person asked for."""
+        is_platform = platform is None or self.platform == platform or self.platform.startswith(platform + "/")
+        return is_platform and (tag is None or not spellings(tag).isdisjoint(self.names))
+
+    def __str__(self) -> str:
+        return " ".join([self.platform, *self.names])
+
+
+@dataclass(frozen=True)
+class _InLayout(_Choice):
+    """One of a layout: its manifest, the name of that, and what the index says of its platform."""
+
+    manifest: Manifest
+    name: str
+    stated: Mapping[str, Json]
+
+
+@dataclass(frozen=True)
+class _Saved(_Choice):
+    """One of those that `docker save` wrote."""
+
+    image: SavedImage
+
+
+_C = TypeVar("_C", bound=_Choice)
+
+
+def spellings(tag: str) -> set[str]:
+    """A name, and what docker and skopeo make of it where a part is left out."""
+    whole = tag if ":" in tag.rpartition("/")[2] else f"{tag}:latest"
+    return {tag, whole, f"docker.io/{whole}", f"docker.io/library/{whole}"}
+
+
+def image_place(word: str, tag: str | None) -> tuple[str, str | None]:
+    """The path and the tag of an image that a word names, as a path or as skopeo has it: `oci:PATH:TAG`."""
+    transport, colon, rest = word.partition(":")
+    if not colon or transport not in TRANSPORTS or os.path.lexists(word):
+        return word, tag
+    path, _, own = (rest, "", "") if transport == "dir" else rest.partition(":")
+    if own and tag not in (None, own):
+        raise UsageFault(f"{word} and --tag name two images")
+    return path, own or tag
+
+
+@contextlib.contextmanager
+def opened_image(path: str, platform: str | None, tag: str | None) -> Iterator[Image]:
+    """The one image at a path that is meant."""
+    with opened_members(path) as members:
+        documents = _Documents(members)
+        if members.size("index.json") is not None:
+            yield _Layout(documents).image(platform, tag)
+        elif members.size("manifest.json") is not None:
+            manifest = documents.read("manifest.json")
+            if isinstance(manifest, dict):
+                yield _copied_image(documents, manifest)
+            else:
+                yield _saved_image(documents, manifest, platform, tag)
+        else:
+            raise cannot_read(
+                members.path,
+                "it is no image: neither index.json (OCI image layout) nor manifest.json (docker save) is there",
+            )
+
+
+class _Documents:
+    """The JSON documents of an image, within a bound."""
+
+    def __init__(self, members: Members) -> None:
+        self.members = members
+        self._left = MAX_DOCUMENTS
+
+    def path(self, name: str) -> str:
+        """A member as a person sees it."""
+        return f"{self.members.path}/{name}"
+
+    def read(self, name: str, descriptor: Descriptor | None = None, digest: Digest | None = None) -> Json:
+        """The value of a document whose bytes are those that a descriptor says, or a digest."""
+        digest = descriptor.digest if descriptor else digest
+        with self.members.opened(name) as part, reading(self.path(name)):
+            data = io.BufferedReader(part).read(MAX_BYTES + 1)
+        self._left -= len(data)
+        if len(data) > MAX_BYTES:
+            raise cannot_read(self.path(name), f"it has over {MAX_BYTES:,} bytes")
+        if self._left < 0:
+            raise cannot_read(self.members.path, f"its manifests and indexes have over {MAX_DOCUMENTS:,} bytes")
+        if digest and hashlib.new(digest[0], data).hexdigest() != digest[1]:
+            raise _wrong_bytes(self.path(name), digest)
+        if descriptor and descriptor.size != len(data):
+            raise _wrong_size(self.path(name), descriptor)
+        return self.decoded(name, parse, data)
+
+    def decoded(self, name: str, decode: Callable[..., _T], *values: Any) -> _T:
+        """What a document, or the value of one, is decoded into."""
+        try:
+            return decode(*values)
+        except Misshapen as problem:
+            raise cannot_read(self.path(name), str(problem)) from None
+
+    def configuration(
+        self, name: str, descriptor: Descriptor | None, digest: Digest | None, count: int,
+    ) -> tuple[Document, list[Digest | None]]:
+        """An image's configuration, and the digests of its layers' unpacked bytes where it has them."""
+        value = self.read(name, descriptor, digest)
+        try:
+            require_configuration(value)
+        except Misshapen as problem:
+            raise no_configuration(self.path(name), problem) from None
+        digests = self.decoded(name, layer_digests, value)
+        if digests is None:
+            return value, [None] * count
+        if len(digests) != count:
+            raise cannot_read(
+                self.path(name), f"it has digests of {len(digests)} layers, and the manifest has {count}"
+            )
+        return value, list(digests)
+
+    def layer(self, name: str, descriptor: Descriptor | None, unpacked: Digest | None) -> ImageLayer:
+        """A layer that is there, of the size that is stated."""
+        there = self.members.size(name)
+        if there is None:
+            raise cannot_read(self.path(name), "the image has no such file")
+        if descriptor is None:
+            return ImageLayer(name, self.path(name), self.members, there, None, unpacked)
+        if descriptor.size != there:
+            raise _wrong_size(self.path(name), descriptor)
+        self._require_packing(name, descriptor.media_type)
+        return ImageLayer(name, self.path(name), self.members, there, descriptor.digest, unpacked)
+
+    def _require_packing(self, name: str, media_type: str | None) -> None:
+        """Refuses a layer that isn't packed as its media type says, where that says it."""
+        said = None if media_type is None else LAYER_TYPES[media_type]
+        with self.members.opened(name) as part, reading(self.path(name)):
+            packing = part.packing()
+        if said not in (None, packing):
+            told = [word or "plain" for word in (said, packing)]
+            raise cannot_read(self.path(name), f"its media type says {told[0]}, and its bytes are {told[1]}")
+
+
+def _wrong_bytes(path: str, digest: Digest) -> ReadFault:
+    return cannot_read(path, f"its bytes aren't those of the digest {':'.join(digest)}")
+
+
+def _wrong_size(path: str, descriptor: Descriptor) -> ReadFault:
+    return cannot_read(path, f"it has another size than the {descriptor.size:,} bytes that its descriptor says")
+
+
+def _require_digest(layer: ImageLayer, part: Slice, digest: Digest) -> None:
+    progress = Progress(f"checking bytes of {layer.name[-20:]}")
+    with reading(layer.path):
+        found = digest_of(Watched(part, progress), digest[0])
+    progress.end()
+    if found != digest[1]:
+        raise _wrong_bytes(layer.path, digest)
+
+
+def _blob_in_layout(digest: Digest) -> str:
+    return f"blobs/{digest[0]}/{digest[1]}"
+
+
+class _Layout:
+    """An OCI image layout."""
+
+    def __init__(self, documents: _Documents) -> None:
+        self._documents = documents
+        self._members = documents.members
+        self._choices: dict[tuple[Digest, str | None], _InLayout] = {}
+        self._descriptors: dict[Digest, Descriptor] = {}
+        self._visited: set[tuple[Digest, tuple[str, ...]]] = set()
+
+    def image(self, platform: str | None, tag: str | None) -> Image:
+        """The one image that is meant."""
+        index = self._documents.decoded("index.json", index_of, self._documents.read("index.json"))
+        self._visit(index, "index.json", (), {}, 0)
+        chosen = _one_of(self._members.path, list(self._choices.values()), platform, tag)
+        return replace(_image(self._documents, chosen, _blob_in_layout), names=tuple(chosen.names))
+
+    def _visit(
+        self, index: Index, name: str, names: tuple[str, ...], platform: Mapping[str, Json], depth: int
+    ) -> None:
+        """Finds the images of an index, and of those inside of it, whose manifests are there."""
+        if depth > _MAX_DEPTH:
+            raise cannot_read(self._documents.path(name), "an index inside too many others")
+        for descriptor in index.manifests:
+            notes = descriptor.annotations
+            own = tuple(notes[key] for key in (REF_NAME, _FULL_NAME) if key in notes) or names
+            if _ATTESTATION in notes:
+                continue
+            self._require_same(descriptor)
+            if (descriptor.digest, own) in self._visited:
+                continue
+            self._visited.add((descriptor.digest, own))
+            if self._members.size(_blob_in_layout(descriptor.digest)) is not None:
+                self._take(descriptor, own, platform_of(descriptor.platform) or platform, depth)
+
+    def _take(
+        self, descriptor: Descriptor, names: tuple[str, ...], stated: Mapping[str, Json], depth: int
+    ) -> None:
+        """An image, or an index inside of the one that is visited; whatever else is there isn't read."""
+        if descriptor.media_type not in (None, *INDEX_TYPES, *MANIFEST_TYPES):
+            return
+        name, told = _blob_in_layout(descriptor.digest), platform_text(stated)
+        before = self._choices.get((descriptor.digest, told))
+        if before:
+            before.names.update(dict.fromkeys(names))
+            return
+        value = self._documents.read(name, descriptor)
+        document = self._documents.decoded(name, document_of, value, descriptor.media_type)
+        if isinstance(document, Index):
+            self._visit(document, name, names, stated, depth + 1)
+        else:
+            self._choices[descriptor.digest, told] = _InLayout(
+                told or self._platform(document), dict.fromkeys(names), document, name, stated
+            )
+
+    def _require_same(self, descriptor: Descriptor) -> None:
+        """Refuses descriptors of one digest that differ in size or media type."""
+        first = self._descriptors.setdefault(descriptor.digest, descriptor)
+        if (first.size, first.media_type) != (descriptor.size, descriptor.media_type):
+            name = _blob_in_layout(descriptor.digest)
+            raise cannot_read(self._documents.path(name), "its descriptors differ in size or media type")
+
+    def _platform(self, manifest: Manifest) -> str:
+        """The platform that an image's configuration names."""
+        name = _blob_in_layout(manifest.configuration.digest)
+        if self._members.size(name) is None:
+            return "unknown"
+        return platform_text(self._documents.read(name, manifest.configuration)) or "unknown"
+
+
+def _image(documents: _Documents, chosen: _InLayout, blob: BlobName) -> Image:
+    """The image of a manifest, whose layers and configuration are members of these names."""
+    manifest = chosen.manifest
+    _require_types(documents, chosen.name, manifest)
+    _require_count(documents, len(manifest.layers))
+    configuration, unpacked = documents.configuration(
+        blob(manifest.configuration.digest), manifest.configuration, None, len(manifest.layers)
+    )
+    return Image(
+        [documents.layer(blob(own.digest), own, inner) for own, inner in zip(manifest.layers, unpacked)],
+        with_platform(configuration, chosen.stated),
+        annotations={key: text for key, text in manifest.annotations.items() if not key.startswith(_BASE)},
+    )
+
+
+def _require_types(documents: _Documents, name: str, manifest: Manifest) -> None:
+    """Refuses a configuration and layers of media types that no image has."""
+    own = manifest.configuration.media_type
+    if own not in (None, *CONFIGURATION_TYPES):
+        raise cannot_read(documents.path(name), f"it is no container image: its configuration is of type {own}")
+    for layer in manifest.layers:
+        if layer.media_type not in (None, *LAYER_TYPES):
+            raise cannot_read(documents.path(name), f"it has a layer of type {layer.media_type}, which isn't read")
+
+
+def _require_count(documents: _Documents, count: int) -> None:
+    if not 1 <= count <= rules.MAX_LAYERS:
+        raise cannot_read(documents.members.path, f"it has {count} layers, not 1 to {rules.MAX_LAYERS}")
+
+
+def _one_of(path: str, choices: Sequence[_C], platform: str | None, tag: str | None) -> _C:
+    """The one image that is meant, or a fault that lists those that are there."""
+    fitting = [choice for choice in choices if choice.matches(platform, tag)]
+    if len(fitting) == 1:
+        return fitting[0]
+    asked = " and ".join([f"{word} {value}" for word, value in (("--tag", tag), ("--platform", platform)) if value])
+    raise _not_one(path, list(map(str, choices)), f"none of them is {asked}" if not fitting else None)
+
+
+def _not_one(path: str, there: list[str], none: str | None) -> ReadFault:
+    if not there:
+        return cannot_read(path, "it has no image whose manifest is there")
+    which = none or "say which by --platform or --tag"
+    more = "; .." if len(there) > _MOST_TOLD else ""
+    return cannot_read(path, f"it has {len(there)} images ({'; '.join(there[:_MOST_TOLD])}{more}); {which}")
+
+
+def _copied_image(documents: _Documents, value: Json) -> Image:
+    """The image in a folder of skopeo's `dir:`, whose blobs have their digits as names."""
+    document = documents.decoded("manifest.json", document_of, value, None)
+    if isinstance(document, Index):
+        raise cannot_read(documents.members.path, "it is an index in the form dir:; copy one image of it")
+    chosen = _InLayout("", {}, document, "manifest.json", {})
+    return _image(documents, chosen, lambda digest: digest[1])
+
+
+def _saved_image(documents: _Documents, value: Json, platform: str | None, tag: str | None) -> Image:
+    """The one image that is meant of those that `docker save` wrote."""
+    choices = [
+        _Saved(platform_text(documents.read(it.configuration)) or "unknown", dict.fromkeys(it.names), it)
+        for it in documents.decoded("manifest.json", saved_images_of, value)
+    ]
+    chosen = _one_of(documents.members.path, choices, platform, tag)
+    image = chosen.image
+    _require_count(documents, len(image.layers))
+    digits = re.search(r"([0-9a-f]{64})(\.json)?\Z", image.configuration)
+    configuration, digests = documents.configuration(
+        image.configuration, None, ("sha256", digits[1]) if digits else None, len(image.layers)
+    )
+    return Image(
+        [documents.layer(name, None, digest) for name, digest in zip(image.layers, digests)],
+        configuration, tuple(chosen.names),
+    )

@@ -1,0 +1,212 @@
+"""The files of an image, in a folder or in a tar archive, and never one outside of it."""
+
+import contextlib
+import io
+import os
+import posixpath
+import stat
+import tempfile
+from collections.abc import Hashable, Iterator
+from typing import Protocol
+
+from ..common.budgets import Budget, Counter, TooMuch
+from ..common.contents import PIECE, is_zeros, write_all
+from ..common.faults import TarFault, cannot_read, reading, writing
+from ..common.open_dirs import READ_WHERE_IT_LEADS
+from ..common.streams import HEAD_BYTES, SeekingSlice, Slice, Source, is_packed, unpacked
+from ..tar.headers import HARD_LINK, REGULAR_TYPES, SYMLINK
+from ..tar.reader import TarReader
+
+STANDARD_INPUT = "-"
+_MAX_HEADERS = 100_000
+_MAX_NAME = 4_095  # bytes, as Linux has them
+_MAX_NAMES = 1 << 24  # bytes of all names and of what links lead to
+_MAX_LINKS = 8
+
+
+class Members(Protocol):
+    """The files of an image by their names."""
+
+    path: str
+
+    def size(self, name: str) -> int | None:
+        """The size of a file, or nothing if there is none of this name."""
+
+    def identity(self, name: str) -> Hashable:
+        """The same for two names of one file."""
+
+    def opened(self, name: str) -> contextlib.AbstractContextManager[Slice]:
+        """The bytes of a file while it is open; fails if there is none."""
+
+
+@contextlib.contextmanager
+def opened_members(path: str) -> Iterator[Members]:
+    """The files of the image at a path, or of the archive that standard input gives."""
+    is_input = path == STANDARD_INPUT
+    told = "standard input" if is_input else path
+    with reading(told):
+        is_folder = not is_input and stat.S_ISDIR(os.stat(path).st_mode)
+    if is_folder:
+        yield _Folder(path)
+        return
+    with contextlib.ExitStack() as files:
+        with reading(told):
+            file = os.dup(0) if is_input else os.open(path, os.O_RDONLY | os.O_CLOEXEC)
+            files.callback(os.close, file)
+            status = os.fstat(file)
+        is_pipe = stat.S_ISFIFO(status.st_mode) or stat.S_ISSOCK(status.st_mode)
+        if not is_pipe and not stat.S_ISREG(status.st_mode):
+            raise cannot_read(told, "it is neither a folder, nor a regular file, nor a pipe")
+        if is_pipe or is_packed(os.pread(file, HEAD_BYTES, 0)):
+            source = io.FileIO(file, closefd=False) if is_pipe else Slice(file, 0, status.st_size)
+            file = _copied(source, told, files, may_wait=is_pipe)
+        yield _Archive(file, told)
+
+
+def _copied(source: io.RawIOBase, told: str, files: contextlib.ExitStack, *, may_wait: bool) -> int:
+    """What a pipe gives, or a packed archive, unpacked in an open file without a name, to be read here and there."""
+    with writing(tempfile.gettempdir()):
+        copy = files.enter_context(tempfile.TemporaryFile(buffering=0)).fileno()
+    with unpacked(source, told, may_wait=may_wait) as stream:
+        with writing(tempfile.gettempdir()):
+            _write_with_holes(copy, iter(lambda: _read(stream, told), b""))
+    return copy
+
+
+def _write_with_holes(file: int, pieces: Iterator[bytes]) -> None:
+    """Writes all pieces, and passes over those of zeros: a small file may unpack to gigabytes of them."""
+    for piece in pieces:
+        if is_zeros(piece):
+            os.lseek(file, len(piece), os.SEEK_CUR)
+        else:
+            write_all(file, piece)
+    os.truncate(file, os.lseek(file, 0, os.SEEK_CUR))
+
+
+def _read(stream: Source, told: str) -> bytes:
+    with reading(told):
+        return stream.read(PIECE)
+
+
+def _inner(name: str) -> str | None:
+    """A name as a way inside the image, or nothing if it leads out."""
+    way = posixpath.normpath(name)
+    try:
+        os.fsencode(way)
+    except UnicodeEncodeError:
+        return None
+    return None if way.startswith(("/", "../")) or way in ("..", ".") or "\0" in way else way
+
+
+def _told(name: bytes) -> str:
+    """A name in an archive as a text, where the kernel has names that are as long."""
+    if len(name) > _MAX_NAME:
+        raise TarFault(f"a name of over {_MAX_NAME:,} bytes")
+    return os.fsdecode(name)
+
+
+class _Folder:
+    """An image in a folder."""
+
+    def __init__(self, path: str) -> None:
+        self.path = path
+        self._root = os.path.realpath(path)
+
+    def size(self, name: str) -> int | None:
+        """The size of a file that is inside of the folder, through links too."""
+        way = self._way(name)
+        return None if way is None else os.stat(way).st_size
+
+    def identity(self, name: str) -> Hashable:
+        """The file's place in its file system."""
+        status = os.stat(self._way(name) or "")
+        return status.st_dev, status.st_ino
+
+    @contextlib.contextmanager
+    def opened(self, name: str) -> Iterator[Slice]:
+        """The bytes of a file."""
+        way = self._way(name)
+        if way is None:
+            raise cannot_read(f"{self.path}/{name}", "the image has no such file")
+        with reading(f"{self.path}/{name}"):
+            file = os.open(way, READ_WHERE_IT_LEADS)
+        try:
+            with reading(f"{self.path}/{name}"):
+                size = os.fstat(file).st_size
+            yield Slice(file, 0, size)
+        finally:
+            os.close(file)
+
+    def _way(self, name: str) -> str | None:
+        inner = _inner(name)
+        if inner is None:
+            return None
+        way = os.path.realpath(os.path.join(self._root, inner))
+        is_inside = os.path.commonpath([way, self._root]) == self._root
+        return way if is_inside and os.path.isfile(way) else None
+
+
+class _Archive:
+    """An image in a tar archive, whose files are found once."""
+
+    def __init__(self, file: int, path: str) -> None:
+        self.path = path
+        self._file = file
+        self._places: dict[str, tuple[int, int]] = {}
+        self._links: dict[str, str] = {}
+        with reading(path):
+            size = os.fstat(file).st_size
+        try:
+            with reading(path):
+                self._find(size)
+        except TarFault as problem:
+            raise cannot_read(path, f"it is no tar archive: {problem}") from None
+        except TooMuch as problem:
+            raise cannot_read(path, str(problem)) from None
+
+    def _find(self, size: int) -> None:
+        """Finds the place of each file. A later one of the same name counts, as where an archive is unpacked."""
+        source = SeekingSlice(self._file, 0, size)
+        archive = TarReader(source, Budget())
+        headers, names = Counter(_MAX_HEADERS, "files in its archive"), Counter(_MAX_NAMES, "bytes of their names")
+        for header in archive:
+            headers.take()
+            names.take(len(header.name) + len(header.target))
+            name = _inner(_told(header.name))
+            if name is None:
+                continue
+            self._places.pop(name, None)
+            self._links.pop(name, None)
+            if archive.is_sparse():
+                raise TarFault(f"{name} is a sparse file in it")
+            if header.type in REGULAR_TYPES:
+                self._places[name] = source.place, header.size
+            elif header.type == SYMLINK:
+                self._links[name] = posixpath.join(posixpath.dirname(name), _told(header.target))
+            elif header.type == HARD_LINK:
+                self._links[name] = _told(header.target)
+
+    def size(self, name: str) -> int | None:
+        """The size of a file."""
+        place = self._place(name)
+        return None if place is None else place[1]
+
+    def identity(self, name: str) -> Hashable:
+        """Where its bytes are."""
+        return self._place(name)
+
+    @contextlib.contextmanager
+    def opened(self, name: str) -> Iterator[Slice]:
+        """The bytes of a file."""
+        place = self._place(name)
+        if place is None:
+            raise cannot_read(f"{self.path}/{name}", "the image has no such file")
+        yield Slice(self._file, *place)
+
+    def _place(self, name: str) -> tuple[int, int] | None:
+        way = _inner(name)
+        for _ in range(_MAX_LINKS):
+            if way is None or way not in self._links:
+                break
+            way = _inner(self._links[way])
+        return None if way is None else self._places.get(way)

@@ -1,0 +1,90 @@
+"""Where a new image goes, and in which form: what the word of `--out` means."""
+
+import re
+import tempfile
+from dataclasses import dataclass
+from enum import Enum, auto
+
+from ..common.faults import UsageFault
+from ..common.outputs import STANDARD_OUTPUT
+
+ARCHIVE_SUFFIX = ".tar"
+_PACKED_SUFFIXES = (".gz", ".tgz", ".zst")
+_PART = r"[a-z0-9]+(?:(?:\.|_|__|-+)[a-z0-9]+)*"
+_HOST = r"[A-Za-z0-9][A-Za-z0-9.-]*(?::[0-9]+)?/"
+_DOCKER_NAME = re.compile(rf"(?:{_HOST})?{_PART}(?:/{_PART})*(:[A-Za-z0-9_][A-Za-z0-9_.-]{{0,127}})?")
+_MAX_DOCKER_NAME = 255
+
+
+class Form(Enum):
+    """The forms of an image in files."""
+
+    LAYOUT = auto()  # a folder: an OCI image layout
+    ARCHIVE = auto()  # the same as one tar archive, with what docker reads too
+    COPY = auto()  # a folder as skopeo's `dir:`
+
+
+TRANSPORTS = {"oci": Form.LAYOUT, "oci-archive": Form.ARCHIVE, "docker-archive": Form.ARCHIVE, "dir": Form.COPY}
+_DOCKER = "docker-archive"
+
+
+@dataclass(frozen=True)
+class Target:
+    """Where a new image goes. `word` is what names it, without a tag."""
+
+    word: str
+    path: str
+    form: Form
+    tag: str | None = None
+    given: str = ""  # the path that a person gave, if it is made elsewhere first
+
+    @property
+    def is_standard_output(self) -> bool:
+        """Whether its bytes go to standard output, and nothing else does."""
+        return self.form is Form.ARCHIVE and self.path == STANDARD_OUTPUT
+
+    @property
+    def told(self) -> str:
+        """Its place as a person named it."""
+        path = self.given or self.path
+        return "standard output" if path == STANDARD_OUTPUT and self.form is Form.ARCHIVE else path
+
+    @property
+    def place(self) -> str:
+        """A path beside which it is made."""
+        return f"{tempfile.gettempdir()}/{STANDARD_OUTPUT}" if self.is_standard_output else self.path
+
+    def docker_names(self, name: str | None) -> list[str]:
+        """The names that docker gives an image of this name: none if it isn't one that docker takes.
+
+        A name without a tag, as in many layouts, is a tag, and only to `docker-archive:` the name of an image.
+        """
+        is_name = name is not None and (":" in name or "/" in name or self.word.startswith(f"{_DOCKER}:"))
+        found = _DOCKER_NAME.fullmatch(name) if is_name and name and len(name) <= _MAX_DOCKER_NAME else None
+        return [] if found is None else [found[0] if found[1] else f"{found[0]}:latest"]
+
+
+def target_of(word: str) -> Target:
+    """What a word means: a path, or as skopeo has it: `oci:PATH:TAG`."""
+    transport, colon, rest = word.partition(":")
+    if not colon or transport not in TRANSPORTS:
+        path = _without_slashes(word)
+        is_archive = path == STANDARD_OUTPUT or path.endswith((ARCHIVE_SUFFIX, *_PACKED_SUFFIXES))
+        return _checked(Target(word, path, Form.ARCHIVE if is_archive else Form.LAYOUT))
+    form = TRANSPORTS[transport]
+    path, _, tag = (rest, "", "") if form is Form.COPY else rest.partition(":")
+    return _checked(Target(f"{transport}:{path}", _without_slashes(path), form, tag or None))
+
+
+def _without_slashes(path: str) -> str:
+    return path.rstrip("/") or path[:1]
+
+
+def _checked(target: Target) -> Target:
+    if target.form is Form.ARCHIVE and target.path.endswith(_PACKED_SUFFIXES):
+        raise UsageFault(
+            f"{target.path}: an archive isn't packed as a whole; name a {ARCHIVE_SUFFIX}, --compress packs its layers"
+        )
+    if target.tag is not None and target.word.startswith(f"{_DOCKER}:") and not target.docker_names(target.tag):
+        raise UsageFault(f"{target.tag} is no name that docker takes")
+    return target

@@ -1,0 +1,86 @@
+"""`unpack`: the layers of an image as manifests and blobs, and its configuration."""
+
+import os
+from dataclasses import dataclass, replace
+
+from ..common.faults import cannot_read
+from ..common.outputs import new_folder, write_text
+from ..model import rules, stacks
+from ..model.blobs import writers
+from ..model.entries import REDIRECT
+from ..model.layer_tree import Held
+from ..model.links import LinkNames, links_path
+from ..model.manifests import has_attribute, write_manifest
+from ..model.merged_tree import MergedTree, write_shown_links
+from ..tar.disk_space import require_room
+from .ahead import NewWriter, layers_read
+from .archives import LayerArchive, Taking
+from .configuration import text_of
+from .images import Image, ImageLayer, image_place, opened_image
+
+
+@dataclass(frozen=True, kw_only=True)
+class UnpackOptions:
+    """What the words of `unpack` say."""
+
+    image: str
+    out: str
+    platform: str | None = None
+    tag: str | None = None
+    skip_unsupported: bool = False
+    overlay_marks: bool = False
+    digests_only: bool = False
+
+
+def unpack(options: UnpackOptions) -> Image:
+    """Writes `l0.json`, the topmost, and so on, the folder `blobs`, and `config.json`. Gives the image.
+
+    If digests are enough there is no folder `blobs`. An image with annotations has them in `annotations.json`.
+    """
+    path, tag = image_place(options.image, options.tag)
+    with opened_image(path, options.platform, tag) as image:
+        unpack_opened(options, image)
+    return image
+
+
+def unpack_opened(options: UnpackOptions, image: Image) -> None:
+    """The same of an image that is open."""
+    if not options.digests_only:
+        # Equal contents are kept once, in one layer and in several, so it isn't known that it takes more.
+        require_room(options.out, options.out, max(layer.size for layer in image.layers))
+    with new_folder(options.out) as stage:
+        with writers(None if options.digests_only else f"{stage}/{stacks.BLOBS}") as new_writer:
+            _unpack_layers(options, image.layers, stage, new_writer)
+        write_text(f"{stage}/{stacks.CONFIG}", [text_of(image.configuration)])
+        if image.annotations:
+            write_text(f"{stage}/{stacks.ANNOTATIONS}", [text_of(image.annotations)])
+
+
+def _unpack_layers(options: UnpackOptions, layers: list[ImageLayer], stage: str, new_writer: NewWriter) -> None:
+    below, writer = MergedTree(), new_writer()
+    taking = Taking(
+        out=options.out, skip_unsupported=options.skip_unsupported, overlay_marks=options.overlay_marks, writer=writer,
+        held=Held(), below=below,
+    )
+    try:
+        with layers_read(layers, taking, stage, new_writer) as kept:
+            _take_layers(layers, replace(taking, kept=kept), stage)
+        write_shown_links(stage, below)
+    finally:
+        writer.close()
+
+
+def _take_layers(layers: list[ImageLayer], taking: Taking, stage: str) -> None:
+    """Writes the manifest of each layer, and its links, and puts it above those below."""
+    written = 0
+    for number, layer in zip(reversed(range(len(layers))), layers):
+        tree = LayerArchive(layer, taking).tree()
+        path, names = f"{stage}/{stacks.layer_name(number)}", LinkNames()
+        write_manifest(path, names.passing(tree.entries()), layer.path)
+        names.write(links_path(path), tree.entries, path)
+        written += os.path.getsize(path)
+        if written > rules.MAX_IMAGE_MANIFESTS:
+            raise cannot_read(
+                layer.path, f"the manifests of the layers have over {rules.MAX_IMAGE_MANIFESTS:,} bytes"
+            )
+        taking.below.cover(tree.entries(), has_attribute(path, [REDIRECT]))

@@ -1,0 +1,292 @@
+"""A layer that is put together from the entries of an archive, in whatever order they come."""
+
+import sys
+from collections.abc import Callable, Iterator, Mapping
+from dataclasses import dataclass, field, replace
+from enum import Enum, auto
+
+from ..common.budgets import Budget, TooMuch
+from . import rules
+from .entries import CHAR, DIRECTORY, IS_OPAQUE, NO_ATTRIBUTES, OPAQUE, OVERLAY, SYMLINK, Entry, Named, is_whiteout
+from .merged_tree import Directory, Node
+
+_IMPLIED_MODE = 0o755
+_ATTRIBUTE_BYTES = 256  # that an attribute takes at most beside its name and value
+RawAttributes = tuple[tuple[bytes, bytes], ...]
+
+
+class Unfit(Exception):
+    """An entry can't be stated in a manifest, or has no place in its layer."""
+
+
+class Blocked(Unfit):
+    """The way to an entry leads through what is no directory."""
+
+
+@dataclass(slots=True)
+class Folder:
+    """A directory. `is_stated` is false if the archive leaves it out and has only what is in it.
+
+    `is_anew` says that its layer had something else in its place first.
+    """
+
+    entry: Entry
+    children: dict[str, "Folder | Entry"] = field(default_factory=dict)
+    whiteouts: dict[str, Entry] = field(default_factory=dict)
+    is_opaque: bool = False
+    is_stated: bool = True
+    is_root: bool = False
+    is_anew: bool = False
+
+    def hides_all(self) -> bool:
+        """Whether nothing that lower layers have in it is shown. The root's mark says nothing."""
+        return self.is_opaque or self.is_anew or (not self.is_root and self.entry.attributes.get(OPAQUE) == IS_OPAQUE)
+
+    def lower(self, under: Directory | None, name: str) -> Node | None:
+        """What lower layers show in this directory by this name, if they show `under` in its place."""
+        is_hidden = under is None or name in self.whiteouts or self.hides_all()
+        return None if is_hidden or under is None else under.children.get(name)
+
+    def says_nothing(self, under: Node | None) -> bool:
+        """Whether it may be left out: it isn't stated, and has nothing in but whiteouts of what isn't there."""
+        hides = bool(self.whiteouts) or self.is_opaque
+        return not (self.is_stated or self.children or (hides and isinstance(under, Directory)))
+
+
+class Gap(Enum):
+    """What is put right once a layer is whole."""
+
+    UNKNOWN = auto()  # a directory that neither this layer nor those below state
+    OVER_OTHER = auto()  # a directory that isn't stated, above a file or a link
+    WHITEOUT = auto()  # a whiteout in no directory
+    ANEW = auto()  # a directory in place of something else of its layer, above a directory
+
+
+class Held:
+    """What the layers of an image hold in memory, within bounds."""
+
+    def __init__(self, budget: Budget | None = None) -> None:
+        self.budget = budget or Budget()
+        self._entries = 0
+        self._bytes = 0
+        self._sets: dict[RawAttributes, Attributes] = {}
+        self._links = 0
+
+    def new_link(self) -> int:
+        """A number for the names of one file."""
+        self._links += 1
+        return self._links
+
+    def grow(self) -> None:
+        """One entry more."""
+        self._entries += 1
+        if self._entries > rules.MAX_IMAGE_ENTRIES:
+            raise TooMuch(f"the image's layers have over {rules.MAX_IMAGE_ENTRIES:,} entries")
+
+    def weigh(self, size: int) -> None:
+        """So many bytes of text more."""
+        self._bytes += size
+        if self._bytes > rules.MAX_IMAGE_TEXT:
+            raise TooMuch(f"names, targets and attributes of the image take over {rules.MAX_IMAGE_TEXT:,} bytes")
+
+    def attributes(self, key: RawAttributes, make: Callable[[], "Attributes"]) -> "Attributes":
+        """The attributes of records that are the same as before, or new ones."""
+        found = self._sets.get(key)
+        if found is None:
+            self.weigh(sum(_ATTRIBUTE_BYTES + 2 * (len(name) + len(value)) for name, value in key))
+            found = self._sets[key] = make()
+        return found
+
+
+@dataclass(frozen=True, slots=True)
+class Attributes:
+    """Attributes as an entry has them, and how many marks were left out."""
+
+    kept: Mapping[str, bytes]
+    marks: int
+
+
+class LayerTree:
+    """Entries by path, which they don't hold themselves. A later entry of a path takes the place of an earlier one.
+
+    A whiteout hides what lower layers have, not what the layer itself has. So beside an entry of the
+    same path it says nothing more than that a directory there is opaque.
+    """
+
+    def __init__(self, held: Held) -> None:
+        self.root = _implied()
+        self.root.is_root = True
+        self._held = held
+        self._count = 1
+        self._way: list[str] = []
+        self._last = self.root
+
+    def put(self, names: list[str], entry: Entry) -> None:
+        """Puts an entry in. A directory in place of another one keeps what is in it."""
+        if not names:
+            if entry.kind != DIRECTORY:
+                raise Unfit("the root is no directory")
+            self.root.entry, self.root.is_stated = entry, True
+            return
+        *way, name = names
+        folder = self.folder(way)
+        before = folder.children.get(name)
+        if isinstance(before, Folder):
+            if entry.kind == DIRECTORY:
+                before.entry, before.is_stated = entry, True
+                return
+            self._cut(before)
+        elif before is None and name not in folder.whiteouts:
+            self._grow()
+        self._weigh(name, entry)
+        is_anew = isinstance(before, Entry)
+        folder.children[name] = Folder(entry, is_anew=is_anew) if entry.kind == DIRECTORY else entry
+
+    def put_whiteout(self, names: list[str], whiteout: Entry) -> None:
+        """Hides what lower layers have at a path."""
+        *way, name = names
+        folder = self.folder(way)
+        if name not in folder.children and name not in folder.whiteouts:
+            self._grow()
+        self._weigh(name, whiteout)
+        folder.whiteouts[name] = whiteout
+
+    def put_opaque(self, names: list[str]) -> None:
+        """Hides all that lower layers have below a directory."""
+        self.folder(names).is_opaque = True
+
+    def folder(self, names: list[str]) -> Folder:
+        """A directory. Those that the archive leaves out are made."""
+        if names == self._way:
+            return self._last
+        folder = self.root
+        for depth, name in enumerate(names, 1):
+            found = folder.children.get(name)
+            if found is None:
+                if name not in folder.whiteouts:
+                    self._grow()
+                self._held.weigh(sys.getsizeof(name))
+                self._held.budget.unstated.take()
+                found = folder.children[name] = _implied()
+            elif not isinstance(found, Folder):
+                sort = "the symlink" if found.kind == SYMLINK else "what is no directory,"
+                raise Blocked(f"its path leads through {sort} /{'/'.join(names[:depth])}")
+            folder = found
+        self._way, self._last = names, folder
+        return folder
+
+    def file_at(self, names: list[str], below: Directory | None, with_whiteouts: bool = False) -> Entry | None:
+        """What isn't a directory at a path: of this layer as far as it has come, or of what is below it."""
+        here: Folder | None = self.root
+        for name in names[:-1]:
+            under = here.lower(below, name) if here else below.children.get(name) if below else None
+            inner = here.children.get(name) if here else None
+            if isinstance(inner, Entry):
+                return None
+            here, below = inner, under if isinstance(under, Directory) else None
+        name = names[-1]
+        found: Folder | Node | None = here.children.get(name) if here else None
+        if found is None:
+            found = here.lower(below, name) if here else below.children.get(name) if below else None
+        if not isinstance(found, Entry) or (is_whiteout(found) and not with_whiteouts):
+            return None
+        return found
+
+    def settle(self, below: Directory | None, tell: Callable[[Gap, str], None]) -> None:
+        """Gives directories that the archive leaves out what the layers below show there.
+
+        If these show nothing, whiteouts by themselves make no directory. An opaque root, which overlayfs
+        hasn't, becomes whiteouts of what is below.
+        """
+        self._settle(self.root, below, "", tell)
+        if self.root.is_opaque:
+            self.root.is_opaque = False
+            for name in below.children if below else ():
+                self.put_whiteout([name], whiteout())
+
+    def _settle(
+        self, folder: Folder, below: Directory | None, path: str, tell: Callable[[Gap, str], None]
+    ) -> None:
+        inner = [(name, child) for name, child in folder.children.items() if isinstance(child, Folder)]
+        for name, child in inner:
+            under = folder.lower(below, name)
+            if child.is_anew and isinstance(under, Directory):
+                child.is_opaque = True
+                tell(Gap.ANEW, f"{path}/{name}")
+            self._settle(child, under if isinstance(under, Directory) else None, f"{path}/{name}", tell)
+            if child.says_nothing(under):
+                self._drop(folder, name, child)
+                for hidden in [*child.whiteouts, *([""] if child.is_opaque else [])]:
+                    tell(Gap.WHITEOUT, f"{path}/{name}/{hidden}")
+            elif not child.is_stated and isinstance(under, Entry):
+                tell(Gap.OVER_OTHER, f"{path}/{name}")
+        if not folder.is_stated:
+            if below is not None:
+                self._held.budget.attributes.take(len(below.entry.attributes))
+                folder.entry = _shown_directory(below.entry)
+            elif folder.children and not folder.is_root:
+                tell(Gap.UNKNOWN, path or "/")
+
+    def _drop(self, parent: Folder, name: str, folder: Folder) -> None:
+        """Takes a directory away with the whiteouts in it."""
+        self._cut(folder)
+        del parent.children[name]
+        if name not in parent.whiteouts:
+            self._count -= 1
+
+    def entries(self) -> Iterator[Named]:
+        """All entries with their paths, in path order."""
+        yield "/", self.root.entry
+        levels = [("", _sorted_names(self.root), self.root)]
+        while levels:
+            path, names, folder = levels[-1]
+            name = next(names, None)
+            if name is None:
+                levels.pop()
+                continue
+            child = folder.children.get(name) or folder.whiteouts[name]
+            if isinstance(child, Entry):
+                yield f"{path}/{name}", child
+                continue
+            if child.is_opaque or name in folder.whiteouts:
+                child.entry.attributes = {**child.entry.attributes, OPAQUE: IS_OPAQUE}
+            yield f"{path}/{name}", child.entry
+            levels.append((f"{path}/{name}", _sorted_names(child), child))
+
+    def _cut(self, folder: Folder) -> None:
+        """Counts what is in a directory out."""
+        self._count -= _size(folder) - 1
+        self._way, self._last = [], self.root
+
+    def _grow(self) -> None:
+        self._held.grow()
+        self._count += 1
+        if self._count > rules.MAX_ENTRIES:
+            raise TooMuch(f"the layer has over {rules.MAX_ENTRIES:,} entries")
+
+    def _weigh(self, name: str, entry: Entry) -> None:
+        self._held.weigh(sys.getsizeof(name) + (sys.getsizeof(entry.target) if entry.target else 0))
+
+
+def whiteout(uid: int = 0, gid: int = 0, mtime_ns: int = 0) -> Entry:
+    """A whiteout as the kernel makes it."""
+    return Entry("", CHAR, 0, uid, gid, mtime_ns)
+
+
+def _implied() -> Folder:
+    return Folder(Entry("", DIRECTORY, _IMPLIED_MODE), is_stated=False)
+
+
+def _shown_directory(entry: Entry) -> Entry:
+    """A directory as lower layers show it: all but the overlay's marks."""
+    attributes = {name: value for name, value in entry.attributes.items() if not name.startswith(OVERLAY)}
+    return replace(entry, path="", attributes=attributes or NO_ATTRIBUTES, link=0)
+
+
+def _sorted_names(folder: Folder) -> Iterator[str]:
+    return iter(sorted(folder.children.keys() | folder.whiteouts.keys() if folder.whiteouts else folder.children))
+
+
+def _size(folder: Folder) -> int:
+    inner = sum(_size(child) if isinstance(child, Folder) else 1 for child in folder.children.values())
+    return 1 + inner + len(folder.whiteouts.keys() - folder.children.keys())

@@ -1,0 +1,244 @@
+"""What layers show together, and the file of which layer is at each path: put together from the lowest layer up.
+
+What layers show at several places, by redirects, is held once, and each node counts its uses. Only if a layer has
+redirects, or something in what an earlier one's repeat, the directories that it states are copied, within a bound.
+"""
+
+from collections.abc import Callable, Iterable, Iterator, Mapping, Sequence
+from dataclasses import dataclass, field
+
+from ..common.faults import ReadFault
+from . import rules, stacks
+from .entries import DIRECTORY, REDIRECT, Entry, Named, is_opaque, is_whiteout
+from .links import count_links
+
+MAX_COPIES = 1 << 24
+
+
+@dataclass(slots=True, eq=False)
+class Directory:
+    """A directory as layers show it, with the entry of the topmost one that states it."""
+
+    entry: Entry
+    children: dict[str, "Node"] = field(default_factory=dict)
+    uses: int = 0
+
+
+@dataclass(slots=True, eq=False)
+class LayerFile:
+    """A file of a layer, with all its names there."""
+
+    layer: int
+    path: str  # the first of its names
+    size: int
+    blob: bytes = b""  # the digest of its contents, if it has any
+    is_metacopy: bool = False
+    data: "LayerFile | None" = None  # of a metacopy file: the file whose contents it shows
+    uses: int = 0
+    hidden_by: int | None = None  # the layer with which it went, if nothing uses it
+
+    def contents(self) -> "LayerFile | None":
+        """The file whose contents are shown at this one's place; none if they are missing."""
+        return self.data if self.is_metacopy else self
+
+
+Node = Directory | LayerFile | Entry
+LeafOf = Callable[[str, Entry], LayerFile | Entry]  # what stands in the tree for an entry that is no directory
+
+
+def _entry_itself(_: str, entry: Entry) -> Entry:
+    return entry
+
+
+class MergedTree:
+    """What the layers so far show. Data-only layers, the topmost first, are maps from paths to files."""
+
+    def __init__(self, data_layers: Sequence[Mapping[str, LayerFile]] = ()) -> None:
+        self.root: Directory | None = None  # none before the first layer
+        self._data_layers = data_layers
+        self._room = MAX_COPIES
+
+    def cover(
+        self, entries: Iterable[Named], has_redirects: bool, number: int = 0, leaf_of: LeafOf = _entry_itself,
+    ) -> None:
+        """Puts a layer on top, of this number; its entries come in path order."""
+        below = self.root
+        if has_redirects and below is not None:
+            below.uses += 1  # what redirects lead to stays as it is until the layer is on top
+        rest = iter(entries)
+        covering = _Covering(number, next(rest)[1], below, self._data_layers, self._room)
+        for path, entry in rest:
+            covering.put(path, entry, leaf_of)
+        self.root, self._room = covering.root, covering.room
+        self.root.uses = 1
+        if below is not None and self.root is not below:
+            below.uses = 1
+            covering.release(below)
+
+    def nodes(self) -> Iterator[tuple[str, Node]]:
+        """All paths with what stands there, in path order."""
+        if self.root is None:
+            return
+        yield "/", self.root
+        levels = [("", _sorted_children(self.root))]
+        while levels:
+            path, children = levels[-1]
+            found = next(children, None)
+            if found is None:
+                levels.pop()
+                continue
+            inner, node = f"{path}/{found[0]}", found[1]
+            yield inner, node
+            if isinstance(node, Directory):
+                levels.append((inner, _sorted_children(node)))
+
+    def entries(self) -> Iterator[Named]:
+        """The entries that stand in it."""
+        for path, node in self.nodes():
+            if not isinstance(node, LayerFile):
+                yield path, node.entry if isinstance(node, Directory) else node
+
+
+def write_shown_links(folder: str, tree: MergedTree) -> None:
+    """Writes the names that all layers of a stack show together as one file."""
+    count_links(tree.entries()).write(f"{folder}/{stacks.SHOWN_LINKS}", tree.entries)
+
+
+def _sorted_children(folder: Directory) -> Iterator[tuple[str, Node]]:
+    return iter(sorted(folder.children.items(), key=lambda item: item[0]))
+
+
+@dataclass(slots=True)
+class _Open:
+    """A directory of the layer that is put on top, and what those below show in its place."""
+
+    path: str  # empty of the root
+    folder: Directory
+    lower: Directory | None
+
+    def lower_at(self, name: str) -> Node | None:
+        """What those below show in it."""
+        return None if self.lower is None else self.lower.children.get(name)
+
+
+class _Covering:
+    """One layer on its way onto those below."""
+
+    def __init__(
+        self, number: int, root: Entry, below: Directory | None, data_layers: Sequence[Mapping[str, LayerFile]],
+        room: int,
+    ) -> None:
+        self._number = number
+        self._below = below
+        self._data_layers = data_layers
+        self.room = room  # entries of directories that may be copied yet
+        self.root = self._over(root, below, below)
+        self._open = [_Open("", self.root, below)]
+
+    def put(self, path: str, entry: Entry, leaf_of: LeafOf) -> None:
+        """Puts in the next entry, in path order."""
+        above, _, name = path.rpartition("/")
+        while self._open[-1].path != above:
+            self._open.pop()
+        place = self._open[-1]
+        if is_whiteout(entry):
+            hidden = place.folder.children.pop(name, None)
+            if hidden is not None:
+                self.release(hidden)
+        elif entry.kind == DIRECTORY:
+            lower = None if is_opaque(entry) else self._next(entry, place, name)
+            lower = lower if isinstance(lower, Directory) else None
+            folder = self._over(entry, place.folder.children.get(name), lower)
+            self._place(place.folder, name, folder)
+            self._open.append(_Open(path, folder, lower))
+        else:
+            leaf = leaf_of(path, entry)
+            if isinstance(leaf, LayerFile) and leaf.is_metacopy:
+                leaf.data = self._data(entry, place, name)
+            self._place(place.folder, name, leaf)
+
+    def _next(self, entry: Entry, place: _Open, name: str) -> Node | None:
+        """What those below show at the next path of an entry's walk."""
+        value = entry.attributes.get(REDIRECT)
+        if value is None:
+            return place.lower_at(name)
+        names = read_redirect(value)
+        if names is None:
+            return None
+        if isinstance(names, str):
+            return place.lower_at(names)
+        found: Node | None = self._below
+        for inner in names:
+            found = found.children.get(inner) if isinstance(found, Directory) else None
+        return found
+
+    def _data(self, entry: Entry, place: _Open, name: str) -> LayerFile | None:
+        """The file with the data of a metacopy file, which is in use from now on."""
+        found = self._next(entry, place, name)
+        names = read_redirect(entry.attributes.get(REDIRECT, b""))
+        data = found.contents() if isinstance(found, LayerFile) else None
+        if found is None and isinstance(names, list):
+            path = "/" + "/".join(names)
+            data = next((layer[path] for layer in self._data_layers if path in layer), None)
+        if data is not None:
+            data.uses += 1
+        return data
+
+    def _place(self, folder: Directory, name: str, node: Node) -> None:
+        before = folder.children.get(name)
+        if before is node:
+            return
+        _use(node)
+        folder.children[name] = node
+        if before is not None:
+            self.release(before)
+
+    def _over(self, entry: Entry, before: Node | None, lower: Directory | None) -> Directory:
+        """The directory that is over what those below show in its place: the same if nothing else uses it."""
+        if lower is None:
+            return Directory(entry)
+        if lower is before and lower.uses == 1:
+            lower.entry = entry
+            return lower
+        self.room -= len(lower.children)
+        if self.room < 0:
+            raise ReadFault(f"layer {self._number}: what redirects repeat has over {MAX_COPIES:,} entries")
+        for child in lower.children.values():
+            _use(child)
+        return Directory(entry, dict(lower.children))
+
+    def release(self, node: Node) -> None:
+        """Takes one use away from what this layer hides, and from all in it that nothing else uses."""
+        todo = [node]
+        while todo:
+            node = todo.pop()
+            if isinstance(node, Entry):
+                continue
+            node.uses -= 1
+            if node.uses > 0:
+                continue
+            if isinstance(node, Directory):
+                todo.extend(node.children.values())
+            else:
+                node.hidden_by = self._number
+                if node.data is not None:
+                    todo.append(node.data)
+
+
+def _use(node: Node) -> None:
+    if not isinstance(node, Entry):
+        node.uses += 1
+
+
+def read_redirect(value: bytes) -> str | list[str] | None:
+    """What a redirect means: one name beside, the names of a path from the root, or nothing if it is malformed."""
+    try:
+        text = value.decode()
+    except UnicodeDecodeError:
+        return None
+    names = text.removeprefix("/").split("/")
+    if any(map(rules.name_problem, names)):
+        return None
+    if text.startswith("/"):
+        return names
+    return names[0] if len(names) == 1 else None

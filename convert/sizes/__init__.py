@@ -1,0 +1,1 @@
+"""`sizes`: what each layer of an image adds, and its page."""

@@ -1,0 +1,1 @@
+"""squashfs files, by the programs of squashfs-tools-ng."""

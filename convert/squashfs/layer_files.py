@@ -1,0 +1,172 @@
+"""A layer that is one file: a squashfs, or a plain archive of the layer's folder."""
+
+import contextlib
+import os
+import stat
+from collections.abc import Iterator
+from dataclasses import dataclass, field
+from enum import Enum, auto
+
+from ..common.faults import TarFault, cannot_read, reading
+from ..common.omissions import Loss, Losses, ScanLosses
+from ..common.open_dirs import READ_WHERE_IT_LEADS
+from ..common.progress import Progress
+from ..common.streams import Slice, Source, Watched, is_packed, unpacked
+from ..image.archives import LayerArchive, Taking
+from ..model.blobs import Digester, writers
+from ..model.entries import Named
+from ..model.layer_tree import Held, LayerTree, whiteout
+from ..model.links import renumber, write_layer
+from ..model.merged_tree import MergedTree
+from ..tar.headers import BLOCK_BYTES, parse_header
+from . import programs as squashfs
+
+_MOST_CONTENTS = 1 << 34  # bytes of the files of a layer that is small itself
+_MOST_RATIO = 100  # contents beside the size of the file that holds them
+
+
+class Form(Enum):
+    """What a layer is given as."""
+
+    FOLDER = auto()
+    SQUASHFS = auto()
+    ARCHIVE = auto()
+    MANIFEST = auto()
+
+
+def form_of(path: str) -> Form:
+    """The form of the layer at a path, by its first bytes."""
+    with reading(path):
+        file = os.open(path, READ_WHERE_IT_LEADS)
+        try:
+            kind = os.fstat(file).st_mode
+            if stat.S_ISDIR(kind):
+                return Form.FOLDER
+            head = os.pread(file, BLOCK_BYTES, 0) if stat.S_ISREG(kind) else b""
+            may_be_archive = stat.S_ISREG(kind) and (is_packed(head) or _is_header(head))
+        finally:
+            os.close(file)
+    if head.startswith(squashfs.MAGIC):
+        return Form.SQUASHFS
+    if head.lstrip(b" \t\r\n").startswith(b"{"):
+        return Form.MANIFEST
+    if may_be_archive:
+        return Form.ARCHIVE
+    raise cannot_read(path, "it is neither a folder, nor a squashfs, nor a tar archive")
+
+
+def _is_header(block: bytes) -> bool:
+    """Whether an archive may begin with this block. One of zeros is the end of an empty one."""
+    try:
+        parse_header(block)
+    except (TarFault, IndexError):
+        return False
+    return len(block) == BLOCK_BYTES
+
+
+@dataclass(frozen=True, kw_only=True)
+class FileOptions:
+    """Which file of a layer is read, and where its manifest and its contents go."""
+
+    layer: str
+    out: str
+    blobs: str | None
+    userxattr: bool
+    skip_unsupported: bool = False
+    hides_sockets: bool = False  # a whiteout in place of each socket that can't be had, so that none below shows
+
+
+@dataclass(frozen=True)
+class _FileLayer:
+    """A layer in an open file; see `archives.Layer`."""
+
+    path: str
+    form: Form
+    file: int
+    unpacked_digest: None = None
+    sockets: list[str] = field(default_factory=list)
+
+    @property
+    def name(self) -> str:
+        """What it is called in notes."""
+        return self.path
+
+    def is_checked(self) -> bool:
+        """No digest of it is known."""
+        return False
+
+    def identity(self) -> str:
+        """Its place."""
+        return self.path
+
+    def size(self) -> int:
+        """The bytes of the file."""
+        return os.fstat(self.file).st_size
+
+    @contextlib.contextmanager
+    def archive(self, progress: Progress) -> Iterator[Source]:
+        """The bytes of its archive. Those that a program makes of a squashfs aren't counted."""
+        if self.form is Form.ARCHIVE:
+            with unpacked(Watched(Slice(self.file, 0, self.size()), progress), self.path) as stream:
+                yield stream
+            return
+        try:
+            with squashfs.archive_of(self.file, self.path, self.sockets.append) as stream:
+                yield stream
+        except TarFault as problem:
+            raise cannot_read(self.path, f"its squashfs is broken: {problem}") from problem
+
+
+def scan_file(
+    options: FileOptions, form: Form, losses: ScanLosses, links: Iterator[int] | None = None
+) -> Iterator[Named]:
+    """Writes the manifest of a squashfs or an archive, and the contents of its files; gives its entries.
+
+    With numbers for files of several names it is of a stack; see `write_layer`.
+    """
+    with reading(options.layer):
+        file = os.open(options.layer, READ_WHERE_IT_LEADS)
+    try:
+        layer = _FileLayer(options.layer, form, file)
+        tree = _read(layer, options)
+    finally:
+        os.close(file)
+    told = Losses()
+    for path in layer.sockets:
+        told.add(Loss.SOCKET, path)
+        if options.hides_sockets:
+            tree.put(path[1:].split("/"), whiteout())
+    told.tell(layer.name)
+    if links is not None:
+        renumber((entry for _, entry in tree.entries()), links)
+    losses.hard_links += write_layer(options.out, tree.entries, options.layer, links is not None)
+    return tree.entries()
+
+
+def squashfs_tree(path: str, told_as: str, userxattr: bool) -> LayerTree:
+    """The entries of a squashfs that was written here, with the digests of its files."""
+    with reading(told_as):
+        file = os.open(path, READ_WHERE_IT_LEADS)
+    try:
+        layer = _FileLayer(told_as, Form.SQUASHFS, file)
+        taking = Taking(
+            out=told_as, overlay_marks=True, writer=Digester(), held=Held(), below=MergedTree(), is_folder=True,
+            userxattr=userxattr,
+        )
+        return LayerArchive(layer, taking).tree()
+    finally:
+        os.close(file)
+
+
+def _read(layer: _FileLayer, options: FileOptions) -> LayerTree:
+    most = max(_MOST_CONTENTS, _MOST_RATIO * layer.size())
+    with writers(options.blobs) as new_writer:
+        writer = new_writer()
+        try:
+            return LayerArchive(layer, Taking(
+                out=options.blobs or options.out, skip_unsupported=options.skip_unsupported, overlay_marks=True,
+                writer=writer, held=Held(), below=MergedTree(), is_folder=True, userxattr=options.userxattr,
+                most_contents=most,
+            )).tree()
+        finally:
+            writer.close()

@@ -1,0 +1,164 @@
+"""squashfs files, read by `sqfs2tar` and written by `tar2sqfs`, both of squashfs-tools-ng."""
+
+import contextlib
+import io
+import os
+import resource
+import shutil
+import signal
+import struct
+import subprocess
+import tempfile
+from collections.abc import Callable, Iterator, Mapping, Sequence
+from typing import IO
+
+from ..common.contents import Write
+from ..common.faults import ENDING, EndsEarly, ReadFault, cannot_read, cannot_write, reading
+from ..common.streams import Source
+from ..model import rules
+from ..model.workers import usual_workers
+
+MAGIC = b"hsqs"
+COMPRESSIONS = ("gzip", "xz", "zstd", "lz4")
+_READER, _WRITER = "sqfs2tar", "tar2sqfs"
+_SUPER_BLOCK = struct.Struct("<4sI20xHH8xQ")  # magic, inodes, .., major and minor version, .., bytes used
+_VERSION = 4
+_PACKAGE = "squashfs-tools-ng"
+_MOST_MEMORY = 1 << 30  # bytes that a program may have; sqfs2tar takes some 250 for each entry
+_MOST_TOLD = 16 << 20  # bytes of what it says, a line for each socket
+_LAST_TOLD = 1_000
+_SOCKET = (b"WARNING: ./", b": cannot pack socket\nSkipping ./", b"\n")  # a path stands between these
+_ENVIRONMENT = {"LC_ALL": "C"}  # without SOURCE_DATE_EPOCH, which would be in what tar2sqfs writes
+
+
+def require_programs() -> None:
+    """Refuses to begin what needs both programs where one isn't there."""
+    for name in (_READER, _WRITER):
+        require_program(name)
+
+
+def require_program(name: str) -> str:
+    """A program of squashfs-tools-ng on the PATH, or a fault that says where to get it."""
+    program = shutil.which(name)
+    if program is None:
+        raise ReadFault(f"there is no program {name}, which reads and writes squashfs; install {_PACKAGE}")
+    return program
+
+
+def entry_count(file: int, path: str) -> int:
+    """How many inodes an open squashfs file says it has; refuses one that is cut or of another version."""
+    with reading(path):
+        size, head = os.fstat(file).st_size, os.pread(file, _SUPER_BLOCK.size, 0)
+    if len(head) < _SUPER_BLOCK.size:
+        raise cannot_read(path, "its squashfs is cut: it ends inside of its first block")
+    _, inodes, major, minor, used = _SUPER_BLOCK.unpack(head)
+    if major != _VERSION:
+        raise cannot_read(path, f"a squashfs of version {major}.{minor}; version {_VERSION} alone is read")
+    if used > size:
+        raise cannot_read(path, f"its squashfs is cut: it says that it has {used:,} bytes, and there are {size:,}")
+    return int(inodes)
+
+
+@contextlib.contextmanager
+def archive_of(file: int, path: str, tell_socket: Callable[[str], None]) -> Iterator[Source]:
+    """The archive of all that an open squashfs file holds; sockets, which archives don't have, are told."""
+    if entry_count(file, path) > rules.MAX_ENTRIES:
+        raise cannot_read(path, f"it has over {rules.MAX_ENTRIES:,} entries")
+    command = [require_program(_READER), "--root-becomes", ".", f"/dev/fd/{file}"]
+    limits = {resource.RLIMIT_AS: _MOST_MEMORY, resource.RLIMIT_FSIZE: _MOST_TOLD}
+    with tempfile.TemporaryFile() as told:
+        with _started(command, told, limits, stdout=subprocess.PIPE, pass_fds=(file,)) as process:
+            assert isinstance(process.stdout, io.BufferedReader)
+            try:
+                yield process.stdout
+            except EndsEarly:
+                # An archive that seems to be cut short may be one of which the program could read no more.
+                if process.wait() == 0:
+                    raise
+            process.stdout.close()
+            status = process.wait()
+        sockets, words = _sockets_and_words(told)
+    if status != 0 or words:
+        raise cannot_read(path, f"its squashfs is broken: {_reason(words, command[-1], _READER, status)}")
+    for name in sockets:
+        tell_socket(name)
+
+
+@contextlib.contextmanager
+def written(path: str, told_as: str, compress: str | None) -> Iterator[Write]:
+    """What takes the bytes of an archive, of which a squashfs is made at a path where nothing is."""
+    command = [require_program(_WRITER), "--quiet", "--no-skip", "--num-jobs", str(usual_workers())]
+    command += [] if compress is None else ["--compressor", compress]
+    with tempfile.TemporaryFile() as told:
+        with _started([*command, path], told, {}, stdin=subprocess.PIPE) as process:
+            assert process.stdin is not None
+            with contextlib.suppress(BrokenPipeError):
+                yield process.stdin.write
+            with contextlib.suppress(BrokenPipeError):
+                process.stdin.close()
+            status = process.wait()
+        told.seek(0)
+        words = told.read(_LAST_TOLD)
+    if status != 0:
+        raise cannot_write(told_as, _reason(words, path, _WRITER, status))
+
+
+@contextlib.contextmanager
+def _started(
+    command: Sequence[str], told: IO[bytes], limits: Mapping[int, int], stdin: int = subprocess.DEVNULL,
+    stdout: int = subprocess.DEVNULL, pass_fds: tuple[int, ...] = (),
+) -> Iterator["subprocess.Popen[bytes]"]:
+    """A process that ends with this one's work: signals wait while it is started, so that none leaves it alone."""
+    mask = signal.pthread_sigmask(signal.SIG_BLOCK, ENDING)
+
+    def prepare() -> None:
+        for limit, most in {resource.RLIMIT_CORE: 0, **limits}.items():
+            hard = resource.getrlimit(limit)[1]
+            resource.setrlimit(limit, (most if hard == resource.RLIM_INFINITY else min(most, hard), hard))
+        signal.pthread_sigmask(signal.SIG_SETMASK, mask)
+
+    try:
+        process = subprocess.Popen(
+            command, stdin=stdin, stdout=stdout, stderr=told, pass_fds=pass_fds, preexec_fn=prepare, env=_ENVIRONMENT
+        )
+        try:
+            signal.pthread_sigmask(signal.SIG_SETMASK, mask)
+            yield process
+        finally:
+            _end(process)
+    finally:
+        signal.pthread_sigmask(signal.SIG_SETMASK, mask)
+
+
+def _end(process: "subprocess.Popen[bytes]") -> None:
+    """Ends it, where it hasn't ended itself."""
+    process.kill()
+    for stream in (process.stdin, process.stdout):
+        if stream is not None:
+            with contextlib.suppress(BrokenPipeError):
+                stream.close()
+    process.wait()
+
+
+def _sockets_and_words(told: IO[bytes]) -> tuple[list[str], bytes]:
+    """The paths of the sockets that the program said it left out, and all else that it said."""
+    told.seek(0)
+    text, sockets, place = told.read(), [], 0
+    before, between, after = _SOCKET
+    while text.startswith(before, place):
+        begin = place + len(before)
+        end = text.find(between, begin)
+        name = text[begin:end]
+        if end < 0 or not text.startswith(name + after, end + len(between)):
+            break
+        sockets.append("/" + os.fsdecode(name))
+        place = end + len(between) + len(name) + len(after)
+    return sockets, text[place:]
+
+
+def _reason(words: bytes, name: str, program: str, status: int) -> str:
+    """What the program said last, in one line, or how it ended where it said nothing."""
+    lines = words[-_LAST_TOLD:].decode("utf-8", "surrogateescape").splitlines()
+    reasons = "; ".join(line.removeprefix(f"{name}: ").strip() for line in lines if line.strip())
+    how = f"was ended by signal {-status}" if status < 0 else f"ended with status {status}"
+    return reasons or f"{program} {how}"

@@ -1,0 +1,128 @@
+"""What the tests share: the modules' path, temporary folders, and calls of the command."""
+
+import contextlib
+import io
+import json
+import os
+import shutil
+import subprocess
+import sys
+import tempfile
+import unittest
+from pathlib import Path
+
+ROOT = Path(__file__).resolve().parents[2]
+COMMAND = ROOT / "layers"
+ROOT_LAYER = ROOT / "examples" / "root.json"  # a layer of only a root
+PROGRAM = ROOT / "crates" / "ovl_layers" / "out" / "ovl_layers"
+sys.path.insert(0, str(ROOT))
+sys.dont_write_bytecode = True
+
+from convert import cli as command  # noqa: E402
+from convert.model.attributes import can_read_trusted  # noqa: E402
+
+
+def program_words() -> list[str]:
+    """How the program is run: as it is built, or as `LAYERS_TEST_PROGRAM` says; nothing if it can't be."""
+    return os.environ.get("LAYERS_TEST_PROGRAM", str(PROGRAM) if PROGRAM.exists() else "").split()
+
+
+def call(*words: object) -> tuple[int, str, str]:
+    """Runs the command in this process: status, standard output, standard error."""
+    printed, told = io.StringIO(), io.StringIO()
+    with contextlib.redirect_stdout(printed), contextlib.redirect_stderr(told):
+        try:
+            status = command.main([str(word) for word in words])
+        except SystemExit as end:
+            status = end.code if isinstance(end.code, int) else 1
+    return status, printed.getvalue(), told.getvalue()
+
+
+def run(*words: object, **more: object) -> "subprocess.CompletedProcess[str]":
+    """Runs the command in a process of its own."""
+    done: subprocess.CompletedProcess[str] = subprocess.run(
+        [sys.executable, "-B", str(COMMAND), *map(str, words)],
+        capture_output=True, text=True, check=False, **more,  # type: ignore[call-overload]
+    )
+    return done
+
+
+_AS_ANYBODY = """
+import os, sys
+sys.path.insert(0, sys.argv[1])
+from convert.cli import main
+if os.geteuid() == 0:
+    os.setgid(65534)
+    os.setuid(65534)
+sys.exit(main(sys.argv[2:]))
+"""
+
+
+def run_as_anybody(*words: str) -> "subprocess.CompletedProcess[str]":
+    """Runs the command as a user without rights."""
+    return subprocess.run(
+        [sys.executable, "-B", "-c", _AS_ANYBODY, str(ROOT), *words], capture_output=True, text=True, check=False
+    )
+
+
+def why_no_trusted(folder: str) -> str | None:
+    """Why `trusted.*` attributes and devices can't be had in a folder, or nothing if they can."""
+    if os.geteuid() != 0:
+        return "needs root"
+    if not can_read_trusted():
+        return "needs CAP_SYS_ADMIN outside of a user namespace, for trusted.* attributes"
+    probe = os.path.join(folder, "probe")
+    try:
+        with open(probe, "wb") as file:
+            os.setxattr(file.fileno(), "trusted.overlay.opaque", b"y")
+        os.mknod(probe + "-device", 0o20600, os.makedev(5, 1))
+    except OSError as error:
+        return f"the file system of {folder} or this machine doesn't let it: {error.strerror}"
+    finally:
+        for path in (probe, probe + "-device"):
+            with contextlib.suppress(FileNotFoundError):
+                os.unlink(path)
+    return None
+
+
+def links(path: str) -> list[list[str]]:
+    """The names in a file of links, those of one file together."""
+    with open(path, encoding="utf-8") as file:
+        names = json.load(file)["names"]
+    return [[name for name in names if names[name] == number] for number in sorted(set(names.values()))]
+
+
+class FolderTest(unittest.TestCase):
+    """A test with a temporary folder, which is taken away whatever happens."""
+
+    def setUp(self) -> None:
+        self.folder = tempfile.mkdtemp(prefix="layers-test-")
+        self.addCleanup(shutil.rmtree, self.folder)
+
+    def path(self, *names: str) -> str:
+        """A path in the folder."""
+        return os.path.join(self.folder, *names)
+
+    def require_done(self, result: tuple[int, str, str]) -> None:
+        """The command ended well."""
+        self.assertEqual(result[0], 0, result[2])
+
+    def require_fault(self, result: tuple[int, str, str], status: int, *parts: str) -> None:
+        """The command ended with a status and one fault line that has these parts."""
+        self.assertEqual(result[0], status, result[2])
+        self.assertTrue(result[2].startswith("layers: "), result[2])
+        for part in parts:
+            self.assertIn(part, result[2])
+
+    def empty(self) -> None:
+        """Takes away all that is in the folder."""
+        for name in os.listdir(self.folder):
+            path = self.path(name)
+            if os.path.isdir(path) and not os.path.islink(path):
+                shutil.rmtree(path)
+            else:
+                os.unlink(path)
+
+    def require_nothing_left(self, *kept: str) -> None:
+        """The folder holds nothing but these names."""
+        self.assertEqual(sorted(os.listdir(self.folder)), sorted(kept))
