@@ -2,12 +2,11 @@
 """Counts what the program asks of the system, of which no contract says how much, and refuses more.
 
 Python 3.11, standard library, and `rt`, whose compiler builds refuse.c. A manifest as the commands and the converter write
-it, of either version, is read piece by piece, with no value of JSON in between. A program that made a value of each entry
-would give the same bytes, at several times the cost. So requests for memory are counted: of a manifest of 10,000 entries in
-each version, of the same with white space in it, of the same with the members of the manifest and of its entries in the
-other order, and of the same with an escape that needn't be, which is read the other way: the report must be the same, and
-the first three may take at most four fifths of the requests of the last; and of manifests that have one thing each that
-might be left to the other way, up to the second layer, which is none.
+it is read piece by piece, with no value of JSON in between; a program that made a value of it would give the same bytes, at
+several times the cost. So requests for memory are counted: of a manifest of 10,000 entries, and of the same with white space
+in it, with the members of the manifest and of its entries in the other order, and with an escape that needn't be, of which
+a value is made: the report must be the same, with at least ten times the requests; and of manifests that have one thing each
+that might be left to the other way, up to the second layer, which is none.
 
 Then come the requests of commands that make a layer and of lines, the bytes that are held at once, threads that start
 others, reads and opens of files, idle workers that yield their processor, and peaks of memory.
@@ -27,12 +26,12 @@ from pathlib import Path
 
 sys.path.append(os.path.join(os.path.dirname(__file__), "..", "makers"))
 
-from generate import MOST_NAMES, Generator
+from generate import Generator
 from entries import REDIRECT, Entry, entry
 from refusals import build
 from small_layers import Layer, manifest_of
 
-ENTRIES, MOST = 10_000, 0.8
+ENTRIES, MOST = 10_000, 0.1
 OPAQUE = "trusted.overlay.opaque"
 GENERATE = str(Path(__file__).resolve().parents[1] / "makers" / "generate.py")
 # The most bytes that one read may give: of a file that is held, and of a part.
@@ -150,27 +149,21 @@ def backwards(members: dict[str, object]) -> dict[str, object]:
     return dict(reversed(members.items())) if {"entries", "path"} & members.keys() else members
 
 
-def of_versions(bench: Bench) -> Iterator[Count]:
-    for version in MOST_NAMES:
-        written, spaced, turned, other = (bench.room / f"{name}{version}.json" for name in ("written", "spaced", "turned", "other"))
-        with open(written, "wb") as out:
-            Generator(ENTRIES, version=version).write(out)
-        text = written.read_text(encoding="utf-8")
-        value = json.loads(text)
-        spaced.write_text(json.dumps(value, ensure_ascii=False, indent=1) + "\n", encoding="utf-8")
-        back = json.loads(text, object_hook=backwards)
-        turned.write_text(json.dumps(back, ensure_ascii=False, separators=(",", ":")), encoding="utf-8")
-        other.write_text(text.replace('"path":"/"', '"path":"\\/"', 1), encoding="utf-8")
-        (report, count), *others = (
-            bench.met("memory", ["show", "--workers", "1", str(it)]) for it in (written, spaced, turned, other))
-        if any(report != same for same, _ in others):
-            sys.exit(f"reading.py: version {version}: another report of the same entries")
-        with_space, in_order, more = (number for _, number in others)
-        print(f"version {version}, requests for memory an entry: {count / ENTRIES:.2f} as it is written, {with_space / ENTRIES:.2f} "
-              f"with white space, {in_order / ENTRIES:.2f} in another order, {more / ENTRIES:.2f} with an escape that needn't be")
-        yield at_most(f"version {version}, as it is written beside an escape", count / more, MOST)
-        yield at_most(f"version {version}, with white space beside an escape", with_space / more, MOST)
-        yield at_most(f"version {version}, in another order beside an escape", in_order / more, MOST)
+def of_forms(bench: Bench) -> Iterator[Count]:
+    written, spaced, turned, other = (bench.room / f"{name}.json" for name in ("written", "spaced", "turned", "other"))
+    with open(written, "wb") as out:
+        Generator(ENTRIES).write(out)
+    text = written.read_text(encoding="utf-8")
+    spaced.write_text(json.dumps(json.loads(text), ensure_ascii=False, indent=1) + "\n", encoding="utf-8")
+    back = json.loads(text, object_hook=backwards)
+    turned.write_text(json.dumps(back, ensure_ascii=False, separators=(",", ":")), encoding="utf-8")
+    other.write_text(text.replace('"path":"/"', '"path":"\\/"', 1), encoding="utf-8")
+    report, count = bench.met("memory", ["show", "--workers", "1", str(written)])
+    for what, form in (("with white space", spaced), ("in another order", turned), ("with an escape that needn't be", other)):
+        same, more = bench.met("memory", ["show", "--workers", "1", str(form)])
+        if report != same:
+            sys.exit(f"reading.py: {what}: another report of the same entries")
+        yield at_most(f"requests for memory as it is written, beside those {what}", count / more, MOST)
 
 
 # ---- commands
@@ -281,7 +274,7 @@ def of_yields(bench: Bench) -> Iterator[Count]:
 
 
 PARTS: tuple[Callable[[Bench], Iterator[Count]], ...] = (
-    of_peaks, of_versions, of_manifests, of_commands, of_held, of_lines, of_starters, of_reads, of_opens, of_yields)
+    of_peaks, of_forms, of_manifests, of_commands, of_held, of_lines, of_starters, of_reads, of_opens, of_yields)
 
 
 def main() -> None:
