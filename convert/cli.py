@@ -37,56 +37,47 @@ _OF_IMAGES = ("platform", "tag", "overlay_marks", "dry_run")  # words of `flatte
 _OF_STACKS = ("blobs", "data_layers", "form", "userxattr", "cross_file_systems")
 
 _ABOUT = """\
-Turns real layers into manifests for ovl_layers, and manifests into real layers.
-
-A layer is the folder of one overlayfs layer (an upperdir or lowerdir), or an archive in a container
-image. A manifest is one JSON file that lists what is in a layer; the contents of its files stand in
-a folder of blobs, each in a file named by its SHA-256 digest. This tool is tested, not proved."""
+Inspects and rewrites container images, and other stacks of overlayfs layers; what they show stays the same.
+What layers show comes from the proved program ovl_layers; reading and writing them is tested."""
 
 _MORE = """\
+IMAGE is an OCI image layout, what docker save wrote, or - for standard input. A layer on a disk is a folder,
+a squashfs, a tar archive, or a manifest: a JSON file that lists what is in the layer, with the contents of
+files in a folder of blobs, each named by its SHA-256 digest. The topmost layer comes first.
+
 examples:
-  {name} flatten image.tar --out flat.tar       an image of one layer that shows the same
   docker save NAME | {name} flatten - --out - | docker load
-  {name} unpack image.tar --out stack          an image's layers: stack/l0.json is the topmost
-  ovl_layers show stack/l0.json stack/l1.json  what the layers show together
-  ovl_layers fsck --blobs stack/blobs stack/l0.json stack/l1.json
-  {name} sizes image.tar --html sizes.html       what each layer holds, and what of it isn't shown
-  {name} pack stack/l0.json stack/l1.json --blobs stack/blobs --config stack/config.json --out new-image
-  sudo {name} scan /srv/upper --out upper.json --blobs blobs
+  {name} sizes image.tar --html sizes.html
   sudo {name} flatten --stack /srv/upper live.squashfs --out new.squashfs
-  sudo {name} store /var/lib/docker/overlay2/ID --out stack
-  sudo {name} build upper.json --blobs blobs --out upper
-  ovl_layers show l0.json l1.json | diff - <(sudo {name} mounted /mnt)
 
 exit status:
   0  done
-  1  flatten: the layers have faults; the report of ovl_layers fsck is on standard output
-     sizes --fail-over: more than so much isn't shown
-  2  words that don't fit
+  1  flatten: the layers have faults, which are on standard output; sizes: --fail-over is exceeded
+  2  the words don't fit
   3  something can't be read, or can't be stated in a manifest or an image
   4  something can't be written
   5  anything else
 
-`{name} COMMAND --help` tells the words of a command."""
+`{name} COMMAND --help` explains a command."""
 
 _SCAN = """\
-Writes the manifest of a layer, and the contents of its files into the folder of blobs. LAYER is the layer's
+Write the manifest of a layer, and the contents of its files into the folder of blobs. LAYER is the layer's
 folder, a squashfs file, or a tar archive of the folder with its attributes. In all of them a char device 0:0
 is a whiteout, trusted.overlay.* are marks, and names that begin with .wh. are names like others. A squashfs
-is read by sqfs2tar (in Debian's squashfs-tools-ng); it gives no sockets, which is counted and said.
+is read by sqfs2tar (in Debian's squashfs-tools-ng); it gives no sockets, which is counted and printed.
 
 Links are never followed, and other file systems aren't entered. Anything that a manifest can't state
 is refused, before anything is written: names that aren't UTF-8, paths over 128 names or 4,095 bytes,
-over 1,048,576 entries, trusted.overlay.overlay.* attributes. Where names are one file (hard links),
-NAME.links beside NAME.json says so, for `build` and `pack`; for standard output they are files of their own.
+over 1,048,576 entries, trusted.overlay.overlay.* attributes. If names are one file (hard links), NAME.links
+beside NAME.json says so, for `build` and `pack`; for standard output they are files of their own.
 
 With --digests-only in place of --blobs contents are read for their digests and copied nowhere, which is
 enough for `ovl_layers show`.
 
-Reading the marks of an overlay (trusted.overlay.*) of a folder needs root; of a file it doesn't."""
+Only root can read the marks of an overlay (trusted.overlay.*) of a folder; those of a file anyone can."""
 
 _STORE = """\
-Writes a layer that docker (overlay2) or podman and buildah (containers-storage) keep on this machine, and
+Write a layer that docker (overlay2) or podman and buildah (containers-storage) keep on this machine, and
 those below it, as manifests: OUT/l0.json, the topmost, OUT/l1.json and so on, and the contents of all
 their files into OUT/blobs, as `scan` does. OUT/l0.links and so on have the hard links of each layer, and
 OUT/shown.links those that the layers show together.
@@ -94,76 +85,78 @@ OUT/shown.links those that the layers show together.
 DIR is the folder of the topmost layer, such as /var/lib/docker/overlay2/ID or
 /var/lib/containers/storage/overlay/ID; its `lower` says which layers are below it.
 
-Reading the marks of an overlay (trusted.overlay.*) needs root."""
+Only root can read the marks of an overlay (trusted.overlay.*)."""
 
 _BUILD = """\
-Makes the folder of a manifest, or a squashfs where the name ends in .squashfs: kinds, modes, owners, times,
+Make the folder of a manifest, or a squashfs if the name ends in .squashfs: kinds, modes, owners, times,
 attributes, devices and whiteouts, as the kernel has them. Contents are checked against their digests. Names
 that are one file, by the LAYER.links that `scan` writes beside LAYER.json, become hard links. Owners, devices
 and trusted.overlay.* attributes of a folder need root.
 
 A squashfs is made by tar2sqfs (in Debian's squashfs-tools-ng), without any rights, of the same bytes for the
-same input. It has no sockets, and times in whole seconds from 1970 to 2105, which is counted and said. It gets
-its name once it was read again and gives the manifest back."""
+same input. It has no sockets, and times in whole seconds from 1970 to 2105, which is counted and printed. It
+gets its name once it was read again and gives the manifest back."""
 
 _UNPACK = """\
-Writes the layers of an image as manifests: DIR/l0.json, the topmost, DIR/l1.json and so on, and the
+Write the layers of an image as manifests: DIR/l0.json, the topmost, DIR/l1.json and so on, and the
 contents of all their files into DIR/blobs. DIR/config.json is the image's configuration with its platform,
-for `pack --config`; DIR/annotations.json has the annotations of its manifest, where it has any. With
+for `pack --config`; DIR/annotations.json has the annotations of its manifest, if it has any. With
 --digests-only contents are read for their digests and copied nowhere, which is enough for `ovl_layers show`.
 
 IMAGE is an OCI image layout (a folder or a tar archive of it), what `docker save` writes, or a folder of
 skopeo's dir:. It may also be named as skopeo does it (oci:DIR:TAG, docker-archive:FILE); - is an archive
-from standard input. An archive may be packed by gzip or zstd. Layers may be plain, gzip, or zstd where the
+from standard input. An archive may be packed by gzip or zstd. Layers may be plain, gzip, or zstd if the
 zstd program is there. Their digests are checked. A directory that a layer leaves out is as the layers below
-show it. Names that are one file (hard links) stand in DIR/l0.links and so on, and those that all layers show
+show it. Names that are one file (hard links) are listed in DIR/l0.links and so on, those that all layers show
 in DIR/shown.links. A whiteout (.wh.NAME) becomes a char device 0:0, and .wh..wh..opq an opaque directory."""
 
 _PACK = """\
-Writes manifests, the topmost first, as an OCI image layout: a folder, or one tar archive where the name
-ends in .tar, which `docker load` and `podman load` take too. --out may also be named as skopeo does it; - is
-an archive on standard output. The same input gives the same bytes. The image's configuration (command,
-environment, user, labels, platform and all else) is that of --config; a history that tells of as many layers
-is kept as it is, any other stays as entries without layers, and each layer gets an entry of its own.
+Write manifests, the topmost first, as an OCI image layout: a folder, or one tar archive if the name ends in
+.tar, which `docker load` and `podman load` take too. --out may also be named as skopeo does it; - is an
+archive on standard output. The same input gives the same bytes. The image's configuration (command,
+environment, user, labels, platform and all else) is that of --config. A history of as many layers is kept as
+it is; any other stays as entries without layers, and each layer gets an entry of its own.
 
-Names are hard links where the file of links beside a manifest has them as one file, or for a manifest without
-such a file that of --links, and where all else that the manifest says of them is the same.
+Names are hard links if the file of links beside a manifest has them as one file, or for a manifest without
+such a file that of --links, and all else that the manifest says of them is the same.
 
 A layer that has moved directories (redirects) or files without contents (metacopy) is refused: no image
 can state them. Run `ovl_layers deref` first, or `merge` down to one layer."""
 
 _FLATTEN = """\
-Writes an image with one layer, or N at most, that shows the same. The image's configuration, name,
-annotations and hard links stay. It is done by the proved program ovl_layers, which is found where it was
-built or installed, or on the PATH: after `unpack` it checks the layers and writes all that they show as one
-(`flatten`). Where several are to be left, it checks them (`fsck`), drops what changes nothing (`vacuum`),
-unfolds moved directories and metacopy files where there are any (`deref`), and merges the topmost ones
-(`merge`). Then `pack` writes the image. Each step is told with its time.
+Write an image with one layer, or at most N, that shows the same. The image's configuration, name,
+annotations and hard links stay. Contents of files that upper layers deleted or replaced aren't in it.
+
+The proved program ovl_layers does it: in a checkout it is built first if it must be; else it is the one beside
+this program, or on the PATH. After `unpack` it checks the layers and writes all that they show as one. If
+several are to be left, it checks them (`fsck`), drops what changes nothing (`vacuum`), unfolds moved
+directories and metacopy files (`deref`), and merges the topmost layers (`merge`). Then `pack` writes the
+image. Each step is printed with its time.
 
 Nothing is written unless the new layers, and the new image when it is read again, show what the given
-image shows, byte for byte. What the program refuses is told as it is, with its status. --out is as for
-`pack`: with -, an archive on standard output, nothing else goes there.
+image shows, byte for byte. If the program refuses the layers, its report and its status are those of this
+command. --out is as for `pack`: with -, an archive on standard output, nothing else goes there.
 
 --dry-run prints the commands that do the same by hand.
 
 With --stack LAYER.. layers on a disk take an image's place, the topmost first: folders, squashfs files, tar
-archives of folders, or manifests with --blobs. One layer is written: a squashfs where the name of --out ends
-in .squashfs, a folder otherwise; with --layers over 1, a folder of layers l0, the topmost, l1 and so on. The
-steps and comparisons are the same, but that a squashfs has no sockets and times in whole seconds alone."""
+archives of folders, or manifests with --blobs. One layer is written: a squashfs if the name of --out ends
+in .squashfs, else a folder; with --layers over 1, a folder of layers l0, the topmost, l1 and so on. The
+steps and comparisons are the same, but a squashfs has no sockets, and only times in whole seconds."""
 
 _SIZES = """\
-Prints where the bytes of an image's layers go, the topmost layer first: what each layer holds, what of it the
-layers together still show, what layers above hide (removed or replaced, and shipped all the same), and what
+Print where the bytes of an image's layers go, the topmost layer first: what each layer holds, what of it the
+layers together still show, what layers above hide (deleted or replaced, and shipped all the same), and what
 repeats the contents of a lower layer. Then the sums, what one layer would take, and the largest contents that
 aren't shown, with the layer that hides them. convert/README.md defines each number.
 
-Contents are copied nowhere. What the layers show is told by the proved program ovl_layers, as in `flatten`.
+Contents are copied nowhere. What the layers show comes from the proved program ovl_layers, as in `flatten`.
 
 --stack takes layers in place of an image, the topmost first: folders, squashfs files, tar archives of folders,
-and manifests, whose contents aren't needed. The marks of folders can be read by root alone."""
+and manifests, whose contents aren't needed. Only root can read the marks of folders."""
 
 _MOUNTED = """\
-Prints what is in a folder, such as a mounted overlay, as `ovl_layers show` prints it, so that the two
+Print what is in a folder, such as a mounted overlay, as `ovl_layers show` prints it, so that the two
 can be compared."""
 
 
@@ -211,20 +204,20 @@ def _parser() -> argparse.ArgumentParser:
         prog=NAME, description=_ABOUT, epilog=_MORE.format(name=NAME), allow_abbrev=False,
         formatter_class=argparse.RawDescriptionHelpFormatter,
     )
-    parser.add_argument("--version", action="version", version=f"{NAME} {VERSION}", help="print the version and exit")
+    parser.add_argument("--version", action="version", version=f"{NAME} {VERSION}", help="print the version")
     parser.add_argument(
         "--unproved", action="store_true",
-        help="run ovl_layers as compiled without proofs, which takes a minute and a half the first time",
+        help="in a checkout: run ovl_layers as compiled without proofs (a minute and a half, the first time)",
     )
     commands = parser.add_subparsers(title="commands", metavar="COMMAND", required=True)
-    _add_scan(_command(commands, "scan", "a layer as a manifest and blobs", _SCAN, _scan))
-    _add_store(_command(commands, "store", "a layer of docker or podman with those below it", _STORE, _store))
-    _add_build(_command(commands, "build", "the folder of a manifest, or a squashfs", _BUILD, _build))
-    _add_unpack(_command(commands, "unpack", "an image's layers as manifests and blobs", _UNPACK, _unpack))
-    _add_pack(_command(commands, "pack", "manifests and blobs as an image", _PACK, _pack))
-    _add_flatten(_command(commands, "flatten", "an image with fewer layers that shows the same", _FLATTEN, _flatten))
-    _add_sizes(_command(commands, "sizes", "what each layer holds, and what of it isn't shown", _SIZES, _sizes))
-    _add_mounted(_command(commands, "mounted", "the report of a mounted tree", _MOUNTED, _mounted))
+    _add_flatten(_command(commands, "flatten", "write an image or a stack as one layer", _FLATTEN, _flatten))
+    _add_sizes(_command(commands, "sizes", "print what each layer holds, and what of it isn't shown", _SIZES, _sizes))
+    _add_unpack(_command(commands, "unpack", "write an image's layers as manifests and blobs", _UNPACK, _unpack))
+    _add_pack(_command(commands, "pack", "write manifests and blobs as an image", _PACK, _pack))
+    _add_scan(_command(commands, "scan", "write a layer as a manifest and blobs", _SCAN, _scan))
+    _add_store(_command(commands, "store", "write a layer of docker or podman, and those below it", _STORE, _store))
+    _add_build(_command(commands, "build", "make the folder, or squashfs, of a manifest", _BUILD, _build))
+    _add_mounted(_command(commands, "mounted", "print what a folder shows, like ovl_layers show", _MOUNTED, _mounted))
     return parser
 
 
@@ -232,8 +225,10 @@ def _command(
     commands: "argparse._SubParsersAction[argparse.ArgumentParser]", name: str, short: str, long: str,
     run: Callable[[argparse.Namespace], None],
 ) -> argparse.ArgumentParser:
+    """A command, with what the list of commands has of it, and the text of its own help."""
     parser = commands.add_parser(
-        name, help=short, description=long, allow_abbrev=False, formatter_class=argparse.RawDescriptionHelpFormatter
+        name, help=short, description=long, allow_abbrev=False,
+        formatter_class=argparse.RawDescriptionHelpFormatter,
     )
     parser.set_defaults(run=run)
     return parser
@@ -243,7 +238,7 @@ def _add_scan(parser: argparse.ArgumentParser) -> None:
     parser.add_argument("layer", metavar="LAYER", help="folder of a layer, a squashfs, or a tar archive of the folder")
     parser.add_argument("--out", metavar="FILE", required=True, help="manifest to write; - is standard output")
     contents = parser.add_mutually_exclusive_group(required=True)
-    contents.add_argument("--blobs", metavar="DIR", help="folder of blobs, made where it is absent")
+    contents.add_argument("--blobs", metavar="DIR", help="folder of blobs, made if it is absent")
     _add_digests_only(contents)
     _add_reading(parser)
 
@@ -395,7 +390,7 @@ def _add_sizes(parser: argparse.ArgumentParser) -> None:
     parser.add_argument("--html", metavar="FILE", help="page to write besides; - is standard output, in its place")
     parser.add_argument(
         "--fail-over", metavar="PERCENT", type=_percent,
-        help="ends with status 1 where more than so much of the bytes isn't shown",
+        help="ends with status 1 if more than this share of the bytes isn't shown",
     )
 
 

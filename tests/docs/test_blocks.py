@@ -25,7 +25,7 @@ from convert.model.attributes import can_read_trusted  # noqa: E402
 
 PROGRAM = ROOT / "crates" / "ovl_layers" / "out" / "ovl_layers"
 UNPROVED = PROGRAM.parent / "unproved" / PROGRAM.name
-BUILT = {"the built program": PROGRAM, "the unproved program": UNPROVED}
+BUILT = {"built": PROGRAM, "unproved": UNPROVED}
 _SECONDS = 300
 _CODE_IN_ROW = re.compile(r"^\| [^|]*\| [^|]*\| `(.*?)`", re.MULTILINE)
 _SUDO = '#!/bin/sh\nexec "$@"\n'  # for a test that root runs
@@ -56,7 +56,7 @@ def why_not(needs: list[str]) -> str | None:
         else:
             missing = shutil.which(need) is None
         if missing:
-            return f"needs {need}"
+            return f"needs {need}" + " program" * (need in BUILT)
     return None
 
 
