@@ -54,6 +54,16 @@ def documents() -> list[Path]:
     return sorted(path for path in ROOT.rglob("*.md") if not _MADE & set(path.relative_to(ROOT).parts))
 
 
+def lines_outside(document: Path) -> Iterator[str]:
+    """The lines of a document outside of its blocks."""
+    is_inside = False
+    for line in document.read_text(encoding="utf-8").splitlines():
+        if line.lstrip().startswith("```"):
+            is_inside = not is_inside
+        elif not is_inside:
+            yield line
+
+
 def blocks_of(document: Path) -> Iterator[Block]:
     """The blocks of a document, in order."""
     notes: dict[str, str] = {}

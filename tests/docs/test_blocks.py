@@ -16,7 +16,7 @@ import tempfile
 import unittest
 from pathlib import Path
 
-from documents import KINDS, ROOT, Block, blocks_of, documents
+from documents import KINDS, ROOT, Block, blocks_of, documents, lines_outside
 
 sys.path.insert(0, str(ROOT))
 sys.dont_write_bytecode = True
@@ -104,6 +104,11 @@ class DocumentTest(unittest.TestCase):
 class Blocks(DocumentTest):
     """The documents' blocks."""
 
+    def test_that_each_is_fenced(self) -> None:
+        for document in documents():
+            outside = "\n".join(lines_outside(document))
+            self.assertNotRegex(outside, r"\n\n {4}\S", f"a block of {document} isn't fenced")
+
     def test_all(self) -> None:
         for document in documents():
             self.begin()
@@ -111,6 +116,8 @@ class Blocks(DocumentTest):
             for block in blocks_of(document):
                 with self.subTest(block.place):
                     self.assertIn(block.kind, KINDS, "a block says what it is")
+                    for need in block.needs:
+                        self.assertRegex(need, r"^[\w.+-]+$", "a need is a word")
                     if block.kind == "sh":
                         printed = None
                         printed = self._run(block)
