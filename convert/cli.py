@@ -1,12 +1,14 @@
 """The command line: what each command runs, statuses and fault lines."""
 
 import argparse
+import os
 import signal
 import sys
+import traceback
 from collections.abc import Iterable, Mapping, Sequence
 
 from .common.escaping import printable
-from .common.faults import OTHER, Fault, UsageFault
+from .common.faults import OTHER, ClosedPipe, Fault, UsageFault
 from .common.outputs import standard_output
 from .common.program import choose_program
 from .flatten.image import FlattenOptions, flatten, flatten_commands
@@ -21,6 +23,7 @@ from .image.compression import COMPRESSIONS, NONE
 from .image.pack import PackOptions, pack
 from .image.targets import Target, target_of
 from .image.unpack import UnpackOptions, unpack
+from .model.stacks import BLOBS, require_order, stack_in
 from .sizes.command import SizesOptions, sizes
 from .words import NAME, Run, parser_of
 
@@ -39,6 +42,8 @@ def main(words: Sequence[str]) -> int:
         run: Run = options.run
         run(options)
         return 0
+    except ClosedPipe:
+        return _INTERRUPTED + signal.SIGPIPE
     except Fault as fault:
         print(f"{NAME}: {fault.text}", file=sys.stderr)
         return fault.status
@@ -47,9 +52,18 @@ def main(words: Sequence[str]) -> int:
     except MemoryError:
         print(f"{NAME}: out of memory", file=sys.stderr)
         return OTHER
-    except (OSError, RecursionError) as error:
+    except OSError as error:
         print(f"{NAME}: {printable(str(error))}", file=sys.stderr)
         return OTHER
+    except Exception as error:  # pylint: disable=broad-except
+        print(f"{NAME}: unforeseen, please report it: {printable(_told(error))}", file=sys.stderr)
+        return OTHER
+
+
+def _told(error: Exception) -> str:
+    """An exception that no code here expects, and where it was raised."""
+    place = traceback.extract_tb(error.__traceback__)[-1]
+    return f"{type(error).__name__}: {error} ({os.path.basename(place.filename)}:{place.lineno})"
 
 
 def _end(number: int, _: object) -> None:
@@ -63,6 +77,8 @@ def _folder(path: str) -> str:
 
 
 def _scan(words: argparse.Namespace) -> None:
+    if stack_in(_folder(words.layer)):
+        raise UsageFault(f"{words.layer} is a folder that unpack wrote, and no layer: it has manifests already")
     scan(ScanOptions(
         layer=_folder(words.layer), out=words.out, blobs=None if words.digests_only else _folder(words.blobs),
         userxattr=words.userxattr, cross_file_systems=words.cross_file_systems,
@@ -80,7 +96,7 @@ def _store(words: argparse.Namespace) -> None:
 
 def _build(words: argparse.Namespace) -> None:
     build_layer(BuildOptions(
-        layer=words.layer, blobs=_folder(words.blobs), out=_folder(words.out), userxattr=words.userxattr,
+        layer=words.layer, blobs=_folder(words.blobs), out=_folder(words.out), userxattr=bool(words.userxattr),
         compress=words.compress,
     ))
 
@@ -93,6 +109,7 @@ def _unpack(words: argparse.Namespace) -> None:
 
 
 def _pack(words: argparse.Namespace) -> None:
+    require_order(words.layers)
     out = _target(words.out)
     if None not in (out.tag, words.tag) and out.tag != words.tag:
         raise UsageFault(f"{words.out} and --tag give two names")
@@ -103,8 +120,22 @@ def _pack(words: argparse.Namespace) -> None:
     ))
 
 
+def _take_folder_of_unpack(words: argparse.Namespace) -> None:
+    """Takes a folder that `unpack` or `store` wrote, in place of an image or as the only layer, as the stack that it is."""
+    given = words.stack or [words.image] if words.image or words.stack else []
+    layers = stack_in(_folder(given[0])) if len(given) == 1 else []
+    if layers:
+        words.image, words.stack = None, layers
+        words.blobs = getattr(words, "blobs", None) or f"{_folder(given[0])}/{BLOBS}"
+    for word in given if len(given) > 1 else []:
+        if stack_in(_folder(word)):
+            raise UsageFault(f"{word} is a folder that unpack wrote, a stack of its own and no layer: name its manifests")
+    require_order(words.stack or [])
+
+
 def _require_one_sort(words: argparse.Namespace) -> None:
     """Refuses an image beside a stack, neither of them, and what is for the other one."""
+    _take_folder_of_unpack(words)
     if (words.image is None) == (words.stack is None):
         raise UsageFault("name an IMAGE, or layers by --stack LAYER..")
     strange = _OF_STACKS if words.stack is None else _OF_IMAGES

@@ -341,7 +341,7 @@ def _add_mounted(parser: argparse.ArgumentParser) -> None:
 
 def _add_userxattr(parser: argparse.ArgumentParser, does: str) -> None:
     parser.add_argument(
-        "--userxattr", action="store_true",
+        "--userxattr", action=argparse.BooleanOptionalAction,
         help=f"{does} marks as user.overlay.*, as the mount option of this name does",
     )
 

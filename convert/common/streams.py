@@ -25,9 +25,10 @@ _RESERVED = 0xE0  # flags in the fourth byte
 _GZIP_WINDOW = 31  # zlib's number for a gzip header and trailer
 _GZIP_PIECE = 1 << 18
 _ZSTD = b"\x28\xb5\x2f\xfd"
-_OTHERS = {b"BZh": "bzip2", b"\xfd7zXZ\0": "xz"}
+_BZIP2 = {b"BZh%d1AY&SY" % level: "bzip2" for level in range(1, 10)}
+_OTHERS = {**_BZIP2, b"\xfd7zXZ\0": "xz"}
 _PACKINGS = {_GZIP: "gzip", _ZSTD: "zstd", **_OTHERS}
-HEAD_BYTES = 6  # that tell how a file is packed
+HEAD_BYTES = 10  # that tell how a file is packed
 _ZSTD_INPUT = re.compile(r"(zstd: )?/\*stdin\*\\ ?: ")  # what zstd puts before what it says
 
 
