@@ -288,7 +288,7 @@ def _quoted(word: str) -> str:
         return shlex.quote(word)
     if word.endswith("\n"):
         raise UsageFault(f"{word} ends with a newline, which no command for a shell can have")
-    return f'"$(printf {shlex.quote(_in_octal(word))})"'
+    return f'"$(printf -- {shlex.quote(_in_octal(word))})"'
 
 
 def _in_octal(word: str) -> str:
