@@ -1,181 +1,35 @@
-"""The command line: words, statuses and fault lines."""
+"""The command line: what each command runs, statuses and fault lines."""
 
 import argparse
-import re
+import os
 import signal
 import sys
-from collections.abc import Callable, Iterable, Sequence
-from fractions import Fraction
+import traceback
+from collections.abc import Iterable, Mapping, Sequence
 
-from . import VERSION
 from .common.escaping import printable
-from .common.faults import OTHER, Fault, UsageFault
+from .common.faults import OTHER, ClosedPipe, Fault, UsageFault
 from .common.outputs import standard_output
 from .common.program import choose_program
 from .flatten.image import FlattenOptions, flatten, flatten_commands
 from .flatten.stack import FlattenStackOptions, OutForm, flatten_stack
 from .folder.build import BuildOptions
 from .folder.build_squashfs import build_layer
-from .folder.build_squashfs import SUFFIX as SQUASHFS_SUFFIX
 from .folder.mounted import report
 from .folder.scan import ScanOptions, scan
 from .folder.stack_layers import StackOptions
 from .folder.stores import StoreOptions, store
 from .image.compression import COMPRESSIONS, NONE
-from .image.configuration import USUAL_PLATFORM
 from .image.pack import PackOptions, pack
 from .image.targets import Target, target_of
 from .image.unpack import UnpackOptions, unpack
-from .model.rules import MAX_LAYERS
-from .model.workers import MOST_WORKERS, usual_workers
+from .model.stacks import BLOBS, require_order, stack_in
 from .sizes.command import SizesOptions, sizes
-from .squashfs import programs as squashfs
+from .words import NAME, Run, parser_of
 
-NAME = "layers"
 _INTERRUPTED = 128
 _OF_IMAGES = ("platform", "tag", "overlay_marks", "dry_run")  # words of `flatten` and `sizes`
 _OF_STACKS = ("blobs", "data_layers", "form", "userxattr", "cross_file_systems")
-
-_ABOUT = """\
-Turns real layers into manifests for ovl_layers, and manifests into real layers.
-
-A layer is the folder of one overlayfs layer (an upperdir or lowerdir), or an archive in a container
-image. A manifest is one JSON file that lists what is in a layer; the contents of its files stand in
-a folder of blobs, each in a file named by its SHA-256 digest. This tool is tested, not proved."""
-
-_MORE = """\
-examples:
-  {name} flatten image.tar --out flat.tar       an image of one layer that shows the same
-  docker save NAME | {name} flatten - --out - | docker load
-  {name} unpack image.tar --out stack          an image's layers: stack/l0.json is the topmost
-  ovl_layers show stack/l0.json stack/l1.json  what the layers show together
-  ovl_layers fsck --blobs stack/blobs stack/l0.json stack/l1.json
-  {name} sizes image.tar --html sizes.html       what each layer holds, and what of it isn't shown
-  {name} pack stack/l0.json stack/l1.json --blobs stack/blobs --config stack/config.json --out new-image
-  sudo {name} scan /srv/upper --out upper.json --blobs blobs
-  sudo {name} flatten --stack /srv/upper live.squashfs --out new.squashfs
-  sudo {name} store /var/lib/docker/overlay2/ID --out stack
-  sudo {name} build upper.json --blobs blobs --out upper
-  ovl_layers show l0.json l1.json | diff - <(sudo {name} mounted /mnt)
-
-exit status:
-  0  done
-  1  flatten: the layers have faults; the report of ovl_layers fsck is on standard output
-     sizes --fail-over: more than so much isn't shown
-  2  words that don't fit
-  3  something can't be read, or can't be stated in a manifest or an image
-  4  something can't be written
-  5  anything else
-
-`{name} COMMAND --help` tells the words of a command."""
-
-_SCAN = """\
-Writes the manifest of a layer, and the contents of its files into the folder of blobs. LAYER is the layer's
-folder, a squashfs file, or a tar archive of the folder with its attributes. In all of them a char device 0:0
-is a whiteout, trusted.overlay.* are marks, and names that begin with .wh. are names like others. A squashfs
-is read by sqfs2tar (in Debian's squashfs-tools-ng); it gives no sockets, which is counted and said.
-
-Links are never followed, and other file systems aren't entered. Anything that a manifest can't state
-is refused, before anything is written: names that aren't UTF-8, paths over 128 names or 4,095 bytes,
-over 1,048,576 entries, trusted.overlay.overlay.* attributes. Where names are one file (hard links),
-NAME.links beside NAME.json says so, for `build` and `pack`; for standard output they are files of their own.
-
-With --digests-only in place of --blobs contents are read for their digests and copied nowhere, which is
-enough for `ovl_layers show`.
-
-Reading the marks of an overlay (trusted.overlay.*) of a folder needs root; of a file it doesn't."""
-
-_STORE = """\
-Writes a layer that docker (overlay2) or podman and buildah (containers-storage) keep on this machine, and
-those below it, as manifests: OUT/l0.json, the topmost, OUT/l1.json and so on, and the contents of all
-their files into OUT/blobs, as `scan` does. OUT/l0.links and so on have the hard links of each layer, and
-OUT/shown.links those that the layers show together.
-
-DIR is the folder of the topmost layer, such as /var/lib/docker/overlay2/ID or
-/var/lib/containers/storage/overlay/ID; its `lower` says which layers are below it.
-
-Reading the marks of an overlay (trusted.overlay.*) needs root."""
-
-_BUILD = """\
-Makes the folder of a manifest, or a squashfs where the name ends in .squashfs: kinds, modes, owners, times,
-attributes, devices and whiteouts, as the kernel has them. Contents are checked against their digests. Names
-that are one file, by the LAYER.links that `scan` writes beside LAYER.json, become hard links. Owners, devices
-and trusted.overlay.* attributes of a folder need root.
-
-A squashfs is made by tar2sqfs (in Debian's squashfs-tools-ng), without any rights, of the same bytes for the
-same input. It has no sockets, and times in whole seconds from 1970 to 2105, which is counted and said. It gets
-its name once it was read again and gives the manifest back."""
-
-_UNPACK = """\
-Writes the layers of an image as manifests: DIR/l0.json, the topmost, DIR/l1.json and so on, and the
-contents of all their files into DIR/blobs. DIR/config.json is the image's configuration with its platform,
-for `pack --config`; DIR/annotations.json has the annotations of its manifest, where it has any. With
---digests-only contents are read for their digests and copied nowhere, which is enough for `ovl_layers show`.
-
-IMAGE is an OCI image layout (a folder or a tar archive of it), what `docker save` writes, or a folder of
-skopeo's dir:. It may also be named as skopeo does it (oci:DIR:TAG, docker-archive:FILE); - is an archive
-from standard input. An archive may be packed by gzip or zstd. Layers may be plain, gzip, or zstd where the
-zstd program is there. Their digests are checked. A directory that a layer leaves out is as the layers below
-show it. Names that are one file (hard links) stand in DIR/l0.links and so on, and those that all layers show
-in DIR/shown.links. A whiteout (.wh.NAME) becomes a char device 0:0, and .wh..wh..opq an opaque directory."""
-
-_PACK = """\
-Writes manifests, the topmost first, as an OCI image layout: a folder, or one tar archive where the name
-ends in .tar, which `docker load` and `podman load` take too. --out may also be named as skopeo does it; - is
-an archive on standard output. The same input gives the same bytes. The image's configuration (command,
-environment, user, labels, platform and all else) is that of --config; a history that tells of as many layers
-is kept as it is, any other stays as entries without layers, and each layer gets an entry of its own.
-
-Names are hard links where the file of links beside a manifest has them as one file, or for a manifest without
-such a file that of --links, and where all else that the manifest says of them is the same.
-
-A layer that has moved directories (redirects) or files without contents (metacopy) is refused: no image
-can state them. Run `ovl_layers deref` first, or `merge` down to one layer."""
-
-_FLATTEN = """\
-Writes an image with one layer, or N at most, that shows the same. The image's configuration, name,
-annotations and hard links stay. It is done by the proved program ovl_layers, which is found where it was
-built or installed, or on the PATH: after `unpack` it checks the layers and writes all that they show as one
-(`flatten`). Where several are to be left, it checks them (`fsck`), drops what changes nothing (`vacuum`),
-unfolds moved directories and metacopy files where there are any (`deref`), and merges the topmost ones
-(`merge`). Then `pack` writes the image. Each step is told with its time.
-
-Nothing is written unless the new layers, and the new image when it is read again, show what the given
-image shows, byte for byte. What the program refuses is told as it is, with its status. --out is as for
-`pack`: with -, an archive on standard output, nothing else goes there.
-
---dry-run prints the commands that do the same by hand.
-
-With --stack LAYER.. layers on a disk take an image's place, the topmost first: folders, squashfs files, tar
-archives of folders, or manifests with --blobs. One layer is written: a squashfs where the name of --out ends
-in .squashfs, a folder otherwise; with --layers over 1, a folder of layers l0, the topmost, l1 and so on. The
-steps and comparisons are the same, but that a squashfs has no sockets and times in whole seconds alone."""
-
-_SIZES = """\
-Prints where the bytes of an image's layers go, the topmost layer first: what each layer holds, what of it the
-layers together still show, what layers above hide (removed or replaced, and shipped all the same), and what
-repeats the contents of a lower layer. Then the sums, what one layer would take, and the largest contents that
-aren't shown, with the layer that hides them. convert/README.md defines each number.
-
-Contents are copied nowhere. What the layers show is told by the proved program ovl_layers, as in `flatten`.
-
---stack takes layers in place of an image, the topmost first: folders, squashfs files, tar archives of folders,
-and manifests, whose contents aren't needed. The marks of folders can be read by root alone."""
-
-_MOUNTED = """\
-Prints what is in a folder, such as a mounted overlay, as `ovl_layers show` prints it, so that the two
-can be compared."""
-
-
-_IMAGE = "OCI image layout (folder or tar), or what docker save wrote; - is standard input"
-_NEW_IMAGE = (
-    "folder to make, or a file whose name ends in .tar; - is such an archive on standard output; or as skopeo "
-    "names it: oci:DIR:TAG, oci-archive:FILE:TAG, docker-archive:FILE:NAME, dir:DIR"
-)
-_PACKS = (
-    "packs the layers; zstd needs the program of that name, and is read by podman, buildah, containerd and "
-    "docker from 23 on, not by umoci and older dockers [default: none]"
-)
 
 
 def main(words: Sequence[str]) -> int:
@@ -183,11 +37,13 @@ def main(words: Sequence[str]) -> int:
     for number in (signal.SIGTERM, signal.SIGHUP):
         signal.signal(number, _end)
     try:
-        options = _parser().parse_args(list(words))
+        options = parser_of(_RUNS).parse_args(list(words))
         choose_program(options.unproved)
-        run: Callable[[argparse.Namespace], None] = options.run
+        run: Run = options.run
         run(options)
         return 0
+    except ClosedPipe:
+        return _INTERRUPTED + signal.SIGPIPE
     except Fault as fault:
         print(f"{NAME}: {fault.text}", file=sys.stderr)
         return fault.status
@@ -196,272 +52,23 @@ def main(words: Sequence[str]) -> int:
     except MemoryError:
         print(f"{NAME}: out of memory", file=sys.stderr)
         return OTHER
-    except (OSError, RecursionError) as error:
+    except OSError as error:
         print(f"{NAME}: {printable(str(error))}", file=sys.stderr)
         return OTHER
+    except Exception as error:  # pylint: disable=broad-except
+        print(f"{NAME}: unforeseen, please report it: {printable(_told(error))}", file=sys.stderr)
+        return OTHER
+
+
+def _told(error: Exception) -> str:
+    """An exception that no code here expects, and where it was raised."""
+    place = traceback.extract_tb(error.__traceback__)[-1]
+    return f"{type(error).__name__}: {error} ({os.path.basename(place.filename)}:{place.lineno})"
 
 
 def _end(number: int, _: object) -> None:
     """Ends on a signal like an exit, so that what is half made is taken away."""
     sys.exit(_INTERRUPTED + number)
-
-
-def _parser() -> argparse.ArgumentParser:
-    parser = argparse.ArgumentParser(
-        prog=NAME, description=_ABOUT, epilog=_MORE.format(name=NAME), allow_abbrev=False,
-        formatter_class=argparse.RawDescriptionHelpFormatter,
-    )
-    parser.add_argument("--version", action="version", version=f"{NAME} {VERSION}", help="print the version and exit")
-    parser.add_argument(
-        "--unproved", action="store_true",
-        help="run ovl_layers as compiled without proofs, which takes a minute and a half the first time",
-    )
-    commands = parser.add_subparsers(title="commands", metavar="COMMAND", required=True)
-    _add_scan(_command(commands, "scan", "a layer as a manifest and blobs", _SCAN, _scan))
-    _add_store(_command(commands, "store", "a layer of docker or podman with those below it", _STORE, _store))
-    _add_build(_command(commands, "build", "the folder of a manifest, or a squashfs", _BUILD, _build))
-    _add_unpack(_command(commands, "unpack", "an image's layers as manifests and blobs", _UNPACK, _unpack))
-    _add_pack(_command(commands, "pack", "manifests and blobs as an image", _PACK, _pack))
-    _add_flatten(_command(commands, "flatten", "an image with fewer layers that shows the same", _FLATTEN, _flatten))
-    _add_sizes(_command(commands, "sizes", "what each layer holds, and what of it isn't shown", _SIZES, _sizes))
-    _add_mounted(_command(commands, "mounted", "the report of a mounted tree", _MOUNTED, _mounted))
-    return parser
-
-
-def _command(
-    commands: "argparse._SubParsersAction[argparse.ArgumentParser]", name: str, short: str, long: str,
-    run: Callable[[argparse.Namespace], None],
-) -> argparse.ArgumentParser:
-    parser = commands.add_parser(
-        name, help=short, description=long, allow_abbrev=False, formatter_class=argparse.RawDescriptionHelpFormatter
-    )
-    parser.set_defaults(run=run)
-    return parser
-
-
-def _add_scan(parser: argparse.ArgumentParser) -> None:
-    parser.add_argument("layer", metavar="LAYER", help="folder of a layer, a squashfs, or a tar archive of the folder")
-    parser.add_argument("--out", metavar="FILE", required=True, help="manifest to write; - is standard output")
-    contents = parser.add_mutually_exclusive_group(required=True)
-    contents.add_argument("--blobs", metavar="DIR", help="folder of blobs, made where it is absent")
-    _add_digests_only(contents)
-    _add_reading(parser)
-
-
-def _add_store(parser: argparse.ArgumentParser) -> None:
-    parser.add_argument("folder", metavar="DIR", help="folder of the topmost layer in its store")
-    parser.add_argument("--out", metavar="OUT", required=True, help="folder to make, absent or empty")
-    _add_digests_only(parser)
-    _add_reading(parser)
-
-
-def _add_digests_only(parser: argparse._ActionsContainer) -> None:
-    parser.add_argument(
-        "--digests-only", action="store_true", help="writes no blobs: contents are read for their digests alone"
-    )
-
-
-def _add_reading(parser: argparse.ArgumentParser) -> None:
-    """How folders are read."""
-    _add_userxattr(parser, "reads")
-    _add_cross(parser)
-    _add_skip(parser)
-    _add_workers(parser)
-
-
-def _add_workers(parser: argparse.ArgumentParser) -> None:
-    parser.add_argument(
-        "--workers", metavar="N", type=_workers, default=usual_workers(),
-        help=f"how many processes read files, 1 to {MOST_WORKERS} [default: the processors, at most 4]",
-    )
-
-
-def _add_build(parser: argparse.ArgumentParser) -> None:
-    parser.add_argument("layer", metavar="LAYER", help="manifest of a layer")
-    parser.add_argument("--blobs", metavar="DIR", required=True, help="folder with the contents of its files")
-    parser.add_argument(
-        "--out", metavar="OUT", required=True,
-        help=f"folder to make, absent or empty, or a file whose name ends in {SQUASHFS_SUFFIX}",
-    )
-    parser.add_argument(
-        "--compress", choices=squashfs.COMPRESSIONS, help="packs the squashfs [default: as tar2sqfs does it]"
-    )
-    _add_userxattr(parser, "writes")
-
-
-def _add_unpack(parser: argparse.ArgumentParser) -> None:
-    _add_image(parser)
-    parser.add_argument("--out", metavar="DIR", required=True, help="folder to make, absent or empty")
-    _add_digests_only(parser)
-
-
-def _add_image(parser: argparse.ArgumentParser, may_be_absent: bool = False) -> None:
-    """Which image is read, and how."""
-    if may_be_absent:
-        parser.add_argument("image", metavar="IMAGE", nargs="?", help=_IMAGE)
-    else:
-        parser.add_argument("image", metavar="IMAGE", help=_IMAGE)
-    parser.add_argument("--platform", metavar="OS/ARCH", help="which of several images, such as linux/amd64")
-    parser.add_argument("--tag", metavar="NAME", help="which of several images, by its name in the image's index")
-    parser.add_argument(
-        "--overlay-marks", action="store_true",
-        help="takes attributes trusted.overlay.* of the image's archives too, which change what the layers show",
-    )
-    _add_skip(parser)
-
-
-def _add_pack(parser: argparse.ArgumentParser) -> None:
-    parser.add_argument("layers", metavar="LAYER", nargs="+", help="manifest of a layer, the topmost layer first")
-    parser.add_argument("--blobs", metavar="DIR", required=True, help="folder with the contents of their files")
-    _add_new_image(parser)
-    parser.add_argument(
-        "--config", metavar="FILE",
-        help="what the image runs, as whom and on which platform, such as the config.json that unpack writes",
-    )
-    parser.add_argument(
-        "--platform", metavar="OS/ARCH", type=_platform,
-        help=f"what the image says that it is for [default: that of --config, or {USUAL_PLATFORM}]",
-    )
-    parser.add_argument("--tag", metavar="NAME", type=_name, help="name of the image in its index")
-    parser.add_argument(
-        "--annotations", metavar="FILE",
-        help="annotations of the image's manifest, such as the annotations.json that unpack writes",
-    )
-    parser.add_argument(
-        "--links", metavar="FILE",
-        help="hard links of layers that have no such file beside them: the shown.links of unpack or store",
-    )
-    _add_skip(parser)
-
-
-def _add_new_image(parser: argparse.ArgumentParser) -> None:
-    """Which image is written."""
-    _add_out(parser, _NEW_IMAGE)
-    parser.add_argument("--compress", choices=COMPRESSIONS, default=NONE, help=_PACKS)
-
-
-def _add_out(parser: argparse.ArgumentParser, told: str) -> None:
-    parser.add_argument("--out", metavar="IMAGE", required=True, help=told)
-
-
-def _add_flatten(parser: argparse.ArgumentParser) -> None:
-    _add_image(parser, may_be_absent=True)
-    _add_out(parser, f"{_NEW_IMAGE}; with --stack a folder, or a file whose name ends in {SQUASHFS_SUFFIX}")
-    parser.add_argument(
-        "--compress", choices=dict.fromkeys((*COMPRESSIONS, *squashfs.COMPRESSIONS)),
-        help=f"{_PACKS}; xz and lz4 are for a squashfs, which is packed by default as tar2sqfs does it",
-    )
-    parser.add_argument(
-        "--layers", metavar="N", type=_layers, default=1, help="how many layers are left at most [default: 1]"
-    )
-    parser.add_argument(
-        "--keep", metavar="DIR", help="folder to make, absent or empty, for all that is made on the way"
-    )
-    parser.add_argument(
-        "--dry-run", action="store_true", help="prints the commands, as a shell takes them, and runs none"
-    )
-    _add_stack(parser)
-
-
-def _add_stack(parser: argparse.ArgumentParser) -> None:
-    """Which layers are read in place of an image's, and how."""
-    _add_stack_layers(parser, "reads and writes")
-    parser.add_argument("--blobs", metavar="DIR", help="with --stack: folder with the contents of manifests")
-    parser.add_argument(
-        "--form", choices=[form.value for form in OutForm],
-        help="with --stack: what layers are written as [default: what the name of --out says]",
-    )
-
-
-def _add_stack_layers(parser: argparse.ArgumentParser, does: str) -> None:
-    parser.add_argument(
-        "--stack", metavar="LAYER", nargs="+",
-        help="layers in place of an image, the topmost first: folders, squashfs files, tar archives or manifests",
-    )
-    parser.add_argument(
-        "--data-layers", metavar="K", type=_data_layers, default=0,
-        help="with --stack: how many of the layers, the lowest ones, are data-only [default: 0]",
-    )
-    _add_userxattr(parser, f"with --stack: {does}")
-    _add_cross(parser)
-    _add_workers(parser)
-
-
-def _add_sizes(parser: argparse.ArgumentParser) -> None:
-    _add_image(parser, may_be_absent=True)
-    _add_stack_layers(parser, "reads")
-    parser.add_argument("--json", action="store_true", help="prints it all for a program")
-    parser.add_argument("--bytes", action="store_true", help="prints exact numbers of bytes")
-    parser.add_argument("--html", metavar="FILE", help="page to write besides; - is standard output, in its place")
-    parser.add_argument(
-        "--fail-over", metavar="PERCENT", type=_percent,
-        help="ends with status 1 where more than so much of the bytes isn't shown",
-    )
-
-
-def _add_mounted(parser: argparse.ArgumentParser) -> None:
-    parser.add_argument("folder", metavar="DIR", help="mounted tree")
-    _add_cross(parser)
-
-
-def _add_userxattr(parser: argparse.ArgumentParser, does: str) -> None:
-    parser.add_argument(
-        "--userxattr", action="store_true",
-        help=f"{does} marks as user.overlay.*, as the mount option of this name does",
-    )
-
-
-def _add_cross(parser: argparse.ArgumentParser) -> None:
-    parser.add_argument("--cross-file-systems", action="store_true", help="enters other file systems too")
-
-
-def _add_skip(parser: argparse.ArgumentParser) -> None:
-    parser.add_argument(
-        "--skip-unsupported", action="store_true",
-        help="leaves out what can't be stated, with a warning each, instead of refusing it",
-    )
-
-
-def _workers(text: str) -> int:
-    number = int(text)
-    if not 1 <= number <= MOST_WORKERS:
-        raise argparse.ArgumentTypeError(f"workers must be 1 to {MOST_WORKERS}")
-    return number
-
-
-def _layers(text: str) -> int:
-    number = int(text)
-    if not 1 <= number <= MAX_LAYERS:
-        raise argparse.ArgumentTypeError(f"layers must be 1 to {MAX_LAYERS}")
-    return number
-
-
-def _data_layers(text: str) -> int:
-    number = int(text)
-    if not 0 <= number < MAX_LAYERS:
-        raise argparse.ArgumentTypeError(f"data-only layers must be 0 to {MAX_LAYERS - 1}")
-    return number
-
-
-def _percent(text: str) -> Fraction:
-    share = Fraction(text) if re.fullmatch(r"\d{1,3}(\.\d{1,9})?", text) else Fraction(-1)
-    if not 0 <= share <= 100:
-        raise argparse.ArgumentTypeError("a share is a number from 0 to 100")
-    return share
-
-
-def _platform(text: str) -> str:
-    if text.count("/") not in (1, 2) or not all(text.split("/")):
-        raise argparse.ArgumentTypeError("a platform is OS/ARCH or OS/ARCH/VARIANT")
-    return text
-
-
-def _name(text: str) -> str:
-    try:
-        text.encode()
-    except UnicodeEncodeError:
-        raise argparse.ArgumentTypeError("a name isn't UTF-8") from None
-    return text
 
 
 def _folder(path: str) -> str:
@@ -470,6 +77,8 @@ def _folder(path: str) -> str:
 
 
 def _scan(words: argparse.Namespace) -> None:
+    if stack_in(_folder(words.layer)):
+        raise UsageFault(f"{words.layer} is a folder that unpack wrote, and no layer: it has manifests already")
     scan(ScanOptions(
         layer=_folder(words.layer), out=words.out, blobs=None if words.digests_only else _folder(words.blobs),
         userxattr=words.userxattr, cross_file_systems=words.cross_file_systems,
@@ -487,7 +96,7 @@ def _store(words: argparse.Namespace) -> None:
 
 def _build(words: argparse.Namespace) -> None:
     build_layer(BuildOptions(
-        layer=words.layer, blobs=_folder(words.blobs), out=_folder(words.out), userxattr=words.userxattr,
+        layer=words.layer, blobs=_folder(words.blobs), out=_folder(words.out), userxattr=bool(words.userxattr),
         compress=words.compress,
     ))
 
@@ -500,6 +109,7 @@ def _unpack(words: argparse.Namespace) -> None:
 
 
 def _pack(words: argparse.Namespace) -> None:
+    require_order(words.layers)
     out = _target(words.out)
     if None not in (out.tag, words.tag) and out.tag != words.tag:
         raise UsageFault(f"{words.out} and --tag give two names")
@@ -510,8 +120,22 @@ def _pack(words: argparse.Namespace) -> None:
     ))
 
 
+def _take_folder_of_unpack(words: argparse.Namespace) -> None:
+    """Takes a folder that `unpack` or `store` wrote, in place of an image or as the only layer, as the stack that it is."""
+    given = words.stack or [words.image] if words.image or words.stack else []
+    layers = stack_in(_folder(given[0])) if len(given) == 1 else []
+    if layers:
+        words.image, words.stack = None, layers
+        words.blobs = getattr(words, "blobs", None) or f"{_folder(given[0])}/{BLOBS}"
+    for word in given if len(given) > 1 else []:
+        if stack_in(_folder(word)):
+            raise UsageFault(f"{word} is a folder that unpack wrote, a stack of its own and no layer: name its manifests")
+    require_order(words.stack or [])
+
+
 def _require_one_sort(words: argparse.Namespace) -> None:
     """Refuses an image beside a stack, neither of them, and what is for the other one."""
+    _take_folder_of_unpack(words)
     if (words.image is None) == (words.stack is None):
         raise UsageFault("name an IMAGE, or layers by --stack LAYER..")
     strange = _OF_STACKS if words.stack is None else _OF_IMAGES
@@ -588,3 +212,15 @@ def _mounted(words: argparse.Namespace) -> None:
 def _print(lines: Iterable[str]) -> None:
     with standard_output() as out:
         out.writelines(lines)
+
+
+_RUNS: Mapping[str, Run] = {
+    "flatten": _flatten,
+    "sizes": _sizes,
+    "unpack": _unpack,
+    "pack": _pack,
+    "scan": _scan,
+    "store": _store,
+    "build": _build,
+    "mounted": _mounted,
+}

@@ -88,7 +88,7 @@ def main(words: list[str]) -> None:
     """Compiles, keeps and runs."""
     for number in (signal.SIGINT, signal.SIGTERM, signal.SIGHUP):
         signal.signal(number, lambda it, _: sys.exit(128 + it))
-    say("unproved: compiling it takes some two minutes; later runs begin at once")
+    say("unproved: compiling it takes a minute and a half; later runs begin at once")
     begun = time.time_ns()
     try:
         with tempfile.TemporaryDirectory(prefix=f"{PROGRAM}-") as room:

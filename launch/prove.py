@@ -211,8 +211,8 @@ def tell_what_it_takes() -> None:
     if any((_ROOT / "crates").glob("*/out/rlib")):
         say("what has changed since the last build is proved anew, which takes minutes or longer.")
         return
-    say("nothing was proved here before, so this takes some 65 minutes of processor time.")
-    say("meanwhile ./ovl_layers --unproved runs the program without proofs.")
+    say("nothing was proved here before: this takes some 65 minutes of processor time, 25 to 40 minutes on 4 processors.")
+    say("meanwhile, with --unproved as the first word, ./layers and ./ovl_layers run the program without proofs.")
 
 
 def _made_at() -> int:

@@ -187,8 +187,8 @@ def public_items():
     text = (TOP / "docs/PROVED.md").read_text(encoding="utf-8")
     if text != proved.page():
         yield "PROVED.md isn't what the contracts are: python3 -B tools/proved.py"
-    for crate in crates():
-        for call in sorted(calls(crate) - {item.name for item in proved.items_of(crate)} if calls(crate) else ()):
+    for crate in proved.crates():
+        for call in sorted(calls(crate) - {item.name for item in proved.items_of(crate)}):
             yield f"proved.py doesn't find {call} of {crate.name}, which has no documentation"
 
 

@@ -19,7 +19,10 @@ TOP = Path(__file__).resolve().parent.parent
 # The most words of each document, and of all together.
 LENGTHS = {
     "README.md": 1_100, "docs/TUTORIAL.md": 2_000, "docs/ARCHITECTURE.md": 1_500, "docs/DEVELOPING.md": 1_200,
-    "docs/HEADLINE.md": 2_600, "docs/PROVED.md": 1_200, "docs/GLOSSARY.md": 1_200, "docs/GATE.md": 400,
+    "docs/HEADLINE.md": 2_500, "docs/PROVED.md": 1_200, "docs/GLOSSARY.md": 1_200, "docs/GATE.md": 400,
+    "docs/MADE_FAULTS.md": 1_200, "docs/DECISIONS.md": 4_900, "docs/PROFILE.md": 5_300, "docs/FORMATS.md": 2_700,
+    "convert/README.md": 3_300, "bench/README.md": 600, "bench/FIGURES.md": 2_200, "examples/README.md": 600,
+    "tests/README.md": 600,
 }
 ALL = 30_000
 # What is refused, and what to write.
@@ -74,9 +77,10 @@ def turns() -> Iterator[str]:
 
 def lengths() -> Iterator[str]:
     """The documents that are too long."""
-    for name, most in LENGTHS.items():
-        if (words := words_of(TOP / name)) > most:
-            yield f"{name} has {words} words, more than {most}"
+    for path in documents():
+        name = str(path.relative_to(TOP))
+        if (words := words_of(path)) > LENGTHS.get(name, 0):
+            yield f"{name} has {words} words, more than {LENGTHS.get(name, 0)}"
     if (words := sum(map(words_of, documents()))) > ALL:
         yield f"all documents have {words} words, more than {ALL}"
 

@@ -5,6 +5,7 @@ import re
 from collections.abc import Callable
 
 quoted: Callable[[str], str] = json.encoder.encode_basestring  # type: ignore[attr-defined]
+_BLANK = re.compile("[\u115f\u1160\u2800\u3164\uffa0]")  # letters to Unicode, and nothing to the eye
 _PLAIN = re.compile(rb"[\x21-\x5b\x5d-\x7e]*\Z")
 
 
@@ -18,10 +19,12 @@ def escaped(data: bytes) -> str:
 
 
 def printable(text: str) -> str:
-    r"""A path or another text for a message: what isn't UTF-8 and what a terminal would obey is written as `\xHH`."""
-    if text.isprintable():
+    r"""A path or another text for a message: what isn't UTF-8, can't be seen or a terminal would obey is `\xHH`."""
+    if text.isprintable() and (text.isascii() or not _BLANK.search(text)):
         return text
-    return "".join(letter if letter.isprintable() else _escaped_letter(letter) for letter in text)
+    return "".join(
+        _escaped_letter(letter) if not letter.isprintable() or _BLANK.match(letter) else letter for letter in text
+    )
 
 
 def _escaped_letter(letter: str) -> str:

@@ -45,6 +45,13 @@ class WriteFault(Fault):
     status = WRITING
 
 
+class ClosedPipe(Fault):
+    """Whoever read standard output reads no more of it, as `head` does. Nothing is said of that."""
+
+    def __init__(self) -> None:
+        super().__init__("standard output is closed")
+
+
 class TarFault(Exception):
     """The bytes aren't a tar archive that can be read."""
 

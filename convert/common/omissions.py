@@ -26,6 +26,9 @@ class Loss(Enum):
         "entry with a label of SELinux (RHT.security.selinux), left out",
         "entries with labels of SELinux (RHT.security.selinux), left out",
     )
+    BELOW = (
+        "entry left out, as a directory above it was left out", "entries left out, as a directory above them was left out",
+    )
     GLOBAL = (
         "entry with values of PAX records for all entries, which docker passes over",
         "entries with values of PAX records for all entries, which docker passes over",

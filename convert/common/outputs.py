@@ -9,7 +9,7 @@ from collections.abc import Callable, Iterable, Iterator
 from typing import IO, TextIO
 
 from .contents import PIECE, Write
-from .faults import cannot_write, reason_of, told_as, writing
+from .faults import ClosedPipe, cannot_write, reason_of, told_as, writing
 from .stages import Stage, remove, tidy, told
 
 STANDARD_OUTPUT = "-"
@@ -114,6 +114,8 @@ def standard_output() -> Iterator[TextIO]:
         sys.stdout.flush()
     except OSError as error:
         os.dup2(os.open(os.devnull, os.O_WRONLY), sys.stdout.fileno())
+        if isinstance(error, BrokenPipeError):
+            raise ClosedPipe from None
         raise cannot_write("standard output", reason_of(error)) from None
 
 

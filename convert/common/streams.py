@@ -17,6 +17,7 @@ from typing import IO, Protocol
 
 from .contents import LARGE_PIECE, LARGE_PIECES, PIECE
 from .faults import EndsEarly, TarFault, cannot_read
+from .processes import last_words, running
 from .progress import Progress
 
 _GZIP = b"\x1f\x8b"
@@ -24,11 +25,11 @@ _RESERVED = 0xE0  # flags in the fourth byte
 _GZIP_WINDOW = 31  # zlib's number for a gzip header and trailer
 _GZIP_PIECE = 1 << 18
 _ZSTD = b"\x28\xb5\x2f\xfd"
-_OTHERS = {b"BZh": "bzip2", b"\xfd7zXZ\0": "xz"}
+_BZIP2 = {b"BZh%d1AY&SY" % level: "bzip2" for level in range(1, 10)}
+_OTHERS = {**_BZIP2, b"\xfd7zXZ\0": "xz"}
 _PACKINGS = {_GZIP: "gzip", _ZSTD: "zstd", **_OTHERS}
-HEAD_BYTES = 6  # that tell how a file is packed
+HEAD_BYTES = 10  # that tell how a file is packed
 _ZSTD_INPUT = re.compile(r"(zstd: )?/\*stdin\*\\ ?: ")  # what zstd puts before what it says
-_MOST_TOLD = 1_000
 
 
 class Source(Protocol):
@@ -298,36 +299,30 @@ def _by_zstd(packed: io.BufferedReader, name: str, may_wait: bool) -> Iterator[S
     if program is None:
         raise cannot_read(name, "it is packed by zstd, and there is no zstd program; install zstd")
     command = [program, "--decompress", "--stdout", "--quiet"]
+    feeder = None
     with tempfile.TemporaryFile() as told:
-        process = subprocess.Popen(command, stdin=subprocess.PIPE, stdout=subprocess.PIPE, stderr=told)
-        assert process.stdin is not None and isinstance(process.stdout, io.BufferedReader)
-        feeder = threading.Thread(target=_feed, args=(packed, process.stdin), daemon=True)
-        feeder.start()
         try:
-            yield process.stdout
-        except BaseException as error:
-            # An archive that seems to be cut short may be one of which zstd could unpack no more.
-            if not (isinstance(error, EndsEarly) and process.wait() != 0):
-                process.kill()
-                raise
+            with running(command, stdin=subprocess.PIPE, stdout=subprocess.PIPE, stderr=told) as process:
+                assert process.stdin is not None and isinstance(process.stdout, io.BufferedReader)
+                feeder = threading.Thread(target=_feed, args=(packed, process.stdin), daemon=True)
+                feeder.start()
+                try:
+                    yield process.stdout
+                except EndsEarly:
+                    # An archive that seems to be cut short may be one of which zstd could unpack no more.
+                    if process.wait() == 0:
+                        raise
+                process.stdout.close()
+                status = process.wait()
         finally:
-            process.stdout.close()
-            status = process.wait()
-            if not may_wait:
+            if feeder is not None and not may_wait:
                 feeder.join()
         if status != 0:
-            raise cannot_read(name, f"its zstd stream is broken: {_zstd_reason(told, status)}")
-
-
-def _zstd_reason(told: IO[bytes], status: int) -> str:
-    """What zstd said, in one line, or its status where it said nothing."""
-    told.seek(0)
-    lines = told.read(_MOST_TOLD).decode("utf-8", "surrogateescape").splitlines()
-    reasons = [_ZSTD_INPUT.sub("", line).strip() for line in lines]
-    return "; ".join(reasons) or f"zstd ended with status {status}"
+            reason = _ZSTD_INPUT.sub("", last_words(told, "zstd", status))
+            raise cannot_read(name, f"its zstd stream is broken: {reason}")
 
 
 def _feed(packed: io.BufferedReader, program: IO[bytes]) -> None:
-    """Writes all packed bytes to the program; one that ends early needs no more."""
-    with contextlib.suppress(BrokenPipeError), program:
+    """Writes all packed bytes to the program; one that ends early needs no more, and one that was ended is closed."""
+    with contextlib.suppress(BrokenPipeError, ValueError), program:
         shutil.copyfileobj(packed, program, PIECE)

@@ -79,6 +79,8 @@ def _require_free(options: FlattenOptions) -> None:
     out = options.out
     if out.is_standard_output:
         return
+    if os.path.exists(options.image) and os.path.exists(out.path) and os.path.samefile(options.image, out.path):
+        raise UsageFault(f"--out {out.path} is the image that is read: name another place")
     if options.keep is not None and os.path.realpath(options.keep) == os.path.realpath(out.path):
         raise UsageFault("--keep and --out must be two places")
     if out.form is Form.ARCHIVE and os.path.lexists(out.path) and not os.path.isfile(out.path):
@@ -248,7 +250,7 @@ class _Telling:
         blobs, config, links = (self._path(f"{STACK}/{name}") for name in _FOR_PACK)
         self._add_tool(
             "pack", *paths, "--blobs", blobs, "--config", config, "--links", links, "--out", out,
-            "--compress", self._options.compress, *_given("--tag", self._name),
+            "--compress", self._options.compress, *([] if self._name is None else [f"--tag={self._name}"]),
             *_given("--annotations", self._path(_ANNOTATIONS) if self._has_annotations else None),
         )
         self._add_tool("unpack", out, "--out", self._path(AGAIN), "--digests-only", *self._marks)
@@ -282,4 +284,17 @@ def _quoted(word: str) -> str:
     """A word as a shell takes it."""
     if isinstance(word, _InWork):
         return f'"$work/{word}"' if word else '"$work"'
-    return shlex.quote(word)
+    if word.isprintable():
+        return shlex.quote(word)
+    if word.endswith("\n"):
+        raise UsageFault(f"{word} ends with a newline, which no command for a shell can have")
+    return f'"$(printf -- {shlex.quote(_in_octal(word))})"'
+
+
+def _in_octal(word: str) -> str:
+    """A word as printf takes it, without what a terminal would obey."""
+    return "".join(
+        letter.replace("\\", "\\\\").replace("%", "%%") if letter.isprintable()
+        else "".join(f"\\{byte:03o}" for byte in letter.encode("utf-8", "surrogateescape"))
+        for letter in word
+    )

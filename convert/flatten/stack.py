@@ -31,6 +31,9 @@ _FITTED = "fitted.show"
 _SHOWN = f"{_NEW}.show"
 
 
+_OF_OTHERS = (".tar", ".img", ".raw", ".iso", ".ext4", ".qcow2", ".sqfs", ".sqsh", ".json")
+
+
 class OutForm(Enum):
     """What layers are written as."""
 
@@ -80,6 +83,14 @@ def _require_sound(options: FlattenStackOptions) -> None:
     require_ordinary(len(forms), options.data_layers)
     if options.layers > 1 and options.out.endswith(SUFFIX):
         raise UsageFault("with --layers over 1 --out is a folder of layers; --form squashfs makes them squashfs files")
+    for layer in options.stack.layers:
+        if os.path.exists(layer) and os.path.exists(options.out) and os.path.samefile(layer, options.out):
+            raise UsageFault(f"--out {options.out} is a layer that is read: name another place")
+    if options.form is None and options.out.endswith(_OF_OTHERS):
+        raise UsageFault(
+            f"--out {options.out}: layers are written as folders, or as a file whose name ends in {SUFFIX}; "
+            "--form folder makes a folder of this name"
+        )
     if options.keep is not None and os.path.realpath(options.keep) == os.path.realpath(options.out):
         raise UsageFault("--keep and --out must be two places")
     if options.is_squashfs():
@@ -134,10 +145,10 @@ class _DoingStack(Doing):
             with writing(name):
                 os.makedirs(out, 0o700, exist_ok=True)
             out, name = f"{out}/l{number}{suffix}", f"{name}/l{number}{suffix}"
-        manifest = self._without_host_marks(number, layer, is_lowest=number == count - 1)
+        manifest = self._without_host_marks(number, layer, count)
         options = BuildOptions(
             layer=manifest, blobs=self.path(f"{STACK}/{stacks.BLOBS}"), out=out,
-            userxattr=self._options.stack.userxattr, compress=self._options.compress, name=name,
+            userxattr=bool(self._options.stack.userxattr), compress=self._options.compress, name=name,
         )
         if self._options.is_squashfs():
             build_squashfs(options)
@@ -145,8 +156,8 @@ class _DoingStack(Doing):
             build(options)
         return out
 
-    def _without_host_marks(self, number: int, layer: str, is_lowest: bool) -> str:
-        """Writes the manifest of a new layer as it is to be built; gives its path.
+    def _without_host_marks(self, number: int, layer: str, count: int) -> str:
+        """Writes the manifest of one of so many new layers as it is to be built; gives its path.
 
         A socket that can't be had hides what is below it all the same.
         """
@@ -155,13 +166,13 @@ class _DoingStack(Doing):
         take_links(self.path(layer), entries, self.path(f"{STACK}/{stacks.SHOWN_LINKS}"))
         for place, entry in enumerate(entries):
             marks += drop_host_marks(entry)
-            if entry.kind == SOCKET and self._options.is_squashfs() and not is_lowest:
+            if entry.kind == SOCKET and self._options.is_squashfs() and number < count - 1:
                 losses.add(Loss.SOCKET, entry.path)
                 entries[place] = replace(whiteout(), path=entry.path)
         losses.tell(self._options.out)
         if marks:
             note_path(self._options.out, counted(marks, "mark", "marks") + " of the host's overlay left out")
-        path = self.path(f"{_NEW}/{stacks.layer_name(number)}")
+        path = self.path(f"{_NEW}/{stacks.layer_name(number, count)}")
         write_layer(path, lambda: named(entries), path, True)
         return path
 

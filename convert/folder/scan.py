@@ -11,7 +11,7 @@ from ..common.omissions import ScanLosses
 from ..common.open_dirs import READ, Chain, open_root
 from ..common.progress import Progress, note_path
 from ..model import rules
-from ..model.attributes import Unstated, marks_from_user, read_attributes, require_trusted
+from ..model.attributes import Unstated, marks_of, read_attributes, require_trusted
 from ..model.blobs import Writer, writers
 from ..model.entries import BLOCK, CHAR, DIRECTORY, FILE, NO_ATTRIBUTES, SYMLINK, Entry, is_whiteout, named
 from ..model.links import write_layer
@@ -27,7 +27,7 @@ class ScanOptions:
     layer: str
     out: str
     blobs: str | None
-    userxattr: bool = False
+    userxattr: bool | None = None
     cross_file_systems: bool = False
     skip_unsupported: bool = False
     workers: int = 1
@@ -127,11 +127,10 @@ class Survey:
             raise cannot_read(self._path(found), reason_of(error)) from error
         if not attributes:
             return NO_ATTRIBUTES
-        if self._options.userxattr:
-            try:
-                attributes = marks_from_user(attributes)
-            except Unstated as fault:
-                raise cannot_read(self._path(found), fault.text) from None
+        try:
+            attributes = marks_of(attributes, self._options.userxattr)
+        except Unstated as fault:
+            raise cannot_read(self._path(found), fault.text) from None
         for name in list(attributes):
             problem = rules.attribute_problem(name)
             if problem:

@@ -23,7 +23,7 @@ class StackOptions:
 
     layers: Sequence[str]
     blobs: str | None = None
-    userxattr: bool = False
+    userxattr: bool | None = None
     cross_file_systems: bool = False
     skip_unsupported: bool = False
     digests_only: bool = False
@@ -39,7 +39,7 @@ def read_stack(options: StackOptions, out: str) -> None:
     losses, below, links = ScanLosses(), MergedTree(), itertools.count(1)
     for number, form in reversed(list(enumerate(forms))):
         entries = _read(options, number, form, out, losses, links)
-        below.cover(entries, has_attribute(f"{out}/{stacks.layer_name(number)}", [REDIRECT]))
+        below.cover(entries, has_attribute(f"{out}/{stacks.layer_name(number, len(options.layers))}", [REDIRECT]))
     write_shown_links(out, below)
     losses.tell()
 
@@ -48,7 +48,7 @@ def _read(
     options: StackOptions, number: int, form: Form, out: str, losses: ScanLosses, links: Iterator[int]
 ) -> Iterator[Named]:
     """Writes one layer; gives its entries."""
-    layer, manifest = options.layers[number], f"{out}/{stacks.layer_name(number)}"
+    layer, manifest = options.layers[number], f"{out}/{stacks.layer_name(number, len(options.layers))}"
     blobs = None if options.digests_only else f"{out}/{stacks.BLOBS}"
     if form is Form.FOLDER:
         return without_paths(scan_folder(ScanOptions(

@@ -42,7 +42,7 @@ class StoreOptions:
 
     folder: str
     out: str
-    userxattr: bool = False
+    userxattr: bool | None = None
     cross_file_systems: bool = False
     skip_unsupported: bool = False
     digests_only: bool = False
@@ -59,7 +59,7 @@ def store(options: StoreOptions) -> None:
     losses, below, links = ScanLosses(), MergedTree(), itertools.count(1)
     with new_folder(options.out) as stage:
         for number, layer in reversed(list(enumerate(layers))):
-            manifest = f"{stage}/{stacks.layer_name(number)}"
+            manifest = f"{stage}/{stacks.layer_name(number, len(layers))}"
             entries = scan_folder(ScanOptions(
                 layer=layer, out=manifest,
                 blobs=None if options.digests_only else f"{stage}/{stacks.BLOBS}",
@@ -69,7 +69,7 @@ def store(options: StoreOptions) -> None:
             below.cover(without_paths(entries), has_attribute(manifest, [REDIRECT]))
         write_shown_links(stage, below)
     for number, layer in enumerate(layers):
-        note_path(layer, f"is {stacks.layer_name(number)}")
+        note_path(layer, f"is {stacks.layer_name(number, len(layers))}")
     if os.path.ismount(os.path.join(options.folder, _MERGED)):
         note_path(options.folder, "it is mounted; what was written meanwhile may be missing")
     losses.tell()

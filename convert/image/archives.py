@@ -15,7 +15,7 @@ from ..common.omissions import Loss, Losses
 from ..common.progress import Progress, note
 from ..common.streams import Digesting, Source, buffered, read_ahead
 from ..model import rules
-from ..model.attributes import Unstated, marks_from_user
+from ..model.attributes import Unstated, marks_of
 from ..model.blobs import Digester, Writer
 from ..model.entries import (
     BLOCK, CHAR, DIRECTORY, FIFO, FILE, LINK_MODE, METACOPY, NO_ATTRIBUTES, OVERLAY, SYMLINK, WHITEOUT, Entry,
@@ -83,7 +83,7 @@ class Taking:
     skip_unsupported: bool = False
     overlay_marks: bool = False
     is_folder: bool = False
-    userxattr: bool = False
+    userxattr: bool | None = False  # for an image, whose archives have no such marks
     most_contents: int | None = None  # bytes of all its files, where they are bounded
     kept: KeptLayers | None = None  # of an image, which may name a layer again
 
@@ -150,6 +150,7 @@ class LayerArchive:
         self._paths = Paths(not taking.is_folder)
         self._losses = Losses()
         self._aufs_links: dict[str, Entry] = {}
+        self._left_out: set[str] = set()  # paths of what can't be stated
 
     def tree(self) -> LayerTree:
         """The layer, where its bytes are those that the image names."""
@@ -187,11 +188,30 @@ class LayerArchive:
             self._take(header, store)
         except Unfit as problem:
             self._refuse_or_note(header, str(problem))
+            self._leave_out(header)
         except Unstated as problem:
             raise cannot_read(self._layer.path, f"{os.fsdecode(header.name)}: {problem.text}") from None
 
+    def _leave_out(self, header: Header) -> None:
+        """Leaves out all below an entry that can't be stated: otherwise a private directory would be open to all."""
+        with contextlib.suppress(Unfit):
+            names = self._paths.names(header.name)
+            if names and not _is_special(names):
+                self._left_out.add(_path(names))
+                self._tree.drop(names)
+
+    def _is_left_out(self, names: list[str]) -> bool:
+        """Whether an entry is below one that can't be stated; one of its very path takes its place."""
+        if not self._left_out:
+            return False
+        self._left_out.discard(_path(names))
+        return any(_path(names[:depth]) in self._left_out for depth in range(1, len(names)))
+
     def _take(self, header: Header, store: Store) -> None:
         names = self._paths.names(header.name)
+        if self._is_left_out(names):
+            self._losses.add(Loss.BELOW, _path(names))
+            return
         if may_be_special(header.name) and _is_special(names):
             if not self._taking.is_folder:
                 self._take_special(header, names, store)
@@ -271,20 +291,23 @@ class LayerArchive:
         found = self._taking.held.attributes(tuple(raw.items()), lambda: self._decoded(raw))
         if found.marks:
             self._losses.add(Loss.MARK, _path(names), found.marks)
+        for problem in found.problems:
+            self._refuse_or_note(header, problem)
         return found.kept
 
     def _decoded(self, raw: Mapping[bytes, bytes]) -> Attributes:
         attributes: Mapping[str, bytes] = {
             name.decode("utf-8", "surrogateescape"): value for name, value in raw.items()
         }
-        if self._taking.userxattr:
-            attributes = marks_from_user(attributes)
+        attributes = marks_of(attributes, self._taking.userxattr)
         takes_marks = self._taking.overlay_marks
-        kept = {name: value for name, value in attributes.items() if takes_marks or not name.startswith(OVERLAY)}
-        problem = next(filter(None, map(rules.attribute_problem, kept)), None) or rules.attributes_problem(kept)
+        own = {name: value for name, value in attributes.items() if takes_marks or not name.startswith(OVERLAY)}
+        problems = {name: problem for name in own if (problem := rules.attribute_problem(name))}
+        kept = {name: value for name, value in own.items() if name not in problems}
+        problem = rules.attributes_problem(kept)
         if problem:
             raise Unfit(problem)
-        return Attributes(kept or NO_ATTRIBUTES, len(attributes) - len(kept))
+        return Attributes(kept or NO_ATTRIBUTES, len(attributes) - len(own), tuple(problems.values()))
 
     def _linked(self, header: Header, names: list[str]) -> Entry:
         """One more name of a file of this layer, or a copy of one of the layers below."""

@@ -5,6 +5,7 @@ import os
 import shutil
 import struct
 import subprocess
+import tempfile
 import zlib
 from collections import deque
 from collections.abc import Iterator
@@ -13,6 +14,7 @@ from typing import IO
 
 from ..common.contents import Write
 from ..common.faults import Fault, cannot_write
+from ..common.processes import last_words, running
 
 NONE, GZIP, ZSTD = "none", "gzip", "zstd"
 COMPRESSIONS = (NONE, GZIP, ZSTD)
@@ -100,23 +102,14 @@ def _packed_block(block: bytes, before: bytes, flush: int) -> bytes:
 
 @contextlib.contextmanager
 def _by_zstd(file: IO[bytes]) -> Iterator[Write]:
-    process = subprocess.Popen(
-        [str(shutil.which("zstd")), *_ZSTD_WORDS], stdin=subprocess.PIPE, stdout=file, stderr=subprocess.PIPE
-    )
-    assert process.stdin is not None and process.stderr is not None
-    is_done = False
-    try:
-        with contextlib.suppress(BrokenPipeError):
-            yield process.stdin.write
-            process.stdin.close()
-        is_done = True
-    finally:
-        if not is_done:
-            process.kill()
-        with contextlib.suppress(BrokenPipeError):
-            process.stdin.close()
-        reason = process.stderr.read().decode("utf-8", "replace").strip()
-        process.stderr.close()
-        status = process.wait()
-    if status != 0:
-        raise cannot_write("a layer", f"zstd ended with {reason or f'status {status}'}")
+    command = [str(shutil.which("zstd")), *_ZSTD_WORDS]
+    with tempfile.TemporaryFile() as told:
+        with running(command, stdin=subprocess.PIPE, stdout=file, stderr=told) as process:
+            assert process.stdin is not None
+            with contextlib.suppress(BrokenPipeError):
+                yield process.stdin.write
+            with contextlib.suppress(BrokenPipeError):
+                process.stdin.close()
+            status = process.wait()
+        if status != 0:
+            raise cannot_write("a layer", f"zstd failed: {last_words(told, 'zstd', status)}")

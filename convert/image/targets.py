@@ -26,6 +26,17 @@ class Form(Enum):
 
 TRANSPORTS = {"oci": Form.LAYOUT, "oci-archive": Form.ARCHIVE, "docker-archive": Form.ARCHIVE, "dir": Form.COPY}
 _DOCKER = "docker-archive"
+_BY_SKOPEO = "write oci:DIR, and hand it on by `skopeo copy oci:DIR"
+# What skopeo can write to and this doesn't, and what to say in its place.
+_ELSEWHERE = {
+    "docker": f"{_BY_SKOPEO} docker://NAME`",
+    "docker-daemon": "say `--out - | docker load`",
+    "containers-storage": "say `--out - | podman load`",
+    "tarball": f"say docker-archive:FILE{ARCHIVE_SUFFIX}",
+    "sif": f"{_BY_SKOPEO} sif:FILE`",
+    "ostree": f"{_BY_SKOPEO} ostree:NAME`",
+}
+_OF_OTHERS = (".squashfs", ".sqfs", ".sqsh", ".img", ".raw", ".iso", ".ext4", ".qcow2", ".vmdk")
 
 
 @dataclass(frozen=True)
@@ -68,12 +79,30 @@ def target_of(word: str) -> Target:
     """What a word means: a path, or as skopeo has it: `oci:PATH:TAG`."""
     transport, colon, rest = word.partition(":")
     if not colon or transport not in TRANSPORTS:
+        _require_path(word)
         path = _without_slashes(word)
         is_archive = path == STANDARD_OUTPUT or path.endswith((ARCHIVE_SUFFIX, *_PACKED_SUFFIXES))
         return _checked(Target(word, path, Form.ARCHIVE if is_archive else Form.LAYOUT))
     form = TRANSPORTS[transport]
     path, _, tag = (rest, "", "") if form is Form.COPY else rest.partition(":")
     return _checked(Target(f"{transport}:{path}", _without_slashes(path), form, tag or None))
+
+
+def _require_path(word: str) -> None:
+    """Refuses a word that means something else to who writes it than a path where an image can be written."""
+    transport, colon, _ = word.partition(":")
+    if colon and transport in _ELSEWHERE:
+        raise UsageFault(f"--out {word}: {_ELSEWHERE[transport]}")
+    name = _DOCKER_NAME.fullmatch(word)
+    if name and name[1] and "/" not in word:
+        raise UsageFault(
+            f"--out {word} is an image's name: say docker-archive:FILE.tar:{word} or oci:DIR:TAG (./{word} is a folder)"
+        )
+    if word.endswith(_OF_OTHERS):
+        raise UsageFault(
+            f"--out {word}: an image is written as a folder or a {ARCHIVE_SUFFIX} (oci:{word} is a folder of this name); "
+            "`layers flatten --stack` writes a squashfs"
+        )
 
 
 def _without_slashes(path: str) -> str:

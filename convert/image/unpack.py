@@ -75,7 +75,7 @@ def _take_layers(layers: list[ImageLayer], taking: Taking, stage: str) -> None:
     written = 0
     for number, layer in zip(reversed(range(len(layers))), layers):
         tree = LayerArchive(layer, taking).tree()
-        path, names = f"{stage}/{stacks.layer_name(number)}", LinkNames()
+        path, names = f"{stage}/{stacks.layer_name(number, len(layers))}", LinkNames()
         write_manifest(path, names.passing(tree.entries()), layer.path)
         names.write(links_path(path), tree.entries, path)
         written += os.path.getsize(path)

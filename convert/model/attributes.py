@@ -8,6 +8,7 @@ from ..common.faults import Fault, cannot_read
 from .entries import NO_ATTRIBUTES, OVERLAY
 
 USER_OVERLAY = "user.overlay."
+_USER_MARKS = frozenset(USER_OVERLAY + name for name in ("opaque", "redirect", "metacopy", "whiteout"))
 _CAP_SYS_ADMIN = 21
 _NONE_HERE = (errno.ENOTSUP, errno.EOPNOTSUPP)
 
@@ -60,6 +61,22 @@ def write_attributes(place: str | int, attributes: Mapping[str, bytes]) -> None:
 
 class Unstated(Fault):
     """An attribute has no form in the other family."""
+
+
+def marks_of(attributes: Mapping[str, bytes], userxattr: bool | None) -> Mapping[str, bytes]:
+    """The attributes with marks as `trusted.overlay.*`, of a mount with `userxattr` or without.
+
+    If nobody said which, marks as `user.overlay.*` are refused: left as they are they would mean nothing.
+    """
+    if userxattr:
+        return marks_from_user(attributes)
+    mark = next((name for name in attributes if name in _USER_MARKS), None) if userxattr is None else None
+    if mark:
+        raise Unstated(
+            f"it has {mark}, a mark of a mount with userxattr: give --userxattr, or --no-userxattr if it is an "
+            "ordinary attribute here"
+        )
+    return attributes
 
 
 def marks_from_user(attributes: Mapping[str, bytes]) -> Mapping[str, bytes]:

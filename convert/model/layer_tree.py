@@ -100,10 +100,11 @@ class Held:
 
 @dataclass(frozen=True, slots=True)
 class Attributes:
-    """Attributes as an entry has them, and how many marks were left out."""
+    """Attributes as an entry has them, how many marks were left out, and why others can't be stated."""
 
     kept: Mapping[str, bytes]
     marks: int
+    problems: tuple[str, ...] = ()
 
 
 class LayerTree:
@@ -141,6 +142,21 @@ class LayerTree:
         self._weigh(name, entry)
         is_anew = isinstance(before, Entry)
         folder.children[name] = Folder(entry, is_anew=is_anew) if entry.kind == DIRECTORY else entry
+
+    def drop(self, names: list[str]) -> None:
+        """Takes what is at a path away, with all below it, and what hides lower layers there."""
+        *way, name = names
+        folder = self.root
+        for each in way:
+            found = folder.children.get(each)
+            if not isinstance(found, Folder):
+                return
+            folder = found
+        before = folder.children.get(name)
+        if isinstance(before, Folder):
+            self._drop(folder, name, before)
+        elif folder.children.pop(name, None) and name not in folder.whiteouts:
+            self._count -= 1
 
     def put_whiteout(self, names: list[str], whiteout: Entry) -> None:
         """Hides what lower layers have at a path."""

@@ -71,7 +71,7 @@ class FileOptions:
     layer: str
     out: str
     blobs: str | None
-    userxattr: bool
+    userxattr: bool | None
     skip_unsupported: bool = False
     hides_sockets: bool = False  # a whiteout in place of each socket that can't be had, so that none below shows
 

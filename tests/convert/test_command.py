@@ -73,6 +73,8 @@ class Words(FolderTest):
             status, printed, told = call(*words)
             self.assertEqual((status, told), (0, ""))
             self.assertTrue(printed.startswith("usage: layers"))
+        with mock.patch.dict(os.environ, COLUMNS="100"):
+            self.assertLessEqual(len(call("--help")[1].splitlines()), 40)
 
     def test_older_pythons(self) -> None:
         with open(COMMAND, encoding="utf-8") as file:

@@ -173,7 +173,7 @@ class Broken(HostileTest):
 
     def test_bytes_that_are_no_archive(self) -> None:
         for data, because in (
-            (b"x" * 512, "isn't octal"), (b"0" * 1024, "checksum"), (b"BZh9", "bzip2"),
+            (b"x" * 512, "isn't octal"), (b"0" * 1024, "checksum"), (b"BZh91AY&SY", "bzip2"),
         ):
             write_layout(self.path("image"), [data])
             self.require_refused(because)

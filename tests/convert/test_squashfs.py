@@ -112,7 +112,7 @@ class Reading(FileTest):
         for data, words in (
             (b"", "it is neither a folder, nor a squashfs, nor a tar archive"), (b"a" * 9000, "nor a tar archive"),
             (b"hsqs", "its squashfs is cut"), (b'{"entries"', "perhaps the manifest of one"),
-            (layer()[:700], "the archive ends too early"), (b"BZh9", "it is packed by bzip2"),
+            (layer()[:700], "the archive ends too early"), (b"BZh91AY&SY", "it is packed by bzip2"),
             (b"hsqs" + bytes(24) + b"\x03" + bytes(68), "a squashfs of version 3.0; version 4 alone is read"),
             (b"hsqs" + bytes(24) + b"\x04" + bytes(13) + b"\x01" + bytes(53), "has 65,536 bytes, and there are 96"),
         ):

@@ -57,7 +57,7 @@ class Targets(FolderTest):
         saved = sorted([*LAYOUT, "manifest.json"])
         for word, more, path, names, name, docker in (
             ("new", (), "new", LAYOUT, None, None), ("new/", (), "new", LAYOUT, None, None),
-            ("new.tar", (), "new.tar", saved, None, None), ("new.img", (), "new.img", LAYOUT, None, None),
+            ("new.tar", (), "new.tar", saved, None, None), ("new.d", (), "new.d", LAYOUT, None, None),
             ("new", ("--tag", "x"), "new", LAYOUT, "x", None), ("oci:new", (), "new", LAYOUT, None, None),
             ("oci:new.tar:x", (), "new.tar", LAYOUT, "x", None), ("oci:new.gz", (), "new.gz", LAYOUT, None, None),
             ("oci-archive:new:x", (), "new", saved, "x", None),

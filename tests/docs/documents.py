@@ -4,8 +4,8 @@ A block is fenced, and says what it is: `sh` is run, `output` is printed by the 
 and `text` or nothing is a figure or a form. A comment right above a block of `sh` says what is special:
 
     <!-- status: 1 -->              the status that it ends with, where that isn't 0
-    <!-- needs: root, sqfs2tar -->  what it can't be run without: root, `the built program` or `the unproved program` of
-                                    this checkout, or other programs
+    <!-- needs: root, sqfs2tar -->  what it can't be run without: root, the `built` or `unproved` program of this
+                                    checkout, or other programs
     <!-- skip: the reason -->       why no test runs it
 """
 
@@ -52,6 +52,16 @@ class Block:
 def documents() -> list[Path]:
     """All documents."""
     return sorted(path for path in ROOT.rglob("*.md") if not _MADE & set(path.relative_to(ROOT).parts))
+
+
+def lines_outside(document: Path) -> Iterator[str]:
+    """The lines of a document outside of its blocks."""
+    is_inside = False
+    for line in document.read_text(encoding="utf-8").splitlines():
+        if line.lstrip().startswith("```"):
+            is_inside = not is_inside
+        elif not is_inside:
+            yield line
 
 
 def blocks_of(document: Path) -> Iterator[Block]:

@@ -16,7 +16,7 @@ import tempfile
 import unittest
 from pathlib import Path
 
-from documents import KINDS, ROOT, Block, blocks_of, documents
+from documents import KINDS, ROOT, Block, blocks_of, documents, lines_outside
 
 sys.path.insert(0, str(ROOT))
 sys.dont_write_bytecode = True
@@ -25,7 +25,7 @@ from convert.model.attributes import can_read_trusted  # noqa: E402
 
 PROGRAM = ROOT / "crates" / "ovl_layers" / "out" / "ovl_layers"
 UNPROVED = PROGRAM.parent / "unproved" / PROGRAM.name
-BUILT = {"the built program": PROGRAM, "the unproved program": UNPROVED}
+BUILT = {"built": PROGRAM, "unproved": UNPROVED}
 _SECONDS = 300
 _CODE_IN_ROW = re.compile(r"^\| [^|]*\| [^|]*\| `(.*?)`", re.MULTILINE)
 _SUDO = '#!/bin/sh\nexec "$@"\n'  # for a test that root runs
@@ -56,7 +56,7 @@ def why_not(needs: list[str]) -> str | None:
         else:
             missing = shutil.which(need) is None
         if missing:
-            return f"needs {need}"
+            return f"needs {need}" + " program" * (need in BUILT)
     return None
 
 
@@ -104,6 +104,11 @@ class DocumentTest(unittest.TestCase):
 class Blocks(DocumentTest):
     """The documents' blocks."""
 
+    def test_that_each_is_fenced(self) -> None:
+        for document in documents():
+            outside = "\n".join(lines_outside(document))
+            self.assertNotRegex(outside, r"\n\n {4}\S", f"a block of {document} isn't fenced")
+
     def test_all(self) -> None:
         for document in documents():
             self.begin()
@@ -111,6 +116,8 @@ class Blocks(DocumentTest):
             for block in blocks_of(document):
                 with self.subTest(block.place):
                     self.assertIn(block.kind, KINDS, "a block says what it is")
+                    for need in block.needs:
+                        self.assertRegex(need, r"^[\w.+-]+$", "a need is a word")
                     if block.kind == "sh":
                         printed = None
                         printed = self._run(block)

@@ -15,11 +15,9 @@ from support import PROGRAM, ROOT, FolderTest, call
 
 from convert import VERSION
 
-HELP = ROOT / "examples" / "help.txt"
 VERSION_TEXT = ROOT / "examples" / "version.txt"
 _OPTION = re.compile(r"(?<![\w-])--[a-z][a-z-]*")
 _WIDTH = 111  # of the help texts; what the options mean is broken as the terminal wants it
-_HELP_COMMAND = re.compile(r"^ {2,4}([a-z]+)  ", re.MULTILINE)
 _COMMANDS = ("scan", "store", "build", "unpack", "pack", "flatten", "sizes", "mounted")
 INSTALLED = ["bin/layers", "bin/ovl_layers", "share/man/man1/layers.1", "share/man/man1/ovl_layers.1"]
 
@@ -29,51 +27,53 @@ def page(name: str) -> str:
     return (ROOT / "man" / name).read_text(encoding="utf-8").replace("\\-", "-")
 
 
-def section(text: str, name: str) -> str:
-    """A section of a manual page."""
-    return text.split(f".SH {name}\n", 1)[1].split("\n.SH ", 1)[0]
-
-
-def page_commands(text: str) -> set[str]:
-    """The commands that a manual page has."""
-    return set(re.findall(r"^\.TP\n\.B ([a-z]+)$", section(text, "COMMANDS"), re.MULTILINE))
+def words(text: str) -> str:
+    """A text without what sets it: white space, and troff's lines of macros."""
+    return " ".join(re.sub(r"^\.[A-Z].*$", "", text, flags=re.MULTILINE).split())
 
 
 class Pages(unittest.TestCase):
-    """The pages have the options and commands of the help texts, and no others."""
+    """The pages are made from the help texts, and have all that these say."""
+
+    def test_they_are_as_they_would_be_made(self) -> None:
+        made = subprocess.run(
+            [sys.executable, "-B", ROOT / "tools" / "manual.py", "--check"], stdout=subprocess.PIPE, text=True, check=False
+        )
+        self.assertEqual((made.returncode, made.stdout), (0, ""))
 
     def test_layers(self) -> None:
-        helps = [call("--help")[1], *(call(command, "--help")[1] for command in _COMMANDS)]
-        options = set(_OPTION.findall("\n".join(helps)))
         text = page("layers.1")
-        self.assertEqual(set(_OPTION.findall(section(text, "OPTIONS"))), options)
-        self.assertEqual(set(_OPTION.findall(section(text, "SYNOPSIS"))), options)
-        synopsis = section(text, "SYNOPSIS")
-        for command, told in zip(_COMMANDS, helps[1:]):
-            own = synopsis.split(f".B layers {command}\n", 1)[1].split("\n.br\n", 1)[0]
-            self.assertEqual(set(_OPTION.findall(own)), set(_OPTION.findall(told.split("\n\n", 1)[0])), command)
-        commands = helps[0].split("commands:", 1)[1].split("examples:", 1)[0]
-        self.assertEqual(set(_HELP_COMMAND.findall(commands)), set(_COMMANDS))
-        self.assertEqual(page_commands(text), set(_COMMANDS))
+        for command in _COMMANDS:
+            own = text.split(f"\n.SS {command}\n", 1)[1].split("\n.S", 1)[0]
+            status, told, _ = call(command, "--help")
+            self.assertEqual(status, 0)
+            self.assertEqual(set(_OPTION.findall(own)) - set(_OPTION.findall(told)), set(), command)
+            self.assertEqual(set(re.findall(r"^  (--[a-z-]+)", told, re.MULTILINE)) - set(_OPTION.findall(own)), set(), command)
+            self.assertIn(words(told.split("\n\n")[1])[:200], words(own))
+
+    def test_ovl_layers(self) -> None:
+        text = page("ovl_layers.1")
+        for help_text in sorted((ROOT / "examples" / "help").glob("[!u]*.txt")):
+            own = text.split(f"\n.SS {help_text.stem}\n", 1)[1].split("\n.S", 1)[0]
+            told = help_text.read_text(encoding="utf-8")
+            self.assertEqual(set(_OPTION.findall(own)), set(_OPTION.findall(told)), help_text.stem)
+            for paragraph in told.split("\n\nOptions:")[1].split("\n\n")[1:-1]:
+                self.assertIn(words(paragraph), words(own))
+
+    def test_troff_takes_them(self) -> None:
+        if shutil.which("groff") is None:
+            self.skipTest("needs groff")
+        for name in ("layers.1", "ovl_layers.1"):
+            ran = subprocess.run(
+                ["groff", "-man", "-ww", "-Tutf8", "-z", ROOT / "man" / name], stderr=subprocess.PIPE, text=True, check=False
+            )
+            self.assertEqual((ran.returncode, ran.stderr), (0, ""), name)
 
     def test_no_line_of_help_is_too_wide(self) -> None:
         with mock.patch.dict(os.environ, COLUMNS="80"):
             helps = [call("--help")[1], *(call(command, "--help")[1] for command in _COMMANDS)]
         for line in "".join(helps).splitlines():
             self.assertLessEqual(len(line), _WIDTH, line)
-
-    def test_ovl_layers(self) -> None:
-        if PROGRAM.exists():
-            result = subprocess.run([PROGRAM, "--help"], capture_output=True, text=True, check=True)
-            told = result.stdout
-        elif HELP.exists():
-            told = HELP.read_text(encoding="utf-8")
-        else:
-            self.skipTest("neither the built program nor examples/help.txt is there")
-        text = page("ovl_layers.1")
-        self.assertEqual(set(_OPTION.findall(section(text, "OPTIONS"))), set(_OPTION.findall(told)))
-        commands = told.split("Commands:", 1)[1].split("Options:", 1)[0]
-        self.assertEqual(page_commands(text), set(_HELP_COMMAND.findall(commands)))
 
     def test_version(self) -> None:
         self.assertEqual(call("--version"), (0, f"layers {VERSION}\n", ""))

@@ -174,7 +174,7 @@ class Build(Making):
         status, printed, told = self.run_launcher("show", "a b")
         self.assertEqual((status, printed), (0, "proved show a b\n"), told)
         self.assertEqual(self.times(), {name: 1 for name in _CRATES if name != "tests"})
-        self.assertIn("meanwhile ./ovl_layers --unproved", told)
+        self.assertIn("meanwhile, with --unproved as the first word", told)
         last = told.splitlines()[-1]
         self.assertRegex(last, r"^ovl_layers: ovl_layers is proved, in \d+:\d\d; 0 left, \d+:\d\d so far$")
         for name in self.times():

@@ -1,0 +1,411 @@
+"""The words of the command line, and its help."""
+
+import argparse
+import re
+from collections.abc import Callable, Mapping
+from fractions import Fraction
+
+from . import VERSION
+from .flatten.stack import OutForm
+from .folder.build_squashfs import SUFFIX as SQUASHFS_SUFFIX
+from .image.compression import COMPRESSIONS, NONE
+from .image.configuration import USUAL_PLATFORM
+from .model.rules import MAX_LAYERS
+from .model.workers import MOST_WORKERS, usual_workers
+from .squashfs import programs as squashfs
+
+NAME = "layers"
+Run = Callable[[argparse.Namespace], None]
+
+_ABOUT = """\
+Inspects and rewrites container images, and other stacks of overlayfs layers; what they show stays the same.
+What layers show comes from the proved program ovl_layers; reading and writing them is tested."""
+
+_MORE = """\
+IMAGE is an OCI image layout, what docker save wrote, or - for standard input. A layer on a disk is a folder,
+a squashfs, a tar archive, or a manifest: a JSON file that lists what is in the layer, with the contents of
+files in a folder of blobs, each named by its SHA-256 digest. The topmost layer comes first.
+
+examples:
+  docker save NAME | {name} flatten - --out - | docker load
+  {name} sizes image.tar --html sizes.html
+  sudo {name} flatten --stack /srv/upper live.squashfs --out new.squashfs
+
+exit status:
+  0  done
+  1  flatten: the layers have faults, which are on standard output; sizes: --fail-over is exceeded
+  2  the words don't fit
+  3  something can't be read, or can't be stated in a manifest or an image
+  4  something can't be written
+  5  anything else
+
+`{name} COMMAND --help` explains a command."""
+
+_SCAN = """\
+Write the manifest of a layer, and the contents of its files into the folder of blobs. LAYER is the layer's
+folder, a squashfs file, or a tar archive of the folder with its attributes. In all of them a char device 0:0
+is a whiteout, trusted.overlay.* are marks, and names that begin with .wh. are names like others. A squashfs
+is read by sqfs2tar (in Debian's squashfs-tools-ng); it gives no sockets, which is counted and printed.
+
+Links are never followed, and other file systems aren't entered. Anything that a manifest can't state
+is refused, before anything is written: names that aren't UTF-8, paths over 128 names or 4,095 bytes,
+over 1,048,576 entries, trusted.overlay.overlay.* attributes. If names are one file (hard links), NAME.links
+beside NAME.json says so, for `build` and `pack`; for standard output they are files of their own.
+
+With --digests-only in place of --blobs contents are read for their digests and copied nowhere, which is
+enough for `ovl_layers show`.
+
+Only root can read the marks of an overlay (trusted.overlay.*) of a folder; those of a file anyone can."""
+
+_STORE = """\
+Write a layer that docker (overlay2) or podman and buildah (containers-storage) keep on this machine, and
+those below it, as manifests: OUT/l0.json, the topmost, OUT/l1.json and so on, and the contents of all
+their files into OUT/blobs, as `scan` does. OUT/l0.links and so on have the hard links of each layer, and
+OUT/shown.links those that the layers show together.
+
+DIR is the folder of the topmost layer, such as /var/lib/docker/overlay2/ID or
+/var/lib/containers/storage/overlay/ID; its `lower` says which layers are below it.
+
+Only root can read the marks of an overlay (trusted.overlay.*)."""
+
+_BUILD = """\
+Make the folder of a manifest, or a squashfs if the name ends in .squashfs: kinds, modes, owners, times,
+attributes, devices and whiteouts, as the kernel has them. Contents are checked against their digests. Names
+that are one file, by the LAYER.links that `scan` writes beside LAYER.json, become hard links. Owners, devices
+and trusted.overlay.* attributes of a folder need root.
+
+A squashfs is made by tar2sqfs (in Debian's squashfs-tools-ng), without any rights, of the same bytes for the
+same input. It has no sockets, and times in whole seconds from 1970 to 2105, which is counted and printed. It
+gets its name once it was read again and gives the manifest back."""
+
+_UNPACK = """\
+Write the layers of an image as manifests: DIR/l0.json, the topmost, DIR/l1.json and so on, and the
+contents of all their files into DIR/blobs. DIR/config.json is the image's configuration with its platform,
+for `pack --config`; DIR/annotations.json has the annotations of its manifest, if it has any. With
+--digests-only contents are read for their digests and copied nowhere, which is enough for `ovl_layers show`.
+
+IMAGE is an OCI image layout (a folder or a tar archive of it), what `docker save` writes, or a folder of
+skopeo's dir:. It may also be named as skopeo does it (oci:DIR:TAG, docker-archive:FILE); - is an archive
+from standard input. An archive may be packed by gzip or zstd. Layers may be plain, gzip, or zstd if the
+zstd program is there. Their digests are checked. A directory that a layer leaves out is as the layers below
+show it. Names that are one file (hard links) are listed in DIR/l0.links and so on, those that all layers show
+in DIR/shown.links. A whiteout (.wh.NAME) becomes a char device 0:0, and .wh..wh..opq an opaque directory."""
+
+_PACK = """\
+Write manifests, the topmost first, as an OCI image layout: a folder, or one tar archive if the name ends in
+.tar, which `docker load` and `podman load` take too. --out may also be named as skopeo does it; - is an
+archive on standard output. The same input gives the same bytes. The image's configuration (command,
+environment, user, labels, platform and all else) is that of --config. A history of as many layers is kept as
+it is; any other stays as entries without layers, and each layer gets an entry of its own.
+
+Names are hard links if the file of links beside a manifest has them as one file, or for a manifest without
+such a file that of --links, and all else that the manifest says of them is the same.
+
+A layer that has moved directories (redirects) or files without contents (metacopy) is refused: no image
+can state them. Run `ovl_layers deref` first, or `merge` down to one layer."""
+
+_FLATTEN = """\
+Write an image with one layer, or at most N, that shows the same. The image's configuration, name,
+annotations and hard links stay. Contents of files that upper layers deleted or replaced aren't in it.
+
+The proved program ovl_layers does it: in a checkout it is built first if it must be; else it is the one beside
+this program, or on the PATH. After `unpack` it checks the layers and writes all that they show as one. If
+several are to be left, it checks them (`fsck`), drops what changes nothing (`vacuum`), unfolds moved
+directories and metacopy files (`deref`), and merges the topmost layers (`merge`). Then `pack` writes the
+image. Each step is printed with its time.
+
+Nothing is written unless the new layers, and the new image when it is read again, show what the given
+image shows, byte for byte. If the program refuses the layers, its report and its status are those of this
+command. --out is as for `pack`: with -, an archive on standard output, nothing else goes there.
+
+--dry-run prints the commands that do the same by hand.
+
+With --stack LAYER.. layers on a disk take an image's place, the topmost first: folders, squashfs files, tar
+archives of folders, or manifests with --blobs. One layer is written: a squashfs if the name of --out ends
+in .squashfs, else a folder; with --layers over 1, a folder of layers l0, the topmost, l1 and so on. The
+steps and comparisons are the same, but a squashfs has no sockets, and only times in whole seconds."""
+
+_SIZES = """\
+Print where the bytes of an image's layers go, the topmost layer first: what each layer holds, what of it the
+layers together still show, what layers above hide (deleted or replaced, and shipped all the same), and what
+repeats the contents of a lower layer. Then the sums, what one layer would take, and the largest contents that
+aren't shown, with the layer that hides them. convert/README.md defines each number.
+
+Contents are copied nowhere. What the layers show comes from the proved program ovl_layers, as in `flatten`.
+
+--stack takes layers in place of an image, the topmost first: folders, squashfs files, tar archives of folders,
+and manifests, whose contents aren't needed. Only root can read the marks of folders."""
+
+_MOUNTED = """\
+Print what is in a folder, such as a mounted overlay, as `ovl_layers show` prints it, so that the two
+can be compared."""
+
+
+_IMAGE = "OCI image layout (folder or tar), or what docker save wrote; - is standard input"
+_NEW_IMAGE = (
+    "folder to make, or a file whose name ends in .tar; - is such an archive on standard output; or as skopeo "
+    "names it: oci:DIR:TAG, oci-archive:FILE:TAG, docker-archive:FILE:NAME, dir:DIR"
+)
+_PACKS = (
+    "packs the layers; zstd needs the program of that name, and is read by podman, buildah, containerd and "
+    "docker from 23 on, not by umoci and older dockers [default: none]"
+)
+
+
+def parser_of(runs: Mapping[str, Run]) -> argparse.ArgumentParser:
+    """The parser of all words, with what each command runs."""
+    parser = argparse.ArgumentParser(
+        prog=NAME, description=_ABOUT, epilog=_MORE.format(name=NAME), allow_abbrev=False,
+        formatter_class=argparse.RawDescriptionHelpFormatter,
+    )
+    parser.add_argument("--version", action="version", version=f"{NAME} {VERSION}", help="print the version")
+    parser.add_argument(
+        "--unproved", action="store_true",
+        help="in a checkout: run ovl_layers as compiled without proofs (a minute and a half, the first time)",
+    )
+    commands = parser.add_subparsers(title="commands", metavar="COMMAND", required=True)
+    for name, short, long, add in _COMMANDS:
+        command = commands.add_parser(
+            name, help=short, description=long, allow_abbrev=False,
+            formatter_class=argparse.RawDescriptionHelpFormatter,
+        )
+        command.set_defaults(run=runs[name])
+        add(command)
+    return parser
+
+
+def _add_scan(parser: argparse.ArgumentParser) -> None:
+    parser.add_argument("layer", metavar="LAYER", help="folder of a layer, a squashfs, or a tar archive of the folder")
+    parser.add_argument("--out", metavar="FILE", required=True, help="manifest to write; - is standard output")
+    contents = parser.add_mutually_exclusive_group(required=True)
+    contents.add_argument("--blobs", metavar="DIR", help="folder of blobs, made if it is absent")
+    _add_digests_only(contents)
+    _add_reading(parser)
+
+
+def _add_store(parser: argparse.ArgumentParser) -> None:
+    parser.add_argument("folder", metavar="DIR", help="folder of the topmost layer in its store")
+    parser.add_argument("--out", metavar="OUT", required=True, help="folder to make, absent or empty")
+    _add_digests_only(parser)
+    _add_reading(parser)
+
+
+def _add_digests_only(parser: argparse._ActionsContainer) -> None:
+    parser.add_argument(
+        "--digests-only", action="store_true", help="writes no blobs: contents are read for their digests alone"
+    )
+
+
+def _add_reading(parser: argparse.ArgumentParser) -> None:
+    """How folders are read."""
+    _add_userxattr(parser, "reads")
+    _add_cross(parser)
+    _add_skip(parser)
+    _add_workers(parser)
+
+
+def _add_workers(parser: argparse.ArgumentParser) -> None:
+    parser.add_argument(
+        "--workers", metavar="N", type=_workers, default=usual_workers(),
+        help=f"how many processes read files, 1 to {MOST_WORKERS} [default: the processors, at most 4]",
+    )
+
+
+def _add_build(parser: argparse.ArgumentParser) -> None:
+    parser.add_argument("layer", metavar="LAYER", help="manifest of a layer")
+    parser.add_argument("--blobs", metavar="DIR", required=True, help="folder with the contents of its files")
+    parser.add_argument(
+        "--out", metavar="OUT", required=True,
+        help=f"folder to make, absent or empty, or a file whose name ends in {SQUASHFS_SUFFIX}",
+    )
+    parser.add_argument(
+        "--compress", choices=squashfs.COMPRESSIONS, help="packs the squashfs [default: as tar2sqfs does it]"
+    )
+    _add_userxattr(parser, "writes")
+
+
+def _add_unpack(parser: argparse.ArgumentParser) -> None:
+    _add_image(parser)
+    parser.add_argument("--out", metavar="DIR", required=True, help="folder to make, absent or empty")
+    _add_digests_only(parser)
+
+
+def _add_image(parser: argparse.ArgumentParser, may_be_absent: bool = False) -> None:
+    """Which image is read, and how."""
+    if may_be_absent:
+        parser.add_argument("image", metavar="IMAGE", nargs="?", help=_IMAGE)
+    else:
+        parser.add_argument("image", metavar="IMAGE", help=_IMAGE)
+    parser.add_argument("--platform", metavar="OS/ARCH", help="which of several images, such as linux/amd64")
+    parser.add_argument("--tag", metavar="NAME", help="which of several images, by its name in the image's index")
+    parser.add_argument(
+        "--overlay-marks", action="store_true",
+        help="takes attributes trusted.overlay.* of the image's archives too, which change what the layers show",
+    )
+    _add_skip(parser)
+
+
+def _add_pack(parser: argparse.ArgumentParser) -> None:
+    parser.add_argument("layers", metavar="LAYER", nargs="+", help="manifest of a layer, the topmost layer first")
+    parser.add_argument("--blobs", metavar="DIR", required=True, help="folder with the contents of their files")
+    _add_new_image(parser)
+    parser.add_argument(
+        "--config", metavar="FILE",
+        help="what the image runs, as whom and on which platform, such as the config.json that unpack writes",
+    )
+    parser.add_argument(
+        "--platform", metavar="OS/ARCH", type=_platform,
+        help=f"what the image says that it is for [default: that of --config, or {USUAL_PLATFORM}]",
+    )
+    parser.add_argument("--tag", metavar="NAME", type=_name, help="name of the image in its index")
+    parser.add_argument(
+        "--annotations", metavar="FILE",
+        help="annotations of the image's manifest, such as the annotations.json that unpack writes",
+    )
+    parser.add_argument(
+        "--links", metavar="FILE",
+        help="hard links of layers that have no such file beside them: the shown.links of unpack or store",
+    )
+    _add_skip(parser)
+
+
+def _add_new_image(parser: argparse.ArgumentParser) -> None:
+    """Which image is written."""
+    _add_out(parser, _NEW_IMAGE)
+    parser.add_argument("--compress", choices=COMPRESSIONS, default=NONE, help=_PACKS)
+
+
+def _add_out(parser: argparse.ArgumentParser, told: str) -> None:
+    parser.add_argument("--out", metavar="IMAGE", required=True, help=told)
+
+
+def _add_flatten(parser: argparse.ArgumentParser) -> None:
+    _add_image(parser, may_be_absent=True)
+    _add_out(parser, f"{_NEW_IMAGE}; with --stack a folder, or a file whose name ends in {SQUASHFS_SUFFIX}")
+    parser.add_argument(
+        "--compress", choices=dict.fromkeys((*COMPRESSIONS, *squashfs.COMPRESSIONS)),
+        help=f"{_PACKS}; xz and lz4 are for a squashfs, which is packed by default as tar2sqfs does it",
+    )
+    parser.add_argument(
+        "--layers", metavar="N", type=_layers, default=1, help="how many layers are left at most [default: 1]"
+    )
+    parser.add_argument(
+        "--keep", metavar="DIR", help="folder to make, absent or empty, for all that is made on the way"
+    )
+    parser.add_argument(
+        "--dry-run", action="store_true", help="prints the commands, as a shell takes them, and runs none"
+    )
+    _add_stack(parser)
+
+
+def _add_stack(parser: argparse.ArgumentParser) -> None:
+    """Which layers are read in place of an image's, and how."""
+    _add_stack_layers(parser, "reads and writes")
+    parser.add_argument("--blobs", metavar="DIR", help="with --stack: folder with the contents of manifests")
+    parser.add_argument(
+        "--form", choices=[form.value for form in OutForm],
+        help="with --stack: what layers are written as [default: what the name of --out says]",
+    )
+
+
+def _add_stack_layers(parser: argparse.ArgumentParser, does: str) -> None:
+    parser.add_argument(
+        "--stack", metavar="LAYER", nargs="+",
+        help="layers in place of an image, the topmost first: folders, squashfs files, tar archives or manifests",
+    )
+    parser.add_argument(
+        "--data-layers", metavar="K", type=_data_layers, default=0,
+        help="with --stack: how many of the layers, the lowest ones, are data-only [default: 0]",
+    )
+    _add_userxattr(parser, f"with --stack: {does}")
+    _add_cross(parser)
+    _add_workers(parser)
+
+
+def _add_sizes(parser: argparse.ArgumentParser) -> None:
+    _add_image(parser, may_be_absent=True)
+    _add_stack_layers(parser, "reads")
+    parser.add_argument("--json", action="store_true", help="prints it all for a program")
+    parser.add_argument("--bytes", action="store_true", help="prints exact numbers of bytes")
+    parser.add_argument("--html", metavar="FILE", help="page to write besides; - is standard output, in its place")
+    parser.add_argument(
+        "--fail-over", metavar="PERCENT", type=_percent,
+        help="ends with status 1 if more than this share of the bytes isn't shown",
+    )
+
+
+def _add_mounted(parser: argparse.ArgumentParser) -> None:
+    parser.add_argument("folder", metavar="DIR", help="mounted tree")
+    _add_cross(parser)
+
+
+def _add_userxattr(parser: argparse.ArgumentParser, does: str) -> None:
+    parser.add_argument(
+        "--userxattr", action=argparse.BooleanOptionalAction,
+        help=f"{does} marks as user.overlay.*, as the mount option of this name does",
+    )
+
+
+def _add_cross(parser: argparse.ArgumentParser) -> None:
+    parser.add_argument("--cross-file-systems", action="store_true", help="enters other file systems too")
+
+
+def _add_skip(parser: argparse.ArgumentParser) -> None:
+    parser.add_argument(
+        "--skip-unsupported", action="store_true",
+        help="leaves out what can't be stated, with a warning each, instead of refusing it",
+    )
+
+
+def _workers(text: str) -> int:
+    number = int(text)
+    if not 1 <= number <= MOST_WORKERS:
+        raise argparse.ArgumentTypeError(f"workers must be 1 to {MOST_WORKERS}")
+    return number
+
+
+def _layers(text: str) -> int:
+    number = int(text)
+    if not 1 <= number <= MAX_LAYERS:
+        raise argparse.ArgumentTypeError(f"layers must be 1 to {MAX_LAYERS}")
+    return number
+
+
+def _data_layers(text: str) -> int:
+    number = int(text)
+    if not 0 <= number < MAX_LAYERS:
+        raise argparse.ArgumentTypeError(f"data-only layers must be 0 to {MAX_LAYERS - 1}")
+    return number
+
+
+def _percent(text: str) -> Fraction:
+    share = Fraction(text) if re.fullmatch(r"\d{1,3}(\.\d{1,9})?", text) else Fraction(-1)
+    if not 0 <= share <= 100:
+        raise argparse.ArgumentTypeError("a share is a number from 0 to 100")
+    return share
+
+
+def _platform(text: str) -> str:
+    if text.count("/") not in (1, 2) or not all(text.split("/")):
+        raise argparse.ArgumentTypeError("a platform is OS/ARCH or OS/ARCH/VARIANT")
+    return text
+
+
+def _name(text: str) -> str:
+    try:
+        text.encode()
+    except UnicodeEncodeError:
+        raise argparse.ArgumentTypeError("a name isn't UTF-8") from None
+    return text
+
+
+_COMMANDS = (
+    ("flatten", "write an image or a stack as one layer", _FLATTEN, _add_flatten),
+    ("sizes", "print what each layer holds, and what of it isn't shown", _SIZES, _add_sizes),
+    ("unpack", "write an image's layers as manifests and blobs", _UNPACK, _add_unpack),
+    ("pack", "write manifests and blobs as an image", _PACK, _add_pack),
+    ("scan", "write a layer as a manifest and blobs", _SCAN, _add_scan),
+    ("store", "write a layer of docker or podman, and those below it", _STORE, _add_store),
+    ("build", "make the folder, or squashfs, of a manifest", _BUILD, _add_build),
+    ("mounted", "print what a folder shows, like ovl_layers show", _MOUNTED, _add_mounted),
+)
