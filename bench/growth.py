@@ -33,6 +33,8 @@ from small_layers import Layer, Sources, write
 ALLOWED, LAYERED = 1.15, 2.2
 # The most instructions and bytes of memory for a byte, and a little more bytes than the program takes of only a root.
 INSTRUCTIONS, MEMORY, ITSELF = 400, 12, 4_000_000
+# The most bytes of memory for a byte of a manifest of which a value is made: as others may write it, and of small objects.
+FORM, VALUE = 20, 200
 # The statuses of a stack in which a fault is found, of a manifest that is refused, and of a result over the limits.
 FAULTY, REFUSED, LIMIT = 1, 3, 5
 
@@ -52,6 +54,8 @@ class Case:
     data_only: Callable[[int], int] = lambda size: 0
     # Whether members are out of the order of their names.
     unsorted: bool = False
+    # The most bytes of memory for a byte.
+    memory: int = MEMORY
     # Further words.
     words: tuple[str, ...] = ()
     # The names of more files in the folder of contents, at a size.
@@ -109,8 +113,9 @@ CASES = [
     Case("two layers of a directory of N files", "vacuum", shapes.one_directory_twice, (25_000, 50_000, 100_000)),
     Case("a directory of N names of 246 bytes", "show", shapes.long_names, (5_000, 10_000, 20_000)),
     Case("N opaque directories of a file over the same, over empty ones", "merge", shapes.opaque_over_full, (2_500, 5_000, 10_000)),
-    Case("a directory of N files, members out of the order of their names", "show", shapes.one_directory, (10_000, 20_000), unsorted=True),
-    Case("a directory of N files, white space in the manifest", "show", shapes.spaced, (25_000, 50_000)),
+    Case("a directory of N files, members out of the order of their names", "show", shapes.one_directory, (10_000, 20_000), unsorted=True,
+         memory=FORM),
+    Case("a directory of N files, white space in the manifest", "show", shapes.spaced, (25_000, 50_000), memory=FORM),
     # Depth.
     Case("20,000 files under N directories in each other", "show", shapes.under_a_chain, (0, 15, 30, 60)),
     Case("N files under 15 directories of long names", "show", shapes.under_long_names, (500, 1_000, 2_000)),
@@ -177,17 +182,17 @@ CASES = [
          lambda size: [Layer()], (10_000, 20_000), words=ANY_SIZE, strangers=unnamed),
     Case("N files of other names among the contents, with `--any-size`", "fsck", lambda size: [Layer()], (10_000, 20_000), words=ANY_SIZE,
          strangers=other_files),
-    Case("an entry of N attributes backwards", "show", shapes.attributes_backwards, (125_000, 250_000)),
-    Case("an entry of an attribute of 5 N bytes and N times another", "show", shapes.attribute_again, (125_000, 250_000)),
+    Case("an entry of N attributes backwards", "show", shapes.attributes_backwards, (125_000, 250_000), memory=VALUE),
+    Case("an entry of an attribute of 5 N bytes and N times another", "show", shapes.attribute_again, (125_000, 250_000), memory=VALUE),
     # What anyone may hand in: the status is that of a manifest that is refused.
-    Case("N files, and an entry without a size", "show", shapes.late_fault, (10_000, 20_000, 40_000), status=REFUSED),
-    Case("N objects that are no entries", "show", shapes.no_entries, (125_000, 250_000), status=REFUSED),
-    Case("N objects of 100 in each other", "show", shapes.deep_objects, (2_500, 5_000), status=REFUSED),
-    Case("N zeros as entries", "show", shapes.zeros, (500_000, 1_000_000), status=REFUSED),
-    Case("a list of N numbers as the whole manifest", "show", shapes.numbers_alone, (500_000, 1_000_000), status=REFUSED),
-    Case("an entry of N members", "show", shapes.many_members, (250_000, 500_000), status=REFUSED),
-    Case("an entry of N attributes that are no texts", "show", shapes.wrong_attributes, (250_000, 500_000), status=REFUSED),
-    Case("N members `entries`", "show", shapes.many_lists, (125_000, 250_000), status=REFUSED),
+    Case("N files, and an entry without a size", "show", shapes.late_fault, (10_000, 20_000, 40_000), status=REFUSED, memory=VALUE),
+    Case("N objects that are no entries", "show", shapes.no_entries, (125_000, 250_000), status=REFUSED, memory=VALUE),
+    Case("N objects of 100 in each other", "show", shapes.deep_objects, (2_500, 5_000), status=REFUSED, memory=VALUE),
+    Case("N zeros as entries", "show", shapes.zeros, (500_000, 1_000_000), status=REFUSED, memory=VALUE),
+    Case("a list of N numbers as the whole manifest", "show", shapes.numbers_alone, (500_000, 1_000_000), status=REFUSED, memory=VALUE),
+    Case("an entry of N members", "show", shapes.many_members, (250_000, 500_000), status=REFUSED, memory=VALUE),
+    Case("an entry of N attributes that are no texts", "show", shapes.wrong_attributes, (250_000, 500_000), status=REFUSED, memory=VALUE),
+    Case("N members `entries`", "show", shapes.many_lists, (125_000, 250_000), status=REFUSED, memory=VALUE),
 ]
 
 
@@ -260,7 +265,7 @@ def grown(before: Cost | None, after: Cost, allowed: float) -> bool:
 def marked(case: Case, before: Cost | None, it: Cost) -> Marked:
     many = it.instructions is not None and it.instructions > case.most * it.bytes
     grew = " (grown)" if grown(before, it, case.allowed) else ""
-    return Marked(it, " (too many)" if many else grew, " (too much)" if it.peak > MEMORY * it.bytes + ITSELF else "")
+    return Marked(it, " (too many)" if many else grew, " (too much)" if it.peak > case.memory * it.bytes + ITSELF else "")
 
 
 def measured(program: str, case: Case, sizes: Sequence[int], longest: float, unsorted: bool) -> Iterator[Marked]:
