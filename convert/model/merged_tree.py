@@ -76,7 +76,7 @@ class MergedTree:
             covering.release(below)
 
     def nodes(self) -> Iterator[tuple[str, Node]]:
-        """All paths with what stands there, in path order."""
+        """All paths with what is there, in path order."""
         if self.root is None:
             return
         yield "/", self.root
