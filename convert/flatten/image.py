@@ -119,7 +119,7 @@ def _print_image(image: str) -> None:
 
 
 class _Doing(Doing):
-    """Does the steps of an image, and tells each with its time."""
+    """Does the steps of an image, and reports each with its time."""
 
     def __init__(self, options: FlattenOptions, folder: str, image: str) -> None:
         super().__init__(
@@ -276,7 +276,7 @@ def _word_of_image(path: str) -> str:
 
 
 def _given(option: str, value: str | None) -> list[str]:
-    """An option with its value, where there is one."""
+    """An option with its value, if there is one."""
     return [] if value is None else [option, value]
 
 

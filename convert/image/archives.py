@@ -56,7 +56,7 @@ class Layer(Protocol):
 
     @property
     def unpacked_digest(self) -> tuple[str, str] | None:
-        """The algorithm and the digits of the digest of the archive's bytes, where they are known."""
+        """The algorithm and the digits of the digest of the archive's bytes, if they are known."""
 
     def is_checked(self) -> bool:
         """Whether these bytes are looked at before they are read."""
@@ -84,7 +84,7 @@ class Taking:
     overlay_marks: bool = False
     is_folder: bool = False
     userxattr: bool | None = False  # for an image, whose archives have no such marks
-    most_contents: int | None = None  # bytes of all its files, where they are bounded
+    most_contents: int | None = None  # bytes of all its files, if they are bounded
     kept: KeptLayers | None = None  # of an image, which may name a layer again
 
 
@@ -97,7 +97,7 @@ class ArchiveReader:
         self._contents = 0
 
     def read(self, take: Take) -> None:
-        """Gives each entry on, where the layer's bytes are those that the image names."""
+        """Gives each entry on, if the layer's bytes are those that the image names."""
         progress = Progress(f"unpacking bytes of {self._layer.name[-20:]}")
         try:
             with self._layer.archive(progress) as stream:
@@ -153,7 +153,7 @@ class LayerArchive:
         self._left_out: set[str] = set()  # paths of what can't be stated
 
     def tree(self) -> LayerTree:
-        """The layer, where its bytes are those that the image names."""
+        """The layer, if its bytes are those that the image names."""
         layer = self._layer
         try:
             self._take_all()
@@ -341,7 +341,7 @@ def _known(contents: Contents) -> Store:
 
 
 def has_contents(header: Header) -> bool:
-    """Whether what an entry of an image's layer has as data are contents of a file, where it can be stated at all."""
+    """Whether what an entry of an image's layer has as data are contents of a file, if it can be stated at all."""
     if header.type not in REGULAR_TYPES:
         return False
     if not may_be_special(header.name):
@@ -354,7 +354,7 @@ def has_contents(header: Header) -> bool:
 
 
 def _is_special(names: list[str]) -> bool:
-    """Whether a name stands for something else than an entry of the layer."""
+    """Whether a name means something else than an entry of the layer."""
     return bool(names) and (names[-1].startswith(WHITEOUT_PREFIX) or is_of_aufs(names))
 
 

@@ -86,7 +86,7 @@ class ImageLayer:
             return part.is_gzip()
 
     def packed_size(self) -> int | None:
-        """How many bytes it has in the image, where these are compressed."""
+        """How many bytes it has in the image, if these are compressed."""
         with self.members.opened(self.name) as part, reading(self.path):
             return self.size if part.is_packed() else None
 
@@ -137,7 +137,7 @@ _C = TypeVar("_C", bound=_Choice)
 
 
 def spellings(tag: str) -> set[str]:
-    """A name, and what docker and skopeo make of it where a part is left out."""
+    """A name, and what docker and skopeo make of it if a part is left out."""
     whole = tag if ":" in tag.rpartition("/")[2] else f"{tag}:latest"
     return {tag, whole, f"docker.io/{whole}", f"docker.io/library/{whole}"}
 
@@ -210,7 +210,7 @@ class _Documents:
     def configuration(
         self, name: str, descriptor: Descriptor | None, digest: Digest | None, count: int,
     ) -> tuple[Document, list[Digest | None]]:
-        """An image's configuration, and the digests of its layers' unpacked bytes where it has them."""
+        """An image's configuration, and the digests of its layers' unpacked bytes if it has them."""
         value = self.read(name, descriptor, digest)
         try:
             require_configuration(value)
@@ -238,7 +238,7 @@ class _Documents:
         return ImageLayer(name, self.path(name), self.members, there, descriptor.digest, unpacked)
 
     def _require_packing(self, name: str, media_type: str | None) -> None:
-        """Refuses a layer that isn't packed as its media type says, where that says it."""
+        """Refuses a layer that isn't packed as its media type says, if that says it."""
         said = None if media_type is None else LAYER_TYPES[media_type]
         with self.members.opened(name) as part, reading(self.path(name)):
             packing = part.packing()

@@ -19,10 +19,10 @@ _SCRATCH = "scratch"
 
 
 class BlobStore:
-    """Puts contents into a folder, which is made where it is absent.
+    """Puts contents into a folder, which is made if it is absent.
 
     Writers write into a stage inside the folder. Its blobs are moved into place at the end, and none
-    of them where the body fails.
+    of them if the body fails.
     """
 
     def __init__(self, folder: str) -> None:
@@ -114,7 +114,7 @@ class BlobWriter:
         return self._scratch
 
     def keep(self, digest: str, size: int) -> None:
-        """Makes the scratch file the blob of this digest, or empties it where that is there."""
+        """Makes the scratch file the blob of this digest, or empties it if that is there."""
         with writing(self._blobs):
             if size == 0 or self._is_written(digest) or self._has(digest, size):
                 self._empty()
@@ -133,7 +133,7 @@ class BlobWriter:
             pieces = [whole]
         digest, scratch = hashlib.sha256(), self.scratch()
         with writing(self._blobs):
-            self._empty()  # of what reading was cut off at, where it began again
+            self._empty()  # of what reading was cut off at, if it began again
         for piece in pieces:
             digest.update(piece)
             with writing(self._blobs):
@@ -147,7 +147,7 @@ class BlobWriter:
         return digest.hexdigest()
 
     def put(self, source: int, size: int) -> str | None:
-        """Copies an open file of this size in and gives its digest; nothing where its size is another.
+        """Copies an open file of this size in and gives its digest; nothing if its size is another.
 
         An error of the system is one of reading the source; one of writing is a fault of its own.
         """
@@ -217,10 +217,10 @@ class BlobWriter:
 
 
 class Digester:
-    """Stands for a writer where no blobs are wanted: contents are read for their digest alone."""
+    """Takes a writer's place if no blobs are wanted: contents are only read for their digest."""
 
     def put(self, source: int, size: int) -> str | None:
-        """The digest of an open file of this size; nothing where its size is another."""
+        """The digest of an open file of this size; nothing if its size is another."""
         digest, found = digest_and_size(source)
         return digest if found == size else None
 
@@ -240,7 +240,7 @@ Writer = BlobWriter | Digester
 
 @contextlib.contextmanager
 def writers(blobs: str | None) -> Iterator[Callable[[], Writer]]:
-    """What makes writers into a folder of blobs, or such as digest alone. Each process has one of its own."""
+    """What makes writers into a folder of blobs, or such as only digest. Each process has one of its own."""
     if blobs is None:
         yield Digester
     else:

@@ -45,8 +45,8 @@ _SAID_ENOUGH = frozenset([
 _OTHER_RECORD = b""  # in place of the key of a record that isn't read
 GNU_SPARSE = b"S"
 _SIGNED = 256
-_PREFIX_END = 500  # of the part of a name that stands before the other
-_STAR_PREFIX_END = 476  # of the same in archives of star, which have two times behind it
+_PREFIX_END = 500  # of the part of a name that comes before the other
+_STAR_PREFIX_END = 476  # of the same in archives of star, which have two times after it
 _STAR_TRAILER = b"tar\0"
 
 

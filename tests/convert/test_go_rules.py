@@ -18,7 +18,7 @@ END = bytes(1024)
 
 
 def raw(name: str, kind: bytes, data: bytes = b"", size: int | None = None, **fields: object) -> bytes:
-    """A header as it stands in an archive of GNU's, and its data."""
+    """A header as it is in an archive of GNU's, and its data."""
     info = tarfile.TarInfo(name)
     info.type, info.size, info.mode = kind, len(data) if size is None else size, 0o755
     for field, value in fields.items():

@@ -1,4 +1,4 @@
-"""Hostile and broken images: refused with a reason, nothing left behind, memory bounded."""
+"""Hostile and broken images: refused with a reason, nothing left, memory bounded."""
 
 import contextlib
 import gzip
@@ -154,7 +154,7 @@ class Broken(HostileTest):
         self.require_refused("gzip stream is broken")
 
     def test_what_is_read_ahead(self) -> None:
-        """An entry is told before a stream that breaks off behind it, and no thread is left."""
+        """An entry is reported before a stream that breaks off after it, and no thread is left."""
         data = os.urandom(1 << 20)
         for first, because in ((member("v", kind=b"V"), "an entry of type"), (member("f"), "stream is broken")):
             layer = archive([first, member("g", data)])
@@ -524,7 +524,7 @@ class Bomb(HostileTest):
 
 
 def _by_zstd(data: bytes) -> list[bytes]:
-    """Packed by zstd, where that is there."""
+    """Packed by zstd, if that is there."""
     zstd = shutil.which("zstd")
     return [subprocess.run([zstd, "-q"], input=data, stdout=subprocess.PIPE, check=True).stdout] if zstd else []
 
