@@ -220,7 +220,7 @@ class LayerArchive:
         entry = self._entry(header, names)
         self._tree.folder(names[:-1])
         if header.type == HARD_LINK:
-            entry = self._linked(header, names)
+            entry = self._linked(header, names, entry)
         elif entry.kind == FILE:
             _fill(entry, store)
         elif is_whiteout(entry) and not self._taking.is_folder:
@@ -309,7 +309,7 @@ class LayerArchive:
             raise Unfit(problem)
         return Attributes(kept or NO_ATTRIBUTES, len(attributes) - len(own), tuple(problems.values()))
 
-    def _linked(self, header: Header, names: list[str]) -> Entry:
+    def _linked(self, header: Header, names: list[str], entry: Entry) -> Entry:
         """One more name of a file of this layer, or a copy of one of the layers below."""
         told, is_folder = os.fsdecode(header.target), self._taking.is_folder
         linked = Paths(not is_folder).names(header.target, "the file that it links to")
@@ -321,6 +321,8 @@ class LayerArchive:
         if METACOPY in found.attributes and not is_folder:
             raise Unfit(f"it links to {told}, a file without its contents")
         self._taking.held.budget.attributes.take(len(found.attributes))
+        if (entry.mode, entry.uid, entry.gid) != (found.mode, found.uid, found.gid):
+            self._losses.add(Loss.LINK_HEADER, _path(names))
         if here is None:
             self._losses.add(Loss.LOWER_LINK, _path(names))
         elif not is_whiteout(here):  # the kernel links the whiteouts of a mount to one another, which nothing shows

@@ -282,8 +282,23 @@ class _Layout:
         """The one image that is meant."""
         index = self._documents.decoded("index.json", index_of, self._documents.read("index.json"))
         self._visit(index, "index.json", (), {}, 0)
+        if self._members.size("manifest.json") is not None:
+            self._require_agreement(self._documents.read("manifest.json"))
         chosen = _one_of(self._members.path, list(self._choices.values()), platform, tag)
         return replace(_image(self._documents, chosen, _blob_in_layout), names=tuple(chosen.names))
+
+    def _require_agreement(self, value: Json) -> None:
+        """Refuses what `docker save` would list beside the index, if it isn't of the same images: docker reads that."""
+        images = {
+            it.manifest.configuration.digest[1]: [layer.digest[1] for layer in it.manifest.layers]
+            for it in self._choices.values()
+        }
+        for image in self._documents.decoded("manifest.json", saved_images_of, value):
+            layers = [_digits(name) for name in image.layers]
+            if images.get(_digits(image.configuration) or "") != layers:
+                raise cannot_read(
+                    self._documents.path("manifest.json"), "it has an image that index.json hasn't, or with other layers"
+                )
 
     def _visit(
         self, index: Index, name: str, names: tuple[str, ...], platform: Mapping[str, Json], depth: int
@@ -394,6 +409,12 @@ def _copied_image(documents: _Documents, value: Json) -> Image:
     return _image(documents, chosen, lambda digest: digest[1])
 
 
+def _digits(name: str) -> str | None:
+    """The digits of the digest by which `docker save` names a file."""
+    found = re.search(r"([0-9a-f]{64})(\.json|/layer\.tar)?\Z", name)
+    return found[1] if found else None
+
+
 def _saved_image(documents: _Documents, value: Json, platform: str | None, tag: str | None) -> Image:
     """The one image that is meant of those that `docker save` wrote."""
     choices = [
@@ -403,9 +424,9 @@ def _saved_image(documents: _Documents, value: Json, platform: str | None, tag: 
     chosen = _one_of(documents.members.path, choices, platform, tag)
     image = chosen.image
     _require_count(documents, len(image.layers))
-    digits = re.search(r"([0-9a-f]{64})(\.json)?\Z", image.configuration)
+    digits = _digits(image.configuration)
     configuration, digests = documents.configuration(
-        image.configuration, None, ("sha256", digits[1]) if digits else None, len(image.layers)
+        image.configuration, None, ("sha256", digits) if digits else None, len(image.layers)
     )
     return Image(
         [documents.layer(name, None, digest) for name, digest in zip(image.layers, digests)],

@@ -97,6 +97,14 @@ class Rules(FolderTest):
         own = records({"uid": "7"}, b"g") + records({"uid": "8"}) + raw("x", b"0") + END
         self.assertEqual(self.unpacked(own)[:2], (0, ""))
 
+    def test_headers_of_links_are_said(self) -> None:
+        for mode, words in ((0o755, ""), (0o4755, "hard link with another mode or owner than its file")):
+            link = raw("y", b"1", linkname="x", mode=mode)
+            status, said, _ = self.unpacked(raw("x", b"0") + link + END)
+            self.assertEqual(status, 0)
+            self.assertIn(words, said)
+            self.assertEqual(bool(words), bool(said))
+
     def test_sparse_files(self) -> None:
         """Records make a sparse file by their version, or by a map."""
         for values, size in (
