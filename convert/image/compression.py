@@ -13,7 +13,7 @@ from concurrent.futures import Future, ThreadPoolExecutor
 from typing import IO
 
 from ..common.contents import Write
-from ..common.faults import Fault, cannot_write
+from ..common.faults import ReadFault, cannot_write
 from ..common.processes import last_words, running
 
 NONE, GZIP, ZSTD = "none", "gzip", "zstd"
@@ -34,7 +34,7 @@ def media_type(compression: str) -> str:
 def require_program(compression: str) -> None:
     """Refuses a way of packing whose program isn't there."""
     if compression == ZSTD and shutil.which("zstd") is None:
-        raise Fault("there is no zstd program; install zstd, or use --compress gzip")
+        raise ReadFault("there is no zstd program; install zstd, or use --compress gzip")
 
 
 @contextlib.contextmanager

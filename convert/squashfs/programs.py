@@ -1,6 +1,7 @@
 """squashfs files, read by `sqfs2tar` and written by `tar2sqfs`, both of squashfs-tools-ng."""
 
 import contextlib
+import errno
 import io
 import os
 import resource
@@ -26,6 +27,7 @@ _VERSION = 4
 _PACKAGE = "squashfs-tools-ng"
 _MOST_MEMORY = 1 << 30  # bytes that a program may have; sqfs2tar takes some 250 for each entry
 _MOST_TOLD = 16 << 20  # bytes of what it says, a line for each socket
+_LEAST_FREE = 1 << 16  # bytes of a disk that isn't full
 _LAST_TOLD = 1_000
 _SOCKET = (b"WARNING: ./", b": cannot pack socket\nSkipping ./", b"\n")  # a path stands between these
 _ENVIRONMENT = {"LC_ALL": "C"}  # without SOURCE_DATE_EPOCH, which would be in what tar2sqfs writes
@@ -100,7 +102,14 @@ def written(path: str, told_as: str, compress: str | None) -> Iterator[Write]:
         told.seek(0)
         words = told.read(_LAST_TOLD)
     if status != 0:
-        raise cannot_write(told_as, _reason(words, path, _WRITER, status))
+        reason = os.strerror(errno.ENOSPC) if _is_full(path) else _reason(words, path, _WRITER, status)
+        raise cannot_write(told_as, reason)
+
+
+def _is_full(path: str) -> bool:
+    """Whether nothing more can be written beside a path."""
+    free = os.statvfs(os.path.dirname(path) or ".")
+    return free.f_bavail * free.f_frsize < _LEAST_FREE
 
 
 @contextlib.contextmanager
