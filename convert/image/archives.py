@@ -3,6 +3,7 @@
 import contextlib
 import copy
 import functools
+import hashlib
 import os
 from collections.abc import Callable, Hashable, Mapping
 from dataclasses import dataclass, replace
@@ -13,7 +14,7 @@ from ..common.contents import PIECE
 from ..common.faults import cannot_read
 from ..common.omissions import Loss, Losses
 from ..common.progress import Progress, note
-from ..common.streams import Digesting, Source, buffered, read_ahead
+from ..common.streams import Source, buffered, read_ahead
 from ..model import rules
 from ..model.attributes import Unstated, marks_of
 from ..model.blobs import Digester, Writer
@@ -59,13 +60,16 @@ class Layer(Protocol):
         """The algorithm and the digits of the digest of the archive's bytes, if they are known."""
 
     def is_checked(self) -> bool:
-        """Whether these bytes are looked at before they are read."""
+        """Whether that digest is looked at anyway, since the archive isn't packed."""
 
     def identity(self) -> Hashable:
         """The same for two layers of the same bytes."""
 
     def archive(self, progress: Progress) -> contextlib.AbstractContextManager[Source]:
-        """The bytes of its archive, unpacked. Tells what is wrong with them as a fault of its path."""
+        """The bytes of its archive, unpacked. Tells what is wrong with them as a fault of its path.
+
+        What is read counts only once this has ended well.
+        """
 
 
 @dataclass(frozen=True, kw_only=True)
@@ -113,10 +117,10 @@ class ArchiveReader:
                 self._read(ahead, take)
             return
         algorithm, wanted = self._layer.unpacked_digest
-        source = Digesting(stream, algorithm)
-        with read_ahead(source) as ahead:
+        digest = hashlib.new(algorithm)
+        with read_ahead(stream, digest) as ahead:
             self._read(ahead, take)
-        if source.digest.hexdigest() != wanted:
+        if digest.hexdigest() != wanted:
             raise cannot_read(self._layer.path, f"its unpacked bytes aren't those of {algorithm}:{wanted}")
 
     def _read(self, stream: Source, take: Take) -> None:

@@ -9,9 +9,10 @@ from collections.abc import Callable, Hashable, Iterator, Mapping, Sequence
 from dataclasses import dataclass, field, replace
 from typing import Any, TypeVar
 
-from ..common.faults import ReadFault, UsageFault, cannot_read, reading
+from ..common.budgets import TooMuch
+from ..common.faults import ReadFault, TarFault, UsageFault, cannot_read, reading
 from ..common.progress import Progress
-from ..common.streams import Slice, Source, Watched, digest_of, unpacked
+from ..common.streams import Digesting, Reader, Source, Watched, unpacked
 from ..model import rules
 from .configuration import MAX_BYTES, Document, no_configuration, platform_of, platform_text, with_platform
 from .documents import (
@@ -49,34 +50,43 @@ class ImageLayer:
         return self.digest or self.members.identity(self.name), self.unpacked_digest
 
     @contextlib.contextmanager
-    def opened(self) -> Iterator[Slice]:
-        """The archive's bytes, which are those of its digest."""
-        with self.members.opened(self.name) as part:
-            if self.digest is not None:
-                _require_digest(self, part.again(), self.digest)
-            yield part
+    def archive(self, progress: Progress) -> Iterator[Source]:
+        """Its bytes, unpacked. They are digested on the way, so what is read counts once this has ended."""
+        with (
+            self.members.opened(self.name) as part, self._digested(Watched(part, progress)) as packed,
+            unpacked(packed, self.path) as stream,
+        ):
+            yield stream
 
     @contextlib.contextmanager
-    def archive(self, progress: Progress) -> Iterator[Source]:
-        """The same, unpacked."""
-        with self.opened() as part, unpacked(Watched(part, progress), self.path) as stream:
-            yield stream
+    def _digested(self, packed: Reader) -> Iterator[Reader]:
+        """The same bytes. That they aren't those of the digest is told before what is wrong with what they hold."""
+        if self.digest is None:
+            yield packed
+            return
+        source = Digesting(packed, self.digest[0])
+        try:
+            yield source
+        except (ReadFault, TarFault, TooMuch):
+            self._require_digest(source, self.digest)
+            raise
+        self._require_digest(source, self.digest)
+
+    def _require_digest(self, source: Digesting, digest: Digest) -> None:
+        with reading(self.path):
+            found = source.digest_of_all()
+        if found != digest[1]:
+            raise _wrong_bytes(self.path, digest)
 
     @contextlib.contextmanager
     def archive_quickly(self, progress: Progress) -> Iterator[Source]:
         """The same of a gzip stream, by a program that is quicker and less strict than zlib; see `quick_gzip`."""
-        with self.opened() as part:
-            progress.expect(part.size())
-            with unpacked_quickly(part, progress) as stream:
-                yield stream
+        with self.members.opened(self.name) as part, unpacked_quickly(Watched(part, progress), self.digest) as stream:
+            yield stream
 
     def is_checked(self) -> bool:
-        """Whether the digest of its bytes, which are looked at before they are read, is that of the unpacked ones."""
+        """Whether the digest of its bytes in the image is that of the unpacked ones."""
         return self.digest is not None and self.digest == self.unpacked_digest and self.packed_size() is None
-
-    def bytes_read(self) -> int:
-        """How many bytes of the image it takes to read it, those that are digested before."""
-        return self.size * (1 if self.digest is None else 2)
 
     def may_be_quick(self) -> bool:
         """Whether it can be unpacked by that program: what comes of it is checked by its digest."""
@@ -253,15 +263,6 @@ def _wrong_bytes(path: str, digest: Digest) -> ReadFault:
 
 def _wrong_size(path: str, descriptor: Descriptor) -> ReadFault:
     return cannot_read(path, f"it has another size than the {descriptor.size:,} bytes that its descriptor says")
-
-
-def _require_digest(layer: ImageLayer, part: Slice, digest: Digest) -> None:
-    progress = Progress(f"checking bytes of {layer.name[-20:]}")
-    with reading(layer.path):
-        found = digest_of(Watched(part, progress), digest[0])
-    progress.end()
-    if found != digest[1]:
-        raise _wrong_bytes(layer.path, digest)
 
 
 def _blob_in_layout(digest: Digest) -> str:

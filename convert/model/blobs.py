@@ -5,11 +5,11 @@ import hashlib
 import itertools
 import os
 import stat
-from collections.abc import Callable, Iterable, Iterator
+from collections.abc import Callable, Iterable, Iterator, Set
 from types import TracebackType
 
 from ..common.contents import PIECE, PRIVATE_MODE, Copier, Piece, digest_and_size, is_zeros, read_small, write_all
-from ..common.faults import cannot_read, is_of_writing, writing
+from ..common.faults import cannot_read, is_of_writing, reason_of, writing
 from ..common.open_dirs import CREATE, READ
 from ..common.progress import note
 from ..common.stages import Stage, tidy, told
@@ -75,14 +75,18 @@ class BlobStore:
     def writer(self) -> "BlobWriter":
         """One that puts contents in. Several may write at the same time, each in a process of its own."""
         assert self._stage is not None
-        scratch = f"{_SCRATCH}-{os.getpid()}-{next(self._numbers)}"
-        return BlobWriter(self.folder, self._stage.path, scratch, not self._was_empty)
+        return BlobWriter(self.folder, self._stage.path, _scratch_name(self._numbers), not self._was_empty)
 
     def _publish(self) -> None:
         assert self._stage is not None
         for name in os.listdir(self._stage.path):
             if not name.startswith(_SCRATCH):
                 os.rename(f"{self._stage.path}/{name}", f"{self.folder}/{name}")
+
+
+def _scratch_name(numbers: Iterator[int]) -> str:
+    """A name that no other writer of this run has."""
+    return f"{_SCRATCH}-{os.getpid()}-{next(numbers)}"
 
 
 class BlobWriter:
@@ -102,8 +106,11 @@ class BlobWriter:
             self._folder = os.open(stage, os.O_RDONLY | os.O_DIRECTORY | os.O_CLOEXEC)
 
     def close(self) -> None:
-        """Closes what is open."""
-        self._drop_scratch()
+        """Takes the scratch file away, and closes what is open."""
+        if self._scratch >= 0:
+            with contextlib.suppress(OSError):
+                os.unlink(self._scratch_name, dir_fd=self._folder)
+            self._drop_scratch()
         os.close(self._folder)
 
     def scratch(self) -> int:
@@ -178,13 +185,30 @@ class BlobWriter:
         """Writes contents that are there as a whole, at once by their digest; gives it."""
         digest = hashlib.sha256(piece).hexdigest()
         if piece and not self._has(digest, len(piece)):
-            with writing(self._blobs), contextlib.suppress(FileExistsError):
-                file = os.open(digest, CREATE, PRIVATE_MODE, dir_fd=self._folder)
-                try:
-                    write_all(file, piece)
-                finally:
-                    os.close(file)
+            try:
+                self._create(digest, piece)
+            except FileExistsError:
+                pass
+            except OSError:
+                with writing(self._blobs):
+                    raise
         return digest
+
+    def _create(self, digest: str, piece: Piece) -> None:
+        file = os.open(digest, CREATE, PRIVATE_MODE, dir_fd=self._folder)
+        try:
+            if os.write(file, piece) != len(piece):
+                os.lseek(file, 0, os.SEEK_SET)
+                write_all(file, piece)
+        finally:
+            os.close(file)
+
+    def drop_others(self, digests: Set[str]) -> None:
+        """Takes away what was written and isn't one of these. No other writer may be at work."""
+        with writing(self._blobs):
+            for name in os.listdir(self._folder):
+                if name not in digests and not name.startswith(_SCRATCH):
+                    os.unlink(name, dir_fd=self._folder)
 
     def _is_written(self, digest: str) -> bool:
         """Whether this run has written the blob, or is about to, which nobody else can reach."""
@@ -231,6 +255,9 @@ class Digester:
             digest.update(piece)
         return digest.hexdigest()
 
+    def drop_others(self, digests: Set[str]) -> None:
+        """Nothing is written."""
+
     def close(self) -> None:
         """Nothing is open."""
 
@@ -248,6 +275,18 @@ def writers(blobs: str | None) -> Iterator[Callable[[], Writer]]:
             yield store.writer
 
 
+@contextlib.contextmanager
+def staged_writers(blobs: str | None) -> Iterator[Callable[[], Writer]]:
+    """The same of a folder of blobs that is made inside a stage, and so needs none of its own."""
+    if blobs is None:
+        yield Digester
+        return
+    folder, numbers = blobs, itertools.count(1)
+    with writing(folder):
+        os.mkdir(folder, _FOLDER_MODE)
+    yield lambda: BlobWriter(folder, folder, _scratch_name(numbers), has_others=False)
+
+
 def blob_path(folder: str, digest: str) -> str:
     """Where a folder of blobs has this one."""
     return f"{folder}/{digest}"
@@ -256,17 +295,26 @@ def blob_path(folder: str, digest: str) -> str:
 @contextlib.contextmanager
 def opened_blob(folder: str, digest: str, size: int) -> Iterator[int]:
     """A blob of this size, open for reading; refuses links, and what isn't a regular file."""
-    path = blob_path(folder, digest)
+    file = open_blob(blob_path(folder, digest), size)
+    try:
+        yield file
+    finally:
+        os.close(file)
+
+
+def open_blob(path: str, size: int) -> int:
+    """The same of a blob at a path, to be closed."""
     try:
         file = os.open(path, READ)
     except OSError as error:
-        raise cannot_read(path, error.strerror) from error
+        raise cannot_read(path, reason_of(error)) from error
     try:
         found = os.fstat(file)
         if not stat.S_ISREG(found.st_mode):
             raise cannot_read(path, "it isn't a regular file")
         if found.st_size != size:
             raise cannot_read(path, f"it has {found.st_size} bytes, and the manifest says {size}")
-        yield file
-    finally:
+    except BaseException:
         os.close(file)
+        raise
+    return file
