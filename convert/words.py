@@ -192,7 +192,7 @@ def _add_store(parser: argparse.ArgumentParser) -> None:
 
 def _add_digests_only(parser: argparse._ActionsContainer) -> None:
     parser.add_argument(
-        "--digests-only", action="store_true", help="writes no blobs: contents are read for their digests alone"
+        "--digests-only", action="store_true", help="writes no blobs: contents are read only for their digests"
     )
 
 

@@ -4,17 +4,17 @@
 - HEADLINE.md has every definition that is reached from the contracts of `command` and `merge_down`, beside its file.
 - PROVED.md is as proved.py makes it, and has every public call of the crates.
 - Each of these definitions has a text.
-- MADE_FAULTS.md has every function that names want of memory, or a fault of reading or writing, in its code,
+- MADE_FAULTS.md has every function that names out of memory, or a fault of reading or writing, in its code,
   with how often, and no other.
 - Links of all documents lead somewhere. Files of crates that ARCHITECTURE.md and DEVELOPING.md name are there, each with its
-  crate where several crates have one of that name.
-- No name of a type, or of a fact or record of specs/, stands twice.
+  crate if several crates have one of that name.
+- No name of a type, or of a fact or record of specs/, is there twice.
 - GLOSSARY.md or PROVED.md has every public type, and FORMATS.md every public limit, and none that isn't there.
 - Each block of code in the documentation of a crate's items is lines, one after another, of a file that the gate proves and
   runs: one of `ovl_caller` or of a crate of tests.
 - No document is longer than it may be, or has a turn that is refused (prose.py).
 
-Prints what is missing; the status is 1 where something is. Says nothing of what the documents say.
+Prints what is missing; the status is 1 if something is. Says nothing of what the documents say.
 
     python3 -B tools/check_docs.py --definitions    # prints the definitions of HEADLINE.md, in its order
 """
@@ -193,7 +193,7 @@ def public_items():
 
 
 def code_lines(path):
-    """The function that each line of code stands in, methods as TYPE::NAME, and the line without comments and clauses."""
+    """The function that each line of code is in, methods as TYPE::NAME, and the line without comments and clauses."""
     owner, function = None, None
     for line in path.read_text(encoding="utf-8").splitlines():
         code = line.split("//")[0]
@@ -257,7 +257,7 @@ def links():
 
 
 def files():
-    """Files of crates that two documents name: from `crates`, or by their name where one crate alone has it."""
+    """Files of crates that two documents name: from `crates`, or by their name if only one crate has it."""
     owners = collections.defaultdict(set)
     for crate in crates():
         for path in [*(crate / "src").rglob("*.rt"), *(crate / "specs").rglob("*.antt")]:
@@ -301,7 +301,7 @@ def facts(crate):
 
 
 def homonyms():
-    """Types, and facts and records of specs/, whose names stand in several files."""
+    """Types, and facts and records of specs/, whose names are in several files."""
     places = collections.defaultdict(set)
     for crate in crates():
         for name, path, *_ in [*types(crate), *facts(crate)]:

@@ -66,8 +66,8 @@ def words_of(path: Path) -> int:
 
 
 def turns() -> Iterator[str]:
-    """The turns that are refused, each with its place."""
-    for path in documents():
+    """The turns that are refused, each with its place, in documents and manual pages, which are made from the help."""
+    for path in [*documents(), *sorted((TOP / "man").iterdir())]:
         text = _blank(_EXPLAINED, _blank(_CODE, prose_of(path)))
         for number, line in enumerate(text.splitlines(), 1):
             for turn, better in _TURNS.items():

@@ -10,6 +10,8 @@ from collections.abc import Callable
 from concurrent.futures import Future, ThreadPoolExecutor
 from types import TracebackType
 
+from .faults import cannot_read, reason_of
+
 PIECE = 1 << 18
 ZEROS = bytes(PIECE)
 PRIVATE_MODE = 0o600  # of what has the contents of files, secret ones too
@@ -17,6 +19,7 @@ Piece = bytes | bytearray | memoryview
 Write = Callable[[Piece], object]  # takes all bytes that it is given
 LARGE_PIECE = 1 << 20  # bytes that one thread hands to another, so that they seldom wait for each other
 LARGE_PIECES = 4  # that are on their way at once
+_SMALL = 1 << 16  # bytes of contents that are digested at once, since another thread would hold up the one that reads
 _COPY_AT_ONCE = 1 << 30
 _CLONE = 0x40049409  # FICLONE of linux/fs.h
 _REFUSED = (
@@ -153,9 +156,9 @@ class _LargePiece:
 class DigestedBeside:
     """Takes bytes into large pieces. A thread writes them, one makes a digest of them, and one those of files in them."""
 
-    def __init__(self, write: Write) -> None:
+    def __init__(self, write: Write, is_digested: bool = True) -> None:
         self._write = write
-        self._digest = hashlib.sha256()
+        self._digest = hashlib.sha256() if is_digested else None
         self._threads = ThreadPoolExecutor(1), ThreadPoolExecutor(1), ThreadPoolExecutor(1)
         self._pieces = deque(_LargePiece() for _ in range(LARGE_PIECES))
         self._size = 0  # of what is in the first piece
@@ -187,19 +190,24 @@ class DigestedBeside:
             view = view[len(place):]
             self._fill(len(place))
 
-    def copy(self, read: Callable[[memoryview], int], size: int, wanted: str | None, path: str) -> bool:
-        """Takes this many bytes of a file, which may have to have a digest; fails later if they have another.
+    def copy(self, file: int, size: int, wanted: str | None, path: str) -> bool:
+        """Takes this many bytes of an open file, which may have to have a digest; fails later if they have another.
 
         Says whether there were as many.
         """
         contents, left = None if wanted is None else _Contents(wanted, path), size
         while left:
             place = self._room()[:left]
-            count = read(place)
+            try:
+                count = os.readv(file, [place])
+            except OSError as error:
+                raise cannot_read(path, reason_of(error)) from error
             if count == 0:
                 return False
             left -= count
-            if contents is not None:
+            if contents is not None and size <= _SMALL:
+                contents.take(place[:count], left == 0)
+            elif contents is not None:
                 self._pieces[0].parts.append((contents, place[:count], left == 0))
             self._fill(count)
         return True
@@ -218,7 +226,9 @@ class DigestedBeside:
         piece = self._pieces[0]
         filled = piece.bytes[:self._size]
         writing, digesting, checking = self._threads
-        piece.tasks = [writing.submit(self._write, filled), digesting.submit(self._digest.update, filled)]
+        piece.tasks = [writing.submit(self._write, filled)]
+        if self._digest is not None:
+            piece.tasks.append(digesting.submit(self._digest.update, filled))
         if piece.parts:
             piece.tasks.append(checking.submit(piece.digest_parts))
         self._pieces.rotate(-1)
@@ -226,10 +236,10 @@ class DigestedBeside:
         self._pieces[0].wait()
 
     def end(self) -> str:
-        """Has what is left written; gives the digits of the digest of all."""
+        """Has what is left written; gives the digits of the digest of all, or nothing where none is made."""
         self._hand_on()
         self._wait()
-        return self._digest.hexdigest()
+        return "" if self._digest is None else self._digest.hexdigest()
 
     def _wait(self) -> None:
         for piece in self._pieces:

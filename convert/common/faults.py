@@ -1,4 +1,4 @@
-"""What ends a command, with the text and the exit status that it is told with."""
+"""What ends a command, with its text and its exit status."""
 
 import contextlib
 import errno

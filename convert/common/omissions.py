@@ -26,6 +26,10 @@ class Loss(Enum):
         "entry with a label of SELinux (RHT.security.selinux), left out",
         "entries with labels of SELinux (RHT.security.selinux), left out",
     )
+    LINK_HEADER = (
+        "hard link with another mode or owner than its file, which docker would give the file",
+        "hard links with another mode or owner than their files, which docker would give the files",
+    )
     BELOW = (
         "entry left out, as a directory above it was left out", "entries left out, as a directory above them was left out",
     )

@@ -38,7 +38,7 @@ def write_file(path: str, fill: Callable[[Write], None], mode: int = _USUAL_MODE
     """Has a file filled.
 
     Nothing, or a regular file, is replaced as a whole by one that was filled under another name beside
-    it; a link leads there. Anything else that stands there, such as a device or a pipe, is written
+    it; a link leads there. Anything else that is there, such as a device or a pipe, is written
     through, as standard output is, which `-` means.
     """
     place = _place(path)
@@ -71,12 +71,12 @@ def _copy(file: IO[bytes], write: Write) -> None:
 
 
 def is_replaced(path: str) -> bool:
-    """Whether a file of this name is written as one, and not into what stands there or standard output."""
+    """Whether a file of this name is written as one, and not into what is there or standard output."""
     return _place(path) is not None
 
 
 def _place(path: str) -> str | None:
-    """Where a regular file is to stand, or nothing where what is there is to be written through."""
+    """Where a regular file is to be, or nothing if what is there is to be written through."""
     if path == STANDARD_OUTPUT:
         return None
     with writing(path):
@@ -108,7 +108,7 @@ def _write_through(path: str, fill: Callable[[Write], None]) -> None:
 
 @contextlib.contextmanager
 def standard_output() -> Iterator[TextIO]:
-    """Standard output, written to its end, or a fault that tells that this can't be done."""
+    """Standard output, written to its end, or a fault that says that this can't be done."""
     try:
         yield sys.stdout
         sys.stdout.flush()
@@ -135,7 +135,7 @@ def _replace(place: str, fill: Callable[[IO[bytes]], None], mode: int) -> None:
 def new_folder(path: str) -> Iterator[str]:
     """A stage inside a folder that is absent or empty. At the end its contents are moved up.
 
-    Where the body fails all of it is removed, and the folder too where it wasn't there.
+    If the body fails all of it is removed, and the folder too if it wasn't there.
     """
     was_there = require_empty(path)
     moved: list[str] = []
@@ -179,7 +179,7 @@ def passing_folder(path: str, told_path: str | None = None) -> Iterator[str]:
 
 @contextlib.contextmanager
 def kept_folder(path: str) -> Iterator[str]:
-    """A folder that is absent or empty, made where it is absent; what the body puts there stays."""
+    """A folder that is absent or empty, made if it is absent; what the body puts there stays."""
     if not require_empty(path):
         with writing(path):
             os.mkdir(path, 0o700)

@@ -23,7 +23,7 @@ def running(
 ) -> Iterator["subprocess.Popen[bytes]"]:
     """A process, which has ended after the work inside: if it hasn't by itself, a signal ends it.
 
-    Signals that end a command wait while it is started, so that none leaves it behind.
+    Signals that end a command wait while it is started, so that none leaves it running.
     """
     process = None
     try:

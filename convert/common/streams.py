@@ -12,7 +12,7 @@ import threading
 import zlib
 from collections import deque
 from collections.abc import Iterator
-from concurrent.futures import Executor, Future, ThreadPoolExecutor
+from concurrent.futures import Future, ThreadPoolExecutor
 from typing import IO, Protocol
 
 from .contents import LARGE_PIECE, LARGE_PIECES, PIECE
@@ -24,12 +24,23 @@ _GZIP = b"\x1f\x8b"
 _RESERVED = 0xE0  # flags in the fourth byte
 _GZIP_WINDOW = 31  # zlib's number for a gzip header and trailer
 _GZIP_PIECE = 1 << 18
+_FIRST_OF_MEMBER = 1 << 13  # bytes that a member is begun with, as what it leaves of them is copied
+MAX_MEMBERS = 1 << 14  # of a gzip stream, and one more for each so many bytes that it unpacks to
+MEMBER_BYTES = 1 << 8
 _ZSTD = b"\x28\xb5\x2f\xfd"
 _BZIP2 = {b"BZh%d1AY&SY" % level: "bzip2" for level in range(1, 10)}
 _OTHERS = {**_BZIP2, b"\xfd7zXZ\0": "xz"}
 _PACKINGS = {_GZIP: "gzip", _ZSTD: "zstd", **_OTHERS}
 HEAD_BYTES = 10  # that tell how a file is packed
 _ZSTD_INPUT = re.compile(r"(zstd: )?/\*stdin\*\\ ?: ")  # what zstd puts before what it says
+
+
+class Hash(Protocol):
+    """What digests bytes, as hashlib has it."""
+
+    def update(self, data: memoryview, /) -> None: ...
+
+    def hexdigest(self) -> str: ...
 
 
 class Source(Protocol):
@@ -62,10 +73,6 @@ class Slice(Reader):
         self.place = begin
         self._end = begin + size
 
-    def again(self) -> "Slice":
-        """The same part, from its front."""
-        return Slice(self._file, self._begin, self._end - self._begin)
-
     def size(self) -> int:
         """How many bytes are left."""
         return self._end - self.place
@@ -93,13 +100,6 @@ class Slice(Reader):
         return count
 
 
-    def send(self, pipe: int, most: int) -> int:
-        """Hands the next bytes to a pipe, inside the kernel; tells how many."""
-        count = os.sendfile(pipe, self._file, self.place, min(most, self.size())) if self.size() else 0
-        self.place += count
-        return count
-
-
 class SeekingSlice(Slice):
     """A part of a file that is read here and there."""
 
@@ -116,30 +116,73 @@ class Gunzip(Reader):
     def __init__(self, packed: io.BufferedReader) -> None:
         super().__init__()
         self._packed = packed
-        self._member = zlib.decompressobj(_GZIP_WINDOW)
-        self._input = b""
+        self._piece = packed.read(_GZIP_PIECE)
+        self._place = 0
+        self._members = 0
+        self._size = 0
+        self._begin_member()
 
     def readinto(self, buffer: bytearray | memoryview) -> int:  # type: ignore[override]
-        """Unpacks what fits, never more."""
-        while True:
-            if self._member.eof:
-                self._input = self._member.unused_data or self._packed.read(_GZIP_PIECE)
-                if not self._input.strip(b"\0"):
-                    if not self._input:
-                        return 0
-                    self._input = self._packed.read(_GZIP_PIECE)
-                    if not self._input:
-                        return 0
-                self._member = zlib.decompressobj(_GZIP_WINDOW)
-            data = self._member.decompress(self._input, len(buffer))
-            self._input = self._member.unconsumed_tail
-            if data:
-                buffer[:len(data)] = data
-                return len(data)
-            if not self._member.eof and not self._input:
-                self._input = self._packed.read(_GZIP_PIECE)
-                if not self._input:
-                    raise EOFError("it ends too early")
+        """Fills the buffer, less at the end and before what is broken."""
+        view, size = memoryview(buffer), 0
+        try:
+            while size < len(view) and self._is_in_member():
+                data = self._unpack(len(view) - size)
+                view[size:size + len(data)] = data
+                size += len(data)
+        except (EOFError, zlib.error):
+            if size == 0:
+                raise  # and otherwise at the next call
+        return size
+
+    def _is_in_member(self) -> bool:
+        """Whether there is a member, which is begun where the one before it ended."""
+        if self._member.eof:
+            if self._is_at_end():
+                return False
+            self._begin_member()
+        return True
+
+    def _begin_member(self) -> None:
+        self._members += 1
+        if self._members > MAX_MEMBERS + self._size // MEMBER_BYTES:
+            raise TarFault(f"its gzip stream has {self._members:,} members, which unpack to {self._size:,} bytes")
+        self._member = zlib.decompressobj(_GZIP_WINDOW)
+        self._at_once = _FIRST_OF_MEMBER
+
+    def _unpack(self, most: int) -> bytes:
+        """The next bytes of the member, at most so many; none where more of the stream is to be read first."""
+        part = memoryview(self._piece)[self._place:self._place + self._at_once]
+        data = self._member.decompress(part, most)
+        self._place += len(part) - len(self._member.unused_data if self._member.eof else self._member.unconsumed_tail)
+        self._at_once = min(2 * self._at_once, _GZIP_PIECE)
+        self._size += len(data)
+        if not data and not part and not self._member.eof and not self._has_more():
+            raise EOFError("it ends too early")
+        return data
+
+    def _has_more(self) -> bool:
+        """Goes on to the next piece of the stream, where there is one."""
+        more = self._packed.read(_GZIP_PIECE)
+        if more:
+            self._piece, self._place = more, 0
+        return bool(more)
+
+    def _is_at_end(self) -> bool:
+        """Whether nothing comes after a member but zeros."""
+        has_zeros = False
+        while self._has_zeros_alone():
+            has_zeros = has_zeros or self._place < len(self._piece)
+            if not self._has_more():
+                return True
+        if has_zeros:
+            raise zlib.error("zeros stand between its members")
+        return False
+
+    def _has_zeros_alone(self) -> bool:
+        """Whether the rest of the piece is of zeros, if there is one."""
+        is_zero = not self._piece[self._place:self._place + 1].strip(b"\0")
+        return is_zero and not self._piece[self._place:].strip(b"\0")
 
 
 class Plain(Reader):
@@ -176,22 +219,31 @@ class Digesting(Reader):
     def __init__(self, stream: Source, algorithm: str) -> None:
         super().__init__()
         self._stream = stream
-        self.digest = hashlib.new(algorithm)
+        self._digest = hashlib.new(algorithm)
 
     def readinto(self, buffer: bytearray | memoryview) -> int:  # type: ignore[override]
         """Reads what fits."""
         count = self._stream.readinto(buffer) or 0
-        self.digest.update(memoryview(buffer)[:count])
+        self._digest.update(memoryview(buffer)[:count])
         return count
+
+    def digest_of_all(self) -> str:
+        """The digits of the digest of all bytes, of which those are read now that weren't."""
+        piece = bytearray(PIECE)
+        while self.readinto(piece):
+            pass
+        return self._digest.hexdigest()
 
 
 class Ahead(Reader):
-    """A stream of which a thread reads pieces before they are asked for."""
+    """A stream of which a thread reads pieces before they are asked for, while another one digests the one before."""
 
-    def __init__(self, stream: Source, thread: Executor) -> None:
+    def __init__(self, stream: Source, threads: "_Threads", digest: Hash | None) -> None:
         super().__init__()
         self._stream = stream
-        self._thread = thread
+        self._threads = threads
+        self._digest = digest
+        self._digested: Future[None] | None = None
         self._pieces: deque[tuple[memoryview, Future[int | None]]] = deque()
         for _ in range(LARGE_PIECES):
             self._have_filled(memoryview(bytearray(LARGE_PIECE)))
@@ -200,7 +252,10 @@ class Ahead(Reader):
         self._size = 0
 
     def _have_filled(self, piece: memoryview) -> None:
-        self._pieces.append((piece, self._thread.submit(self._stream.readinto, piece)))
+        self._pieces.append((piece, self._threads.reading.submit(self._stream.readinto, piece)))
+
+    def _have_digested(self, digest: Hash) -> None:
+        self._digested = self._threads.digesting.submit(digest.update, self._piece[:self._size])
 
     def read(self, count: int = -1, /) -> bytes:
         """Gives of the next piece as many as are asked for at most; what went wrong with it is raised here."""
@@ -214,43 +269,47 @@ class Ahead(Reader):
         return self._piece[begin:self._place]
 
     def _has_next(self) -> bool:
-        """Goes on to the next piece, where there is one."""
+        """Goes on to the next piece, where there is one. At the end all are digested."""
         piece, filled = self._pieces[0]
         size = filled.result() or 0
+        if self._digested is not None:
+            self._digested.result()
         if size > 0:
             self._pieces.popleft()
             if self._size > 0:
                 self._have_filled(self._piece)
             self._piece, self._place, self._size = piece, 0, size
+            if self._digest is not None:
+                self._have_digested(self._digest)
         return size > 0
 
 
+class _Threads:
+    """The threads beside one that goes on: one that reads, and one that digests."""
+
+    def __init__(self) -> None:
+        self.reading = ThreadPoolExecutor(1)
+        self.digesting = ThreadPoolExecutor(1)
+
+    def __enter__(self) -> "_Threads":
+        return self
+
+    def __exit__(self, *_: object) -> None:
+        self.reading.shutdown(cancel_futures=True)
+        self.digesting.shutdown(cancel_futures=True)
+
+
 @contextlib.contextmanager
-def read_ahead(stream: Source) -> Iterator[Source]:
-    """The same bytes. A thread reads, unpacks and digests pieces of them before they are asked for."""
-    if isinstance(stream, Reader):
-        with _ahead_of(stream) as ahead:
-            yield ahead
-    else:
+def read_ahead(stream: Source, digest: Hash | None = None) -> Iterator[Source]:
+    """The same bytes, pieces of which are read, unpacked and digested before they are asked for.
+
+    A stream that may have to be waited for is read when it is asked, if there is nothing to digest.
+    """
+    if digest is None and not isinstance(stream, Reader):
         yield stream
-
-
-@contextlib.contextmanager
-def _ahead_of(stream: Reader) -> Iterator[Ahead]:
-    thread = ThreadPoolExecutor(1)
-    try:
-        yield Ahead(stream, thread)
-    finally:
-        thread.shutdown(cancel_futures=True)
-
-
-def digest_of(stream: Reader, algorithm: str) -> str:
-    """The digits of the digest of all bytes, of which a thread reads the next meanwhile."""
-    digest = hashlib.new(algorithm)
-    with _ahead_of(stream) as ahead:
-        while piece := ahead.view(LARGE_PIECE):
-            digest.update(piece)
-    return digest.hexdigest()
+    else:
+        with _Threads() as threads:
+            yield Ahead(stream, threads, digest)
 
 
 def buffered(stream: Source) -> Source:

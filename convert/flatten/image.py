@@ -18,6 +18,7 @@ from ..common.stages import removing, tidy, told
 from ..image.compression import NONE
 from ..image.images import Image, image_place, opened_image, spellings
 from ..image.members import STANDARD_INPUT
+from ..image.new_layers import NewLayers
 from ..image.pack import PackOptions, pack
 from ..image.targets import ARCHIVE_SUFFIX, Form, Target
 from ..image.unpack import UnpackOptions, unpack
@@ -119,7 +120,7 @@ def _print_image(image: str) -> None:
 
 
 class _Doing(Doing):
-    """Does the steps of an image, and tells each with its time."""
+    """Does the steps of an image, and reports each with its time."""
 
     def __init__(self, options: FlattenOptions, folder: str, image: str) -> None:
         super().__init__(
@@ -153,27 +154,35 @@ class _Doing(Doing):
     def pack(self, layers: Sequence[str]) -> None:
         """See `Steps`."""
         blobs, config, links = (self.path(f"{STACK}/{name}") for name in _FOR_PACK)
-        with timed("pack") as words:
-            pack(PackOptions(
-                layers=[self.path(layer) for layer in layers], blobs=blobs, out=self._target(), tag=self._name,
-                config=config, compress=self._options.compress, links=links, has_checked_blobs=True,
-                annotations=self.path(_ANNOTATIONS) if self._has_annotations else None,
-            ))
-            words.append(counted(len(layers), "layer", "layers"))
-        needless = () if self._options.keep else (blobs,)
-        with timed("the new image, read again") as words, removing(*needless):
-            words.append(self._shown(self._image))
-            self.compare(_SHOWN)
+        with self._new_layers() as new_layers:
+            with timed("pack") as words:
+                pack(PackOptions(
+                    layers=[self.path(layer) for layer in layers], blobs=blobs, out=self._target(), tag=self._name,
+                    config=config, compress=self._options.compress, links=links, has_checked_blobs=True,
+                    annotations=self.path(_ANNOTATIONS) if self._has_annotations else None, new_layers=new_layers,
+                ))
+                words.append(counted(len(layers), "layer", "layers"))
+            needless = () if self._options.keep else (blobs,)
+            with timed("the new image, read again") as words, removing(*needless):
+                words.append(self._shown(self._image, new_layers))
+                self.compare(_SHOWN)
+
+    def _new_layers(self) -> contextlib.AbstractContextManager[NewLayers | None]:
+        """What reads plain layers as they are written; packed ones are read when the image is whole."""
+        if self._options.compress != NONE:
+            return contextlib.nullcontext()
+        return NewLayers(self._folder, self._options.out.told)
 
     def _target(self) -> Target:
         """The image that is made, on its way to its name."""
         return replace(self._options.out, path=self._image, given=self._options.out.path)
 
-    def _shown(self, image: str) -> str:
+    def _shown(self, image: str, new_layers: NewLayers | None) -> str:
         """Writes what an image shows."""
         with passing_folder(self.path(AGAIN)) as folder:
             again, marks = f"{folder}/{AGAIN}", self._options.overlay_marks
-            found = unpack(UnpackOptions(image=image, out=again, overlay_marks=marks, digests_only=True))
+            options = UnpackOptions(image=image, out=again, overlay_marks=marks, digests_only=True)
+            found = unpack(options, new_layers)
             return self.run_on("show", stacks.layer_paths(again, len(found.layers)), self.path(_SHOWN))
 
 
@@ -276,7 +285,7 @@ def _word_of_image(path: str) -> str:
 
 
 def _given(option: str, value: str | None) -> list[str]:
-    """An option with its value, where there is one."""
+    """An option with its value, if there is one."""
     return [] if value is None else [option, value]
 
 

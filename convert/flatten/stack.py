@@ -61,7 +61,7 @@ class FlattenStackOptions:
 def flatten_stack(options: FlattenStackOptions) -> None:
     """Writes all that the layers show as one layer, or the layers with the topmost ones merged.
 
-    Nothing is written unless that shows, read again, what the given layers show, but for what was told.
+    Nothing is written unless that shows, read again, what the given layers show, except for what was reported.
     """
     _require_sound(options)
     begun, place = time.monotonic(), os.path.realpath(options.out)
@@ -157,7 +157,7 @@ class _DoingStack(Doing):
         return out
 
     def _without_host_marks(self, number: int, layer: str, count: int) -> str:
-        """Writes the manifest of one of so many new layers as it is to be built; gives its path.
+        """Writes the manifest of one of this many new layers as it is to be built; gives its path.
 
         A socket that can't be had hides what is below it all the same.
         """

@@ -1,4 +1,4 @@
-"""The steps that lead from layers to fewer ones that show the same, done or told."""
+"""The steps that lead from layers to fewer ones that show the same, done or printed."""
 
 import contextlib
 import filecmp
@@ -30,21 +30,21 @@ class Steps(Protocol):
         """Unpacks the image into the folder `stack`. Gives the number of its layers."""
 
     def run(self, step: str, what: str, layers: Sequence[str], new: str, own: Sequence[str] = ()) -> None:
-        """Runs the program, a command with words of its own: its report is the file `new`, or where it makes layers, in
+        """Runs the program, a command with words of its own: its report is the file `new`, or if it makes layers, in
         a folder `new` with them."""
 
     def vacuum(self, step: str, layers: Sequence[str], new: str) -> str:
-        """The topmost layer without what changes nothing, or as it is where that takes away a name of a hard link, or
-        shows one: below stands the same, but not as the same file."""
+        """The topmost layer without what changes nothing, or as it is if that takes away a name of a hard link, or
+        shows one: below is the same, but not as the same file."""
 
     def moved(self, layers: Sequence[str]) -> list[int]:
         """The layers with redirects or metacopy files, which no image can state; the lowest first."""
 
     def compare(self, report: str) -> None:
-        """Goes on only where a report is that of the given image."""
+        """Goes on only if a report is that of the given image."""
 
     def pack(self, layers: Sequence[str]) -> None:
-        """Writes the image, where it shows the same when it is read again."""
+        """Writes the image, if it shows the same when it is read again."""
 
 
 def carry_out(steps: Steps, wanted: int, data_layers: int = 0) -> tuple[int, int]:
@@ -71,7 +71,7 @@ def _as_one(steps: Steps, layers: Sequence[str]) -> list[str]:
 
 
 def _merged_down(steps: Steps, given: Sequence[str], wanted: int, data_layers: int) -> list[str]:
-    """The layers without redirects, metacopy files and what changes nothing, the topmost merged so that so many are
+    """The layers without redirects, metacopy files and what changes nothing, the topmost merged so that this many are
     left."""
     layers = list(given)
     steps.run("fsck", "fsck", layers, f"fsck.{REPORT}")
@@ -83,7 +83,7 @@ def _merged_down(steps: Steps, given: Sequence[str], wanted: int, data_layers: i
     merges = max(0, len(layers) - data_layers - wanted)
     if merges:
         steps.run(f"merge of {merges + 1} layers", "merge", layers, "merged", ("--down-to", str(wanted)))
-        # The new topmost layer holds a root alone, which the one below it has too.
+        # The new topmost layer holds only a root, which the one below it has too.
         layers[:merges + 1] = [new_layer("merged", 1)]
     del layers[len(layers) - data_layers:]
     if merges:
@@ -97,7 +97,7 @@ def new_layer(folder: str, number: int = 0) -> str:
 
 
 class Doing:
-    """Does the steps, and tells each with its time. How layers come in and go out is of its kinds."""
+    """Does the steps, and reports each with its time. How layers come in and go out is of its kinds."""
 
     def __init__(self, folder: str, is_kept: bool, faults: IO[str], given: Iterable[str]) -> None:
         self._folder = folder

@@ -35,8 +35,8 @@ class BuildOptions:
     blobs: str
     out: str
     userxattr: bool = False
-    compress: str | None = None  # of a squashfs; where it isn't said, the program's default
-    name: str | None = None  # what it is called in faults and notes, where it isn't made at its place
+    compress: str | None = None  # of a squashfs; if it isn't said, the program's default
+    name: str | None = None  # what it is called in faults and notes, if it isn't made at its place
 
     @property
     def told(self) -> str:
@@ -158,7 +158,7 @@ class _Builder:
             _dress_by_name(parent, name, entry, self._options.userxattr)
 
     def _fill(self, file: int, entry: Entry) -> None:
-        """Copies a file's contents and checks them; a metacopy file gets its size alone."""
+        """Copies a file's contents and checks them; a metacopy file gets only its size."""
         if not entry.names_contents():
             os.ftruncate(file, entry.size)
             return

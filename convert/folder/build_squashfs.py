@@ -30,7 +30,7 @@ _MAX_ZEROS = 1 << 34  # bytes of files without contents, which have to be writte
 
 
 def build_layer(options: BuildOptions) -> None:
-    """Makes the folder of a manifest, or a squashfs where the name ends so."""
+    """Makes the folder of a manifest, or a squashfs if the name ends so."""
     if options.out.endswith(SUFFIX):
         build_squashfs(options)
     elif options.compress is not None:
@@ -40,7 +40,7 @@ def build_layer(options: BuildOptions) -> None:
 
 
 def build_squashfs(options: BuildOptions) -> None:
-    """Makes the squashfs of a manifest. It gets its name once it gives the manifest back but for what is told."""
+    """Makes the squashfs of a manifest. It gets its name once it gives the manifest back, except for what is reported."""
     losses = Losses()
     entries = _fitting(options, losses)
     place = os.path.realpath(options.out)

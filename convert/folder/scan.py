@@ -17,6 +17,7 @@ from ..model.entries import BLOCK, CHAR, DIRECTORY, FILE, NO_ATTRIBUTES, SYMLINK
 from ..model.links import write_layer
 from ..model.workers import give_blobs
 from ..squashfs.layer_files import FileOptions, Form, form_of, scan_file
+from .mounts import note_mounted
 from .walks import Found, walk
 
 
@@ -60,6 +61,7 @@ def scan_folder(options: ScanOptions, losses: ScanLosses, links: Iterator[int] |
         _store_contents(options, root, entries)
     finally:
         os.close(root)
+    note_mounted(options.layer)
     losses.hard_links += write_layer(options.out, lambda: named(entries), options.layer, links is not None)
     return entries
 

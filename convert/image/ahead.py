@@ -50,6 +50,7 @@ def layers_read(
         try:
             ahead.start(new_writer)
             yield ahead
+            ahead.drop_wrong_blobs()
         finally:
             ahead.close()
     else:
@@ -70,10 +71,11 @@ def _saves_time(layers: Sequence[ImageLayer], taking: Taking) -> bool:
 
 @dataclass(frozen=True)
 class _Read:
-    """What came of reading a layer: where its entries stand, and the fault that ended it."""
+    """What came of reading a layer: where its entries stand, the fault that ended it, and whether it was read again."""
 
     place: tuple[int, int]
     fault: tuple[int, str] | None
+    is_again: bool
 
 
 class _LayersAhead:
@@ -89,7 +91,7 @@ class _LayersAhead:
         self._used = UsedBudget(len(layers))
         self._workers: dict[int, _Worker] = {}  # by the numbers of the layers that each of them reads
         self._taken: set[int] = set()
-        bytes_read = sum(layers[number].bytes_read() for number in self._numbers.values())
+        bytes_read = sum(layers[number].size for number in self._numbers.values())
         self._progress = Progress("reading bytes of the layers", bytes_read)
 
     def start(self, new_writer: NewWriter) -> None:
@@ -106,6 +108,18 @@ class _LayersAhead:
         self._progress.end()
         for worker in set(self._workers.values()):
             worker.stop()
+
+    def drop_wrong_blobs(self) -> None:
+        """Takes away blobs that no layer has: those of a layer that was unpacked quickly, and otherwise than by zlib.
+
+        Not before all are read, since one that another layer has too stands once.
+        """
+        reads = [(worker.file, read) for worker in set(self._workers.values()) for read in worker.read.values()]
+        if any(read.is_again for _, read in reads):
+            out = self._taking.out
+            self._taking.writer.drop_others({
+                contents[0] for file, read in reads for _, contents in entries_at(file, read.place, out)
+            })
 
     def kept(self, layer: Named) -> Kept | None:
         """See `KeptLayers`."""
@@ -140,11 +154,11 @@ class _LayersAhead:
         """In a process of its own: reads the layers that are its share."""
         writer = new_writer()
         for number in worker.layers:
-            place, fault = (0, 0), None
+            place, fault, is_again = (0, 0), None, False
             try:
                 keeping = Keeping(worker.file, self._taking.out)
                 try:
-                    self._read(number, keeping, worker, writer)
+                    is_again = self._read(number, keeping, worker, writer)
                 finally:
                     place = keeping.place()
             except Fault as problem:
@@ -153,18 +167,24 @@ class _LayersAhead:
                 fault = OTHER, "out of memory"
             except OSError as problem:
                 fault = OTHER, str(problem)
-            worker.tell(number, _Read(place, fault))
+            worker.tell(number, _Read(place, fault, is_again))
             worker.require_parent()
+        writer.close()
 
-    def _read(self, number: int, keeping: Keeping, worker: "_Worker", writer: Writer) -> None:
-        """Reads a layer quickly, if that can be done, and if it isn't sound so, again by zlib, which tells why."""
+    def _read(self, number: int, keeping: Keeping, worker: "_Worker", writer: Writer) -> bool:
+        """Reads a layer quickly, if that can be done, and if it isn't sound so, again by zlib, which tells why.
+
+        Gives whether it was read again.
+        """
         layer = self._layers[number]
-        if layer.may_be_quick():
+        is_quick = layer.may_be_quick()
+        if is_quick:
             with contextlib.suppress(NotTaken, TarFault, ReadFault):
                 self._read_as(_Quick(layer), number, keeping, worker, writer)
-                return
+                return False
             keeping.restart()
         self._read_as(layer, number, keeping, worker, writer)
+        return is_quick
 
     def _read_as(self, layer: Layer, number: int, keeping: Keeping, worker: "_Worker", writer: Writer) -> None:
         budget = SharedBudget(self._used, number)
@@ -202,7 +222,7 @@ class _Quick:
         return self.layer.unpacked_digest
 
     def is_checked(self) -> bool:
-        """Its packed bytes are others."""
+        """See `archives.Layer`: it is packed."""
         return False
 
     def identity(self) -> Hashable:
@@ -233,7 +253,7 @@ class _Worker:
         self.layers = layers
         self.file = file
         self.progress = memoryview(mmap.mmap(-1, _NUMBER_BYTES)).cast("Q")
-        self._read: dict[int, _Read] = {}
+        self.read: dict[int, _Read] = {}
         self._results, self._told = os.pipe()
         self._process = 0
         self._parent = os.getpid()
@@ -263,7 +283,7 @@ class _Worker:
 
     def tell(self, number: int, read: _Read) -> None:
         """In the process: what came of a layer."""
-        data = marshal.dumps((number, read.place, read.fault))
+        data = marshal.dumps((number, read.place, read.fault, read.is_again))
         with contextlib.suppress(BrokenPipeError):
             write_all(self._told, len(data).to_bytes(_NUMBER_BYTES, "little") + data)
 
@@ -274,14 +294,15 @@ class _Worker:
 
     def result(self, number: int, seconds: float | None) -> _Read | None:
         """What came of a layer, which is waited for, or nothing where it takes longer than so many seconds."""
-        while number not in self._read:
+        while number not in self.read:
             poll = select.poll()
             poll.register(self._results, select.POLLIN)
             if not poll.poll(None if seconds is None else seconds * 1_000):
                 return None
-            told, place, fault = marshal.loads(self._received(int.from_bytes(self._received(_NUMBER_BYTES), "little")))
-            self._read[told] = _Read(place, fault)
-        return self._read[number]
+            size = int.from_bytes(self._received(_NUMBER_BYTES), "little")
+            told, *read = marshal.loads(self._received(size))
+            self.read[told] = _Read(*read)
+        return self.read[number]
 
     def _received(self, count: int) -> bytes:
         """The next bytes that the process tells."""

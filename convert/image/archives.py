@@ -3,6 +3,7 @@
 import contextlib
 import copy
 import functools
+import hashlib
 import os
 from collections.abc import Callable, Hashable, Mapping
 from dataclasses import dataclass, replace
@@ -13,7 +14,7 @@ from ..common.contents import PIECE
 from ..common.faults import cannot_read
 from ..common.omissions import Loss, Losses
 from ..common.progress import Progress, note
-from ..common.streams import Digesting, Source, buffered, read_ahead
+from ..common.streams import Source, buffered, read_ahead
 from ..model import rules
 from ..model.attributes import Unstated, marks_of
 from ..model.blobs import Digester, Writer
@@ -56,16 +57,19 @@ class Layer(Protocol):
 
     @property
     def unpacked_digest(self) -> tuple[str, str] | None:
-        """The algorithm and the digits of the digest of the archive's bytes, where they are known."""
+        """The algorithm and the digits of the digest of the archive's bytes, if they are known."""
 
     def is_checked(self) -> bool:
-        """Whether these bytes are looked at before they are read."""
+        """Whether that digest is looked at anyway, since the archive isn't packed."""
 
     def identity(self) -> Hashable:
         """The same for two layers of the same bytes."""
 
     def archive(self, progress: Progress) -> contextlib.AbstractContextManager[Source]:
-        """The bytes of its archive, unpacked. Tells what is wrong with them as a fault of its path."""
+        """The bytes of its archive, unpacked. Tells what is wrong with them as a fault of its path.
+
+        What is read counts only once this has ended well.
+        """
 
 
 @dataclass(frozen=True, kw_only=True)
@@ -84,7 +88,7 @@ class Taking:
     overlay_marks: bool = False
     is_folder: bool = False
     userxattr: bool | None = False  # for an image, whose archives have no such marks
-    most_contents: int | None = None  # bytes of all its files, where they are bounded
+    most_contents: int | None = None  # bytes of all its files, if they are bounded
     kept: KeptLayers | None = None  # of an image, which may name a layer again
 
 
@@ -97,7 +101,7 @@ class ArchiveReader:
         self._contents = 0
 
     def read(self, take: Take) -> None:
-        """Gives each entry on, where the layer's bytes are those that the image names."""
+        """Gives each entry on, if the layer's bytes are those that the image names."""
         progress = Progress(f"unpacking bytes of {self._layer.name[-20:]}")
         try:
             with self._layer.archive(progress) as stream:
@@ -113,10 +117,10 @@ class ArchiveReader:
                 self._read(ahead, take)
             return
         algorithm, wanted = self._layer.unpacked_digest
-        source = Digesting(stream, algorithm)
-        with read_ahead(source) as ahead:
+        digest = hashlib.new(algorithm)
+        with read_ahead(stream, digest) as ahead:
             self._read(ahead, take)
-        if source.digest.hexdigest() != wanted:
+        if digest.hexdigest() != wanted:
             raise cannot_read(self._layer.path, f"its unpacked bytes aren't those of {algorithm}:{wanted}")
 
     def _read(self, stream: Source, take: Take) -> None:
@@ -153,7 +157,7 @@ class LayerArchive:
         self._left_out: set[str] = set()  # paths of what can't be stated
 
     def tree(self) -> LayerTree:
-        """The layer, where its bytes are those that the image names."""
+        """The layer, if its bytes are those that the image names."""
         layer = self._layer
         try:
             self._take_all()
@@ -220,7 +224,7 @@ class LayerArchive:
         entry = self._entry(header, names)
         self._tree.folder(names[:-1])
         if header.type == HARD_LINK:
-            entry = self._linked(header, names)
+            entry = self._linked(header, names, entry)
         elif entry.kind == FILE:
             _fill(entry, store)
         elif is_whiteout(entry) and not self._taking.is_folder:
@@ -309,7 +313,7 @@ class LayerArchive:
             raise Unfit(problem)
         return Attributes(kept or NO_ATTRIBUTES, len(attributes) - len(own), tuple(problems.values()))
 
-    def _linked(self, header: Header, names: list[str]) -> Entry:
+    def _linked(self, header: Header, names: list[str], entry: Entry) -> Entry:
         """One more name of a file of this layer, or a copy of one of the layers below."""
         told, is_folder = os.fsdecode(header.target), self._taking.is_folder
         linked = Paths(not is_folder).names(header.target, "the file that it links to")
@@ -321,6 +325,8 @@ class LayerArchive:
         if METACOPY in found.attributes and not is_folder:
             raise Unfit(f"it links to {told}, a file without its contents")
         self._taking.held.budget.attributes.take(len(found.attributes))
+        if (entry.mode, entry.uid, entry.gid) != (found.mode, found.uid, found.gid):
+            self._losses.add(Loss.LINK_HEADER, _path(names))
         if here is None:
             self._losses.add(Loss.LOWER_LINK, _path(names))
         elif not is_whiteout(here):  # the kernel links the whiteouts of a mount to one another, which nothing shows
@@ -341,7 +347,7 @@ def _known(contents: Contents) -> Store:
 
 
 def has_contents(header: Header) -> bool:
-    """Whether what an entry of an image's layer has as data are contents of a file, where it can be stated at all."""
+    """Whether what an entry of an image's layer has as data are contents of a file, if it can be stated at all."""
     if header.type not in REGULAR_TYPES:
         return False
     if not may_be_special(header.name):
@@ -354,7 +360,7 @@ def has_contents(header: Header) -> bool:
 
 
 def _is_special(names: list[str]) -> bool:
-    """Whether a name stands for something else than an entry of the layer."""
+    """Whether a name means something else than an entry of the layer."""
     return bool(names) and (names[-1].startswith(WHITEOUT_PREFIX) or is_of_aufs(names))
 
 

@@ -1,6 +1,7 @@
 """Packing a layer's archive while it is written: not at all, by gzip or by zstd."""
 
 import contextlib
+import hashlib
 import os
 import shutil
 import struct
@@ -10,11 +11,13 @@ import zlib
 from collections import deque
 from collections.abc import Iterator
 from concurrent.futures import Future, ThreadPoolExecutor
+from dataclasses import dataclass
 from typing import IO
 
 from ..common.contents import Write
-from ..common.faults import Fault, cannot_write
+from ..common.faults import ReadFault, cannot_write
 from ..common.processes import last_words, running
+from ..common.streams import Hash
 
 NONE, GZIP, ZSTD = "none", "gzip", "zstd"
 COMPRESSIONS = (NONE, GZIP, ZSTD)
@@ -34,23 +37,35 @@ def media_type(compression: str) -> str:
 def require_program(compression: str) -> None:
     """Refuses a way of packing whose program isn't there."""
     if compression == ZSTD and shutil.which("zstd") is None:
-        raise Fault("there is no zstd program; install zstd, or use --compress gzip")
+        raise ReadFault("there is no zstd program; install zstd, or use --compress gzip")
+
+
+@dataclass(frozen=True)
+class Packer:
+    """Takes the bytes of an archive; may make the digest of what comes of them."""
+
+    write: Write
+    hash: Hash | None = None
+
+    def digest(self) -> str | None:
+        """Its digits, once all is packed, if it is made."""
+        return None if self.hash is None else self.hash.hexdigest()
 
 
 @contextlib.contextmanager
-def packing(compression: str, file: IO[bytes]) -> Iterator[Write]:
+def packing(compression: str, file: IO[bytes]) -> Iterator[Packer]:
     """What takes the bytes of an archive and writes them packed; at its end all is in the file."""
     file.flush()
     if compression == GZIP:
         with ThreadPoolExecutor(len(os.sched_getaffinity(0))) as workers:
             gzip = _Gzip(file, workers)
-            yield gzip.write
+            yield Packer(gzip.write, gzip.hash)
             gzip.end()
     elif compression == ZSTD:
         with _by_zstd(file) as write:
-            yield write
+            yield Packer(write)
     else:
-        yield file.write
+        yield Packer(file.write)
     file.flush()
 
 
@@ -70,7 +85,8 @@ class _Gzip:
         self._before = b""
         self._check = 0
         self._size = 0
-        file.write(_GZIP_HEADER)
+        self.hash = hashlib.sha256()
+        self._put(_GZIP_HEADER)
 
     def write(self, piece: bytes) -> None:
         """Takes bytes; those of whole blocks go to be packed."""
@@ -83,12 +99,16 @@ class _Gzip:
         """Packs what is held, and ends the stream."""
         self._pack(bytes(self._held), zlib.Z_FINISH)
         while self._waiting:
-            self._file.write(self._waiting.popleft().result())
-        self._file.write(struct.pack("<II", self._check, self._size % (1 << 32)))
+            self._put(self._waiting.popleft().result())
+        self._put(struct.pack("<II", self._check, self._size % (1 << 32)))
+
+    def _put(self, packed: bytes) -> None:
+        self._file.write(packed)
+        self.hash.update(packed)
 
     def _pack(self, block: bytes, flush: int) -> None:
         while len(self._waiting) >= self._most_waiting:
-            self._file.write(self._waiting.popleft().result())
+            self._put(self._waiting.popleft().result())
         self._waiting.append(self._workers.submit(_packed_block, block, self._before, flush))
         self._before = block[-_DICTIONARY:]
         self._check = zlib.crc32(block, self._check)

@@ -9,9 +9,10 @@ from collections.abc import Callable, Hashable, Iterator, Mapping, Sequence
 from dataclasses import dataclass, field, replace
 from typing import Any, TypeVar
 
-from ..common.faults import ReadFault, UsageFault, cannot_read, reading
+from ..common.budgets import TooMuch
+from ..common.faults import ReadFault, TarFault, UsageFault, cannot_read, reading
 from ..common.progress import Progress
-from ..common.streams import Slice, Source, Watched, digest_of, unpacked
+from ..common.streams import Digesting, Reader, Source, Watched, unpacked
 from ..model import rules
 from .configuration import MAX_BYTES, Document, no_configuration, platform_of, platform_text, with_platform
 from .documents import (
@@ -49,34 +50,43 @@ class ImageLayer:
         return self.digest or self.members.identity(self.name), self.unpacked_digest
 
     @contextlib.contextmanager
-    def opened(self) -> Iterator[Slice]:
-        """The archive's bytes, which are those of its digest."""
-        with self.members.opened(self.name) as part:
-            if self.digest is not None:
-                _require_digest(self, part.again(), self.digest)
-            yield part
+    def archive(self, progress: Progress) -> Iterator[Source]:
+        """Its bytes, unpacked. They are digested on the way, so what is read counts once this has ended."""
+        with (
+            self.members.opened(self.name) as part, self._digested(Watched(part, progress)) as packed,
+            unpacked(packed, self.path) as stream,
+        ):
+            yield stream
 
     @contextlib.contextmanager
-    def archive(self, progress: Progress) -> Iterator[Source]:
-        """The same, unpacked."""
-        with self.opened() as part, unpacked(Watched(part, progress), self.path) as stream:
-            yield stream
+    def _digested(self, packed: Reader) -> Iterator[Reader]:
+        """The same bytes. That they aren't those of the digest is told before what is wrong with what they hold."""
+        if self.digest is None:
+            yield packed
+            return
+        source = Digesting(packed, self.digest[0])
+        try:
+            yield source
+        except (ReadFault, TarFault, TooMuch):
+            self._require_digest(source, self.digest)
+            raise
+        self._require_digest(source, self.digest)
+
+    def _require_digest(self, source: Digesting, digest: Digest) -> None:
+        with reading(self.path):
+            found = source.digest_of_all()
+        if found != digest[1]:
+            raise _wrong_bytes(self.path, digest)
 
     @contextlib.contextmanager
     def archive_quickly(self, progress: Progress) -> Iterator[Source]:
         """The same of a gzip stream, by a program that is quicker and less strict than zlib; see `quick_gzip`."""
-        with self.opened() as part:
-            progress.expect(part.size())
-            with unpacked_quickly(part, progress) as stream:
-                yield stream
+        with self.members.opened(self.name) as part, unpacked_quickly(Watched(part, progress), self.digest) as stream:
+            yield stream
 
     def is_checked(self) -> bool:
-        """Whether the digest of its bytes, which are looked at before they are read, is that of the unpacked ones."""
+        """Whether the digest of its bytes in the image is that of the unpacked ones."""
         return self.digest is not None and self.digest == self.unpacked_digest and self.packed_size() is None
-
-    def bytes_read(self) -> int:
-        """How many bytes of the image it takes to read it, those that are digested before."""
-        return self.size * (1 if self.digest is None else 2)
 
     def may_be_quick(self) -> bool:
         """Whether it can be unpacked by that program: what comes of it is checked by its digest."""
@@ -86,7 +96,7 @@ class ImageLayer:
             return part.is_gzip()
 
     def packed_size(self) -> int | None:
-        """How many bytes it has in the image, where these are compressed."""
+        """How many bytes it has in the image, if these are compressed."""
         with self.members.opened(self.name) as part, reading(self.path):
             return self.size if part.is_packed() else None
 
@@ -137,7 +147,7 @@ _C = TypeVar("_C", bound=_Choice)
 
 
 def spellings(tag: str) -> set[str]:
-    """A name, and what docker and skopeo make of it where a part is left out."""
+    """A name, and what docker and skopeo make of it if a part is left out."""
     whole = tag if ":" in tag.rpartition("/")[2] else f"{tag}:latest"
     return {tag, whole, f"docker.io/{whole}", f"docker.io/library/{whole}"}
 
@@ -210,7 +220,7 @@ class _Documents:
     def configuration(
         self, name: str, descriptor: Descriptor | None, digest: Digest | None, count: int,
     ) -> tuple[Document, list[Digest | None]]:
-        """An image's configuration, and the digests of its layers' unpacked bytes where it has them."""
+        """An image's configuration, and the digests of its layers' unpacked bytes if it has them."""
         value = self.read(name, descriptor, digest)
         try:
             require_configuration(value)
@@ -238,7 +248,7 @@ class _Documents:
         return ImageLayer(name, self.path(name), self.members, there, descriptor.digest, unpacked)
 
     def _require_packing(self, name: str, media_type: str | None) -> None:
-        """Refuses a layer that isn't packed as its media type says, where that says it."""
+        """Refuses a layer that isn't packed as its media type says, if that says it."""
         said = None if media_type is None else LAYER_TYPES[media_type]
         with self.members.opened(name) as part, reading(self.path(name)):
             packing = part.packing()
@@ -253,15 +263,6 @@ def _wrong_bytes(path: str, digest: Digest) -> ReadFault:
 
 def _wrong_size(path: str, descriptor: Descriptor) -> ReadFault:
     return cannot_read(path, f"it has another size than the {descriptor.size:,} bytes that its descriptor says")
-
-
-def _require_digest(layer: ImageLayer, part: Slice, digest: Digest) -> None:
-    progress = Progress(f"checking bytes of {layer.name[-20:]}")
-    with reading(layer.path):
-        found = digest_of(Watched(part, progress), digest[0])
-    progress.end()
-    if found != digest[1]:
-        raise _wrong_bytes(layer.path, digest)
 
 
 def _blob_in_layout(digest: Digest) -> str:
@@ -282,8 +283,23 @@ class _Layout:
         """The one image that is meant."""
         index = self._documents.decoded("index.json", index_of, self._documents.read("index.json"))
         self._visit(index, "index.json", (), {}, 0)
+        if self._members.size("manifest.json") is not None:
+            self._require_agreement(self._documents.read("manifest.json"))
         chosen = _one_of(self._members.path, list(self._choices.values()), platform, tag)
         return replace(_image(self._documents, chosen, _blob_in_layout), names=tuple(chosen.names))
+
+    def _require_agreement(self, value: Json) -> None:
+        """Refuses what `docker save` would list beside the index, if it isn't of the same images: docker reads that."""
+        images = {
+            it.manifest.configuration.digest[1]: [layer.digest[1] for layer in it.manifest.layers]
+            for it in self._choices.values()
+        }
+        for image in self._documents.decoded("manifest.json", saved_images_of, value):
+            layers = [_digits(name) for name in image.layers]
+            if images.get(_digits(image.configuration) or "") != layers:
+                raise cannot_read(
+                    self._documents.path("manifest.json"), "it has an image that index.json hasn't, or with other layers"
+                )
 
     def _visit(
         self, index: Index, name: str, names: tuple[str, ...], platform: Mapping[str, Json], depth: int
@@ -394,6 +410,12 @@ def _copied_image(documents: _Documents, value: Json) -> Image:
     return _image(documents, chosen, lambda digest: digest[1])
 
 
+def _digits(name: str) -> str | None:
+    """The digits of the digest by which `docker save` names a file."""
+    found = re.search(r"([0-9a-f]{64})(\.json|/layer\.tar)?\Z", name)
+    return found[1] if found else None
+
+
 def _saved_image(documents: _Documents, value: Json, platform: str | None, tag: str | None) -> Image:
     """The one image that is meant of those that `docker save` wrote."""
     choices = [
@@ -403,9 +425,9 @@ def _saved_image(documents: _Documents, value: Json, platform: str | None, tag: 
     chosen = _one_of(documents.members.path, choices, platform, tag)
     image = chosen.image
     _require_count(documents, len(image.layers))
-    digits = re.search(r"([0-9a-f]{64})(\.json)?\Z", image.configuration)
+    digits = _digits(image.configuration)
     configuration, digests = documents.configuration(
-        image.configuration, None, ("sha256", digits[1]) if digits else None, len(image.layers)
+        image.configuration, None, ("sha256", digits) if digits else None, len(image.layers)
     )
     return Image(
         [documents.layer(name, None, digest) for name, digest in zip(image.layers, digests)],

@@ -58,9 +58,11 @@ class Keeping:
     def add(self, header: Header, contents: Contents) -> None:
         """The next entry, while no other archive is kept in the file."""
         data = marshal.dumps((*_members(header), contents))
-        with writing(self._out):
-            self._file.write(len(data).to_bytes(_LENGTH_BYTES, "little"))
-            self._file.write(data)
+        try:
+            self._file.write(len(data).to_bytes(_LENGTH_BYTES, "little") + data)
+        except OSError:
+            with writing(self._out):
+                raise
         self._size += _LENGTH_BYTES + len(data)
 
     def restart(self) -> None:
@@ -88,7 +90,7 @@ def entries_at(file: IO[bytes], place: tuple[int, int], out: str) -> Iterator[tu
         raise cannot_read(out, reason_of(error)) from error
 
 
-class _KeptAgain:
+class KeptAgain:
     """An archive that was taken once already."""
 
     def __init__(self, file: IO[bytes], keeping: Keeping, out: str) -> None:
@@ -116,7 +118,7 @@ class Repeats:
     def __init__(self, layers: Sequence[Named], folder: str, out: str) -> None:
         self._out = out
         self._named = Counter(layer.identity() for layer in layers)
-        self._kept: dict[Hashable, _KeptAgain] = {}
+        self._kept: dict[Hashable, KeptAgain] = {}
         with writing(out):
             self._file = tempfile.TemporaryFile(dir=folder)
 
@@ -129,7 +131,7 @@ class Repeats:
         if self._named[layer.identity()] < 2:
             return None
         keeping = Keeping(self._file, self._out)
-        self._kept[layer.identity()] = _KeptAgain(self._file, keeping, self._out)
+        self._kept[layer.identity()] = KeptAgain(self._file, keeping, self._out)
         return keeping
 
     def close(self) -> None:

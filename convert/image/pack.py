@@ -12,7 +12,7 @@ from ..common.faults import ReadFault, UsageFault, cannot_read, reading, writing
 from ..common.outputs import new_folder, write_file_in_place
 from ..common.progress import Progress, counted, note, note_path
 from ..model import rules
-from ..model.blobs import blob_path, opened_blob
+from ..model.blobs import blob_path, open_blob, opened_blob
 from ..model.entries import (
     DIRECTORY, IS_OPAQUE, OPAQUE, SOCKET, Entry, drop_host_marks, is_opaque, is_whiteout, needs_lower_layers,
     only_in_manifests,
@@ -30,6 +30,7 @@ from .configuration import (
 )
 from .image_files import BLOBS, ArchiveFiles, FolderFiles, ImageFiles
 from .images import REF_NAME
+from .new_layers import NewLayers
 from .targets import Form, Target
 
 _CONFIG_TYPE = "application/vnd.oci.image.config.v1+json"
@@ -54,7 +55,8 @@ class PackOptions:
     compress: str = NONE
     links: str | None = None
     annotations: str | None = None
-    has_checked_blobs: bool = False  # and what is written is read again, so that digests needn't be made here
+    has_checked_blobs: bool = False  # and what is written is read again
+    new_layers: NewLayers | None = None  # reads layers that aren't packed again, and so makes their digests
 
 
 @dataclass(frozen=True)
@@ -198,15 +200,17 @@ def _write_layer(files: ImageFiles, entries: list[Entry], options: PackOptions) 
 
     def fill(file: IO[bytes]) -> str:
         begin = file.tell()
+        again = options.new_layers
         try:
-            with packing(options.compress, file) as write, DigestedBeside(write) as archive:
+            with packing(options.compress, file) as packer, DigestedBeside(packer.write, again is None) as archive:
                 _write_archive(entries, options, archive)
                 unpacked = archive.end()
         except OtherContents as wrong:
             raise _other_contents(str(wrong)) from None
-        digest, size = unpacked, file.seek(0, os.SEEK_END) - begin
-        if options.compress != NONE:
-            digest, size = digest_and_size(file.fileno(), begin)
+        size = file.seek(0, os.SEEK_END) - begin
+        if again is not None:
+            unpacked = again.read(file.fileno(), begin, size)
+        digest = unpacked if options.compress == NONE else packer.digest() or digest_and_size(file.fileno(), begin)[0]
         packed.append(_Packed(digest, size, unpacked))
         return digest
 
@@ -256,17 +260,16 @@ def _link_header(entry: Entry, first: str) -> Header:
 
 
 def _copy_contents(entry: Entry, options: PackOptions, out: DigestedBeside) -> None:
-    """A file's contents, which are those of its digest; if they aren't, that is reported a little later."""
+    """A file's contents, which are those of its digest; where they aren't, that is told a little later."""
     blob = str(entry.blob)
     path = blob_path(options.blobs, blob)
-    with opened_blob(options.blobs, blob, entry.size) as file:
-
-        def read(place: memoryview) -> int:
-            with reading(path):
-                return os.readv(file, [place])
-
-        if not out.copy(read, entry.size, None if options.has_checked_blobs else blob, path):
-            raise _other_contents(path)
+    file = open_blob(path, entry.size)
+    try:
+        is_whole = out.copy(file, entry.size, None if options.has_checked_blobs else blob, path)
+    finally:
+        os.close(file)
+    if not is_whole:
+        raise _other_contents(path)
 
 
 def _other_contents(path: str) -> ReadFault:

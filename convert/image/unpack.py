@@ -1,12 +1,13 @@
 """`unpack`: the layers of an image as manifests and blobs, and its configuration."""
 
+import contextlib
 import os
 from dataclasses import dataclass, replace
 
 from ..common.faults import cannot_read
 from ..common.outputs import new_folder, write_text
 from ..model import rules, stacks
-from ..model.blobs import writers
+from ..model.blobs import staged_writers
 from ..model.entries import REDIRECT
 from ..model.layer_tree import Held
 from ..model.links import LinkNames, links_path
@@ -17,6 +18,7 @@ from .ahead import NewWriter, layers_read
 from .archives import LayerArchive, Taking
 from .configuration import text_of
 from .images import Image, ImageLayer, image_place, opened_image
+from .layer_cache import KeptLayers
 
 
 @dataclass(frozen=True, kw_only=True)
@@ -32,38 +34,41 @@ class UnpackOptions:
     digests_only: bool = False
 
 
-def unpack(options: UnpackOptions) -> Image:
+def unpack(options: UnpackOptions, read: KeptLayers | None = None) -> Image:
     """Writes `l0.json`, the topmost, and so on, the folder `blobs`, and `config.json`. Gives the image.
 
-    If digests are enough there is no folder `blobs`. An image with annotations has them in `annotations.json`.
+    If digests are enough there is no folder `blobs`, and layers that were read before may be given. An image with
+    annotations has them in `annotations.json`.
     """
     path, tag = image_place(options.image, options.tag)
     with opened_image(path, options.platform, tag) as image:
-        unpack_opened(options, image)
+        unpack_opened(options, image, read)
     return image
 
 
-def unpack_opened(options: UnpackOptions, image: Image) -> None:
+def unpack_opened(options: UnpackOptions, image: Image, read: KeptLayers | None = None) -> None:
     """The same of an image that is open."""
     if not options.digests_only:
         # Equal contents are kept once, in one layer and in several, so it isn't known that it takes more.
         require_room(options.out, options.out, max(layer.size for layer in image.layers))
     with new_folder(options.out) as stage:
-        with writers(None if options.digests_only else f"{stage}/{stacks.BLOBS}") as new_writer:
-            _unpack_layers(options, image.layers, stage, new_writer)
+        with staged_writers(None if options.digests_only else f"{stage}/{stacks.BLOBS}") as new_writer:
+            _unpack_layers(options, image.layers, stage, new_writer, read)
         write_text(f"{stage}/{stacks.CONFIG}", [text_of(image.configuration)])
         if image.annotations:
             write_text(f"{stage}/{stacks.ANNOTATIONS}", [text_of(image.annotations)])
 
 
-def _unpack_layers(options: UnpackOptions, layers: list[ImageLayer], stage: str, new_writer: NewWriter) -> None:
+def _unpack_layers(
+    options: UnpackOptions, layers: list[ImageLayer], stage: str, new_writer: NewWriter, read: KeptLayers | None
+) -> None:
     below, writer = MergedTree(), new_writer()
     taking = Taking(
         out=options.out, skip_unsupported=options.skip_unsupported, overlay_marks=options.overlay_marks, writer=writer,
         held=Held(), below=below,
     )
     try:
-        with layers_read(layers, taking, stage, new_writer) as kept:
+        with contextlib.nullcontext(read) if read else layers_read(layers, taking, stage, new_writer) as kept:
             _take_layers(layers, replace(taking, kept=kept), stage)
         write_shown_links(stage, below)
     finally:

@@ -5,11 +5,11 @@ import hashlib
 import itertools
 import os
 import stat
-from collections.abc import Callable, Iterable, Iterator
+from collections.abc import Callable, Iterable, Iterator, Set
 from types import TracebackType
 
 from ..common.contents import PIECE, PRIVATE_MODE, Copier, Piece, digest_and_size, is_zeros, read_small, write_all
-from ..common.faults import cannot_read, is_of_writing, writing
+from ..common.faults import cannot_read, is_of_writing, reason_of, writing
 from ..common.open_dirs import CREATE, READ
 from ..common.progress import note
 from ..common.stages import Stage, tidy, told
@@ -19,10 +19,10 @@ _SCRATCH = "scratch"
 
 
 class BlobStore:
-    """Puts contents into a folder, which is made where it is absent.
+    """Puts contents into a folder, which is made if it is absent.
 
     Writers write into a stage inside the folder. Its blobs are moved into place at the end, and none
-    of them where the body fails.
+    of them if the body fails.
     """
 
     def __init__(self, folder: str) -> None:
@@ -75,14 +75,18 @@ class BlobStore:
     def writer(self) -> "BlobWriter":
         """One that puts contents in. Several may write at the same time, each in a process of its own."""
         assert self._stage is not None
-        scratch = f"{_SCRATCH}-{os.getpid()}-{next(self._numbers)}"
-        return BlobWriter(self.folder, self._stage.path, scratch, not self._was_empty)
+        return BlobWriter(self.folder, self._stage.path, _scratch_name(self._numbers), not self._was_empty)
 
     def _publish(self) -> None:
         assert self._stage is not None
         for name in os.listdir(self._stage.path):
             if not name.startswith(_SCRATCH):
                 os.rename(f"{self._stage.path}/{name}", f"{self.folder}/{name}")
+
+
+def _scratch_name(numbers: Iterator[int]) -> str:
+    """A name that no other writer of this run has."""
+    return f"{_SCRATCH}-{os.getpid()}-{next(numbers)}"
 
 
 class BlobWriter:
@@ -102,8 +106,11 @@ class BlobWriter:
             self._folder = os.open(stage, os.O_RDONLY | os.O_DIRECTORY | os.O_CLOEXEC)
 
     def close(self) -> None:
-        """Closes what is open."""
-        self._drop_scratch()
+        """Takes the scratch file away, and closes what is open."""
+        if self._scratch >= 0:
+            with contextlib.suppress(OSError):
+                os.unlink(self._scratch_name, dir_fd=self._folder)
+            self._drop_scratch()
         os.close(self._folder)
 
     def scratch(self) -> int:
@@ -114,7 +121,7 @@ class BlobWriter:
         return self._scratch
 
     def keep(self, digest: str, size: int) -> None:
-        """Makes the scratch file the blob of this digest, or empties it where that is there."""
+        """Makes the scratch file the blob of this digest, or empties it if that is there."""
         with writing(self._blobs):
             if size == 0 or self._is_written(digest) or self._has(digest, size):
                 self._empty()
@@ -133,7 +140,7 @@ class BlobWriter:
             pieces = [whole]
         digest, scratch = hashlib.sha256(), self.scratch()
         with writing(self._blobs):
-            self._empty()  # of what reading was cut off at, where it began again
+            self._empty()  # of what reading was cut off at, if it began again
         for piece in pieces:
             digest.update(piece)
             with writing(self._blobs):
@@ -147,7 +154,7 @@ class BlobWriter:
         return digest.hexdigest()
 
     def put(self, source: int, size: int) -> str | None:
-        """Copies an open file of this size in and gives its digest; nothing where its size is another.
+        """Copies an open file of this size in and gives its digest; nothing if its size is another.
 
         An error of the system is one of reading the source; one of writing is a fault of its own.
         """
@@ -178,13 +185,30 @@ class BlobWriter:
         """Writes contents that are there as a whole, at once by their digest; gives it."""
         digest = hashlib.sha256(piece).hexdigest()
         if piece and not self._has(digest, len(piece)):
-            with writing(self._blobs), contextlib.suppress(FileExistsError):
-                file = os.open(digest, CREATE, PRIVATE_MODE, dir_fd=self._folder)
-                try:
-                    write_all(file, piece)
-                finally:
-                    os.close(file)
+            try:
+                self._create(digest, piece)
+            except FileExistsError:
+                pass
+            except OSError:
+                with writing(self._blobs):
+                    raise
         return digest
+
+    def _create(self, digest: str, piece: Piece) -> None:
+        file = os.open(digest, CREATE, PRIVATE_MODE, dir_fd=self._folder)
+        try:
+            if os.write(file, piece) != len(piece):
+                os.lseek(file, 0, os.SEEK_SET)
+                write_all(file, piece)
+        finally:
+            os.close(file)
+
+    def drop_others(self, digests: Set[str]) -> None:
+        """Takes away what was written and isn't one of these. No other writer may be at work."""
+        with writing(self._blobs):
+            for name in os.listdir(self._folder):
+                if name not in digests and not name.startswith(_SCRATCH):
+                    os.unlink(name, dir_fd=self._folder)
 
     def _is_written(self, digest: str) -> bool:
         """Whether this run has written the blob, or is about to, which nobody else can reach."""
@@ -217,10 +241,10 @@ class BlobWriter:
 
 
 class Digester:
-    """Stands for a writer where no blobs are wanted: contents are read for their digest alone."""
+    """Takes a writer's place if no blobs are wanted: contents are only read for their digest."""
 
     def put(self, source: int, size: int) -> str | None:
-        """The digest of an open file of this size; nothing where its size is another."""
+        """The digest of an open file of this size; nothing if its size is another."""
         digest, found = digest_and_size(source)
         return digest if found == size else None
 
@@ -231,6 +255,9 @@ class Digester:
             digest.update(piece)
         return digest.hexdigest()
 
+    def drop_others(self, digests: Set[str]) -> None:
+        """Nothing is written."""
+
     def close(self) -> None:
         """Nothing is open."""
 
@@ -240,12 +267,24 @@ Writer = BlobWriter | Digester
 
 @contextlib.contextmanager
 def writers(blobs: str | None) -> Iterator[Callable[[], Writer]]:
-    """What makes writers into a folder of blobs, or such as digest alone. Each process has one of its own."""
+    """What makes writers into a folder of blobs, or such as only digest. Each process has one of its own."""
     if blobs is None:
         yield Digester
     else:
         with BlobStore(blobs) as store:
             yield store.writer
+
+
+@contextlib.contextmanager
+def staged_writers(blobs: str | None) -> Iterator[Callable[[], Writer]]:
+    """The same of a folder of blobs that is made inside a stage, and so needs none of its own."""
+    if blobs is None:
+        yield Digester
+        return
+    folder, numbers = blobs, itertools.count(1)
+    with writing(folder):
+        os.mkdir(folder, _FOLDER_MODE)
+    yield lambda: BlobWriter(folder, folder, _scratch_name(numbers), has_others=False)
 
 
 def blob_path(folder: str, digest: str) -> str:
@@ -256,17 +295,26 @@ def blob_path(folder: str, digest: str) -> str:
 @contextlib.contextmanager
 def opened_blob(folder: str, digest: str, size: int) -> Iterator[int]:
     """A blob of this size, open for reading; refuses links, and what isn't a regular file."""
-    path = blob_path(folder, digest)
+    file = open_blob(blob_path(folder, digest), size)
+    try:
+        yield file
+    finally:
+        os.close(file)
+
+
+def open_blob(path: str, size: int) -> int:
+    """The same of a blob at a path, to be closed."""
     try:
         file = os.open(path, READ)
     except OSError as error:
-        raise cannot_read(path, error.strerror) from error
+        raise cannot_read(path, reason_of(error)) from error
     try:
         found = os.fstat(file)
         if not stat.S_ISREG(found.st_mode):
             raise cannot_read(path, "it isn't a regular file")
         if found.st_size != size:
             raise cannot_read(path, f"it has {found.st_size} bytes, and the manifest says {size}")
-        yield file
-    finally:
+    except BaseException:
         os.close(file)
+        raise
+    return file

@@ -43,7 +43,7 @@ class LayerFile:
 
 
 Node = Directory | LayerFile | Entry
-LeafOf = Callable[[str, Entry], LayerFile | Entry]  # what stands in the tree for an entry that is no directory
+LeafOf = Callable[[str, Entry], LayerFile | Entry]  # what the tree has for an entry that is no directory
 
 
 def _entry_itself(_: str, entry: Entry) -> Entry:
@@ -76,7 +76,7 @@ class MergedTree:
             covering.release(below)
 
     def nodes(self) -> Iterator[tuple[str, Node]]:
-        """All paths with what stands there, in path order."""
+        """All paths with what is there, in path order."""
         if self.root is None:
             return
         yield "/", self.root
@@ -93,7 +93,7 @@ class MergedTree:
                 levels.append((inner, _sorted_children(node)))
 
     def entries(self) -> Iterator[Named]:
-        """The entries that stand in it."""
+        """The entries in it."""
         for path, node in self.nodes():
             if not isinstance(node, LayerFile):
                 yield path, node.entry if isinstance(node, Directory) else node

@@ -15,7 +15,7 @@ _NUMBERED = re.compile(r"(.*?)(\d+)(\D*)", re.DOTALL)
 
 
 def layer_name(number: int, count: int) -> str:
-    """The name of the manifest of one of so many layers; the topmost layer is number 0.
+    """The name of the manifest of one of this many layers; the topmost layer is number 0.
 
     All have as many digits, so that a shell's `l*.json` has them in order.
     """

@@ -50,7 +50,7 @@ class SizesOptions:
 
 
 def sizes(options: SizesOptions, tell: Callable[[Iterable[str]], None]) -> None:
-    """Tells the sizes, and fails where more than may be isn't shown."""
+    """Prints the sizes, and fails if more than may be isn't shown."""
     if options.stack is not None:
         require_ordinary(len(options.stack.layers), options.data_layers)
     program = require_program(_given_paths(options))
@@ -107,7 +107,7 @@ def _given_stack(options: StackOptions, folder: str) -> _Given:
 
 
 def made_by(configuration: Document, count: int) -> list[str | None]:
-    """What made each layer, by the image's history, where that tells of as many layers; the lowest first."""
+    """What made each layer, by the image's history, if that has as many layers; the lowest first."""
     history = configuration.get("history")
     entries: list[Mapping[str, Any]] = [
         entry for entry in (history if isinstance(history, list) else [])

@@ -92,7 +92,7 @@ class _Layer:
         self._linked: dict[int, LayerFile] = {}
 
     def leaf_of(self, _: str, entry: Entry) -> LayerFile | Entry:
-        """What stands in the tree for what is no directory."""
+        """What the tree has for what is no directory."""
         return self.file_of(entry) if entry.kind == FILE else entry
 
     def file_of(self, entry: Entry) -> LayerFile:

@@ -1,6 +1,7 @@
 """squashfs files, read by `sqfs2tar` and written by `tar2sqfs`, both of squashfs-tools-ng."""
 
 import contextlib
+import errno
 import io
 import os
 import resource
@@ -26,13 +27,14 @@ _VERSION = 4
 _PACKAGE = "squashfs-tools-ng"
 _MOST_MEMORY = 1 << 30  # bytes that a program may have; sqfs2tar takes some 250 for each entry
 _MOST_TOLD = 16 << 20  # bytes of what it says, a line for each socket
+_LEAST_FREE = 1 << 16  # bytes of a disk that isn't full
 _LAST_TOLD = 1_000
-_SOCKET = (b"WARNING: ./", b": cannot pack socket\nSkipping ./", b"\n")  # a path stands between these
+_SOCKET = (b"WARNING: ./", b": cannot pack socket\nSkipping ./", b"\n")  # a path is between these
 _ENVIRONMENT = {"LC_ALL": "C"}  # without SOURCE_DATE_EPOCH, which would be in what tar2sqfs writes
 
 
 def require_programs() -> None:
-    """Refuses to begin what needs both programs where one isn't there."""
+    """Refuses to begin what needs both programs if one isn't there."""
     for name in (_READER, _WRITER):
         require_program(name)
 
@@ -61,7 +63,7 @@ def entry_count(file: int, path: str) -> int:
 
 @contextlib.contextmanager
 def archive_of(file: int, path: str, tell_socket: Callable[[str], None]) -> Iterator[Source]:
-    """The archive of all that an open squashfs file holds; sockets, which archives don't have, are told."""
+    """The archive of all that an open squashfs file holds; sockets, which archives don't have, are reported."""
     if entry_count(file, path) > rules.MAX_ENTRIES:
         raise cannot_read(path, f"it has over {rules.MAX_ENTRIES:,} entries")
     command = [require_program(_READER), "--root-becomes", ".", f"/dev/fd/{file}"]
@@ -100,7 +102,14 @@ def written(path: str, told_as: str, compress: str | None) -> Iterator[Write]:
         told.seek(0)
         words = told.read(_LAST_TOLD)
     if status != 0:
-        raise cannot_write(told_as, _reason(words, path, _WRITER, status))
+        reason = os.strerror(errno.ENOSPC) if _is_full(path) else _reason(words, path, _WRITER, status)
+        raise cannot_write(told_as, reason)
+
+
+def _is_full(path: str) -> bool:
+    """Whether nothing more can be written beside a path."""
+    free = os.statvfs(os.path.dirname(path) or ".")
+    return free.f_bavail * free.f_frsize < _LEAST_FREE
 
 
 @contextlib.contextmanager
@@ -108,7 +117,7 @@ def _started(
     command: Sequence[str], told: IO[bytes], limits: Mapping[int, int], stdin: int = subprocess.DEVNULL,
     stdout: int = subprocess.DEVNULL, pass_fds: tuple[int, ...] = (),
 ) -> Iterator["subprocess.Popen[bytes]"]:
-    """A process that ends with this one's work: signals wait while it is started, so that none leaves it alone."""
+    """A process that ends with this one's work: signals wait while it is started, so that none leaves it running."""
     mask = signal.pthread_sigmask(signal.SIG_BLOCK, ENDING)
 
     def prepare() -> None:
@@ -131,7 +140,7 @@ def _started(
 
 
 def _end(process: "subprocess.Popen[bytes]") -> None:
-    """Ends it, where it hasn't ended itself."""
+    """Ends it, if it hasn't ended itself."""
     process.kill()
     for stream in (process.stdin, process.stdout):
         if stream is not None:
@@ -157,7 +166,7 @@ def _sockets_and_words(told: IO[bytes]) -> tuple[list[str], bytes]:
 
 
 def _reason(words: bytes, name: str, program: str, status: int) -> str:
-    """What the program said last, in one line, or how it ended where it said nothing."""
+    """What the program said last, in one line, or how it ended if it said nothing."""
     lines = words[-_LAST_TOLD:].decode("utf-8", "surrogateescape").splitlines()
     reasons = "; ".join(line.removeprefix(f"{name}: ").strip() for line in lines if line.strip())
     how = f"was ended by signal {-status}" if status < 0 else f"ended with status {status}"

@@ -45,8 +45,8 @@ _SAID_ENOUGH = frozenset([
 _OTHER_RECORD = b""  # in place of the key of a record that isn't read
 GNU_SPARSE = b"S"
 _SIGNED = 256
-_PREFIX_END = 500  # of the part of a name that stands before the other
-_STAR_PREFIX_END = 476  # of the same in archives of star, which have two times behind it
+_PREFIX_END = 500  # of the part of a name that comes before the other
+_STAR_PREFIX_END = 476  # of the same in archives of star, which have two times after it
 _STAR_TRAILER = b"tar\0"
 
 
@@ -77,7 +77,7 @@ def parse_header(block: bytes) -> Header | None:
     """The header in a block of 512 bytes; nothing for a block of zeros."""
     if not any(block):
         return None
-    stated, total = number(block[148:156]), 256 + sum(block[:148]) + sum(block[156:])
+    stated, total = number(block[148:156]), 256 + _sum(block) - _sum(block[148:156])
     if stated != total and stated != total - _SIGNED * _high_bytes(block):
         raise TarFault("a header has a wrong checksum")
     kind = block[156:157]
@@ -92,6 +92,11 @@ def parse_header(block: bytes) -> Header | None:
         target=text_of(block[157:257]), major=0 if is_old else number(block[329:337]),
         minor=0 if is_old else number(block[337:345]),
     )
+
+
+def _sum(block: bytes) -> int:
+    """The sum of its bytes, most of which are zeros, that add nothing."""
+    return sum(block.replace(b"\0", b""))
 
 
 def _high_bytes(block: bytes) -> int:
@@ -232,7 +237,7 @@ def header_block(header: Header) -> bytes:
         _octal(header.major, 8), _octal(header.minor, 8), bytes(167),
     )
     block = b"".join(fields)
-    return block[:148] + b"%06o\0 " % sum(block) + block[156:]
+    return block[:148] + b"%06o\0 " % _sum(block) + block[156:]
 
 
 @functools.lru_cache(maxsize=4096)  # as above

@@ -194,7 +194,7 @@ class TarReader:
         """Goes to the next header. The last one's data may end without what fills their block."""
         if self._skipping:
             self._source.skip(self._left)  # type: ignore[attr-defined]
-        else:
+        elif self._left:
             for _ in self._stored(self._left):
                 pass
         self._left = 0

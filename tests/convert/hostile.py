@@ -4,7 +4,7 @@
 Python 3.11, standard library; as root. Each case is a small image of one or two layers of odd names, kinds, records,
 links, whiteouts and sparse files, plain or packed by gzip or zstd. Of most of them bytes of an archive, a value of a
 document, or a name is spoilt. `layers unpack` must read or refuse it with one line, within 2 s of a processor, and
-leave nothing outside of `--out`, and nothing at all where it refuses. With `--umoci N`, N of the images that it reads
+leave nothing outside of `--out`, and nothing at all if it refuses. With `--umoci N`, N of the images that it reads
 are unpacked by umoci too: the trees must be equal, or one of the two refuses. What they read in two ways for a reason is
 left out, and counted. A case depends only on the seed and its number.
 
@@ -192,7 +192,7 @@ class Result:
 
 
 def run_cases(seed: int, numbers: Iterable[int], umoci: int) -> Result:
-    """Runs cases in a folder of their own; so many of those that are read are unpacked by umoci too."""
+    """Runs cases in a folder of their own; this many of those that are read are unpacked by umoci too."""
     result = Result(collections.Counter(), collections.Counter(), [])
     with tempfile.TemporaryDirectory(prefix="layers-hostile-") as room:
         for number in numbers:
@@ -299,7 +299,7 @@ _KIND_OF = {
 
 
 def main() -> int:
-    """Runs all cases; 0 where nothing is wrong."""
+    """Runs all cases; 0 if nothing is wrong."""
     parser = argparse.ArgumentParser(description=__doc__, formatter_class=argparse.RawDescriptionHelpFormatter)
     parser.add_argument("--seed", type=int, default=1)
     parser.add_argument("--count", type=int, default=2_000)

@@ -19,7 +19,21 @@ sys.path.insert(0, str(ROOT))
 sys.dont_write_bytecode = True
 
 from convert import cli as command  # noqa: E402
+from convert.image import ahead  # noqa: E402
 from convert.model.attributes import can_read_trusted  # noqa: E402
+
+_SIDE_BY_SIDE = """
+import sys
+sys.path.insert(0, sys.argv[1])
+from convert.cli import main
+from convert.image import ahead
+ahead.LEAST_BYTES = 0
+sys.exit(main(sys.argv[2:]))
+"""
+_COMMAND: list[str] = [sys.executable, "-B", str(COMMAND)]
+if "LAYERS_TEST_SIDE_BY_SIDE" in os.environ:
+    ahead.LEAST_BYTES = 0
+    _COMMAND[2:] = ["-c", _SIDE_BY_SIDE, str(ROOT)]
 
 
 def program_words() -> list[str]:
@@ -41,7 +55,7 @@ def call(*words: object) -> tuple[int, str, str]:
 def run(*words: object, **more: object) -> "subprocess.CompletedProcess[str]":
     """Runs the command in a process of its own."""
     done: subprocess.CompletedProcess[str] = subprocess.run(
-        [sys.executable, "-B", str(COMMAND), *map(str, words)],
+        [*_COMMAND, *map(str, words)],
         capture_output=True, text=True, check=False, **more,  # type: ignore[call-overload]
     )
     return done

@@ -9,6 +9,7 @@ import subprocess
 import sys
 import tarfile
 import tempfile
+import time
 import unittest
 from collections.abc import Iterator
 from unittest import mock
@@ -37,6 +38,21 @@ ahead.LEAST_BYTES = 0
 ahead.ArchiveReader.read = read
 sys.exit(main(sys.argv[3:]))
 """
+_READING = _WAITING.replace("    time.sleep(60)\n", """
+    from convert.tar.headers import Header
+    while True:
+        time.sleep(0.01)
+        take(Header(b"d", b"5", 0, 0, 0, 0, 0, b"", 0, 0), None)
+""")
+
+
+def _runs(process: str) -> bool:
+    """Whether a process is there that hasn't ended."""
+    try:
+        with open(f"/proc/{process}/stat", encoding="ascii") as file:
+            return file.read().rpartition(")")[2].split()[0] != "Z"
+    except FileNotFoundError:
+        return False
 
 
 class AheadTest(FolderTest):
@@ -138,7 +154,7 @@ class Quick(AheadTest):
         with tempfile.TemporaryDirectory() as programs:
             for text in (
                 "exit 1", "exit 0", "cat > /dev/null", "head -c 9999999 /dev/zero", "gzip -dc",
-                "gzip -dc | head -c -1", "gzip -dc; exit 3", "gzip -dc | tr a b", "kill -9 $$",
+                "gzip -dc | head -c -1", "gzip -dc; exit 3", "gzip -dc | tr a b", "gzip -dc | LC_ALL=C tr Q R", "kill -9 $$",
                 "gzip -dc | head -c 9999", "gzip -dc | head -c 1500000", "exec 0<&-; sleep 1",
             ):
                 with open(f"{programs}/igzip", "w", encoding="utf-8") as file:
@@ -191,6 +207,20 @@ class Ended(AheadTest):
                 self.assertFalse([pid for pid in pids if os.path.exists(f"/proc/{pid}")])
                 os.unlink(self.path(_STARTED))
                 self.require_nothing_left("image")
+
+    def test_killed(self) -> None:
+        """Its processes end when they come to the next entry; the next run reports the stage."""
+        words = [ROOT, self.path(_STARTED), "unpack", self.path("image"), "--out", self.path("out")]
+        process = subprocess.Popen([sys.executable, "-B", "-c", _READING, *map(str, words)])
+        while not (pids := self._started()):
+            self.assertIsNone(process.poll())
+        process.kill()
+        process.wait()
+        end = time.monotonic() + 60
+        while any(map(_runs, pids)):
+            self.assertLess(time.monotonic(), end)
+            time.sleep(0.01)
+        self.require_fault(call("unpack", self.path("image"), "--out", self.path("out")), 4, "was cut off")
 
     def _started(self) -> list[str]:
         """The processes that read, once all three do."""

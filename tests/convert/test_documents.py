@@ -164,6 +164,22 @@ class Images(FolderTest):
         self.put_config(self.config, mediaType="application/vnd.cncf.helm.config.v1+json")
         self.require_refused("it is no container image: its configuration is of type application/vnd.cncf.helm")
 
+    def test_two_lists_of_images(self) -> None:
+        """docker reads manifest.json where others read index.json."""
+        put_index(self.image, [self.descriptor])
+        blob = "blobs/sha256/"
+        config, layer = (blob + it["digest"][7:] for it in (self.manifest["config"], self.manifest["layers"][0]))
+        for listed, is_read in (
+            ([{"Config": config, "Layers": [layer]}], True), ([{"Config": layer, "Layers": [layer]}], False),
+            ([{"Config": config, "Layers": [layer, layer]}], False), ([{"Config": config, "Layers": ["x/layer.tar"]}], False),
+        ):
+            with open(f"{self.image}/manifest.json", "w", encoding="utf-8") as file:
+                json.dump(listed, file)
+            if is_read:
+                self.require_read()
+            else:
+                self.require_refused("manifest.json: it has an image that index.json hasn't, or with other layers")
+
     def test_one_digest_described_in_two_ways(self) -> None:
         put_index(self.image, [self.descriptor, {**self.descriptor, "size": 7}])
         self.require_refused("its descriptors differ in size or media type")

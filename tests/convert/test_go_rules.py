@@ -18,7 +18,7 @@ END = bytes(1024)
 
 
 def raw(name: str, kind: bytes, data: bytes = b"", size: int | None = None, **fields: object) -> bytes:
-    """A header as it stands in an archive of GNU's, and its data."""
+    """A header as it is in an archive of GNU's, and its data."""
     info = tarfile.TarInfo(name)
     info.type, info.size, info.mode = kind, len(data) if size is None else size, 0o755
     for field, value in fields.items():
@@ -96,6 +96,14 @@ class Rules(FolderTest):
         self.assertEqual((status, said), (0, ""))
         own = records({"uid": "7"}, b"g") + records({"uid": "8"}) + raw("x", b"0") + END
         self.assertEqual(self.unpacked(own)[:2], (0, ""))
+
+    def test_headers_of_links_are_said(self) -> None:
+        for mode, words in ((0o755, ""), (0o4755, "hard link with another mode or owner than its file")):
+            link = raw("y", b"1", linkname="x", mode=mode)
+            status, said, _ = self.unpacked(raw("x", b"0") + link + END)
+            self.assertEqual(status, 0)
+            self.assertIn(words, said)
+            self.assertEqual(bool(words), bool(said))
 
     def test_sparse_files(self) -> None:
         """Records make a sparse file by their version, or by a map."""

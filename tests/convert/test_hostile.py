@@ -1,4 +1,4 @@
-"""Hostile and broken images: refused with a reason, nothing left behind, memory bounded."""
+"""Hostile and broken images: refused with a reason, nothing left, memory bounded."""
 
 import contextlib
 import gzip
@@ -23,7 +23,7 @@ from images import archive, folder, member, packed, put_index, put_manifest, wri
 from support import FolderTest, call, run
 
 from convert import cli as command
-from convert.common.streams import Digesting
+from convert.common.streams import MAX_MEMBERS, MEMBER_BYTES
 from convert.tar.headers import pax_record
 
 GIGABYTE = 1 << 30
@@ -154,7 +154,7 @@ class Broken(HostileTest):
         self.require_refused("gzip stream is broken")
 
     def test_what_is_read_ahead(self) -> None:
-        """An entry is told before a stream that breaks off behind it, and no thread is left."""
+        """An entry is reported before a stream that breaks off after it, and no thread is left."""
         data = os.urandom(1 << 20)
         for first, because in ((member("v", kind=b"V"), "an entry of type"), (member("f"), "stream is broken")):
             layer = archive([first, member("g", data)])
@@ -213,9 +213,20 @@ class Broken(HostileTest):
     def test_one_digest_of_a_plain_layer(self) -> None:
         plain = archive([member("f", b"a")])
         write_layout(self.path("image"), [plain, packed(plain)], [plain, plain])
-        with mock.patch("convert.image.archives.Digesting", wraps=Digesting) as digesting:
+        with mock.patch("convert.image.archives.hashlib", wraps=hashlib) as digests:
             self.require_done(call("unpack", self.path("image"), "--out", self.path("out")))
-        self.assertEqual(digesting.call_count, 1)
+        self.assertEqual(digests.new.call_count, 1)
+
+    def test_a_wrong_digest_is_told_first(self) -> None:
+        """Whatever is wrong with what the bytes hold, and wherever they are found to be others."""
+        for plain in (archive([member("../x", b"a")]), archive([member("f", b"a")]) + b"x" * 999_999, b"x" * 999_999):
+            for data in (plain, packed(plain), packed(plain)[:-9], packed(plain) + b"x" * 600_000):
+                write_layout(self.path("image"), [data])
+                with open(self.path("image", "blobs", "sha256", hashlib.sha256(data).hexdigest()), "r+b") as file:
+                    file.seek(-1, os.SEEK_END)
+                    file.write(b"?")
+                self.require_refused("its bytes aren't those of the digest")
+                self.empty()
 
     def test_documents(self) -> None:
         os.mkdir(self.path("image"))
@@ -421,6 +432,19 @@ class Bomb(HostileTest):
         write_layout(self.path("image"), [packed(first + _global_records({"SCHILY.acl.0": "v"}) * 30_000)])
         self.require_bounded("over 1,000 PAX headers for all entries")
 
+    def test_members_of_gzip_streams(self) -> None:
+        """Many that unpack to nothing, and as many as there may be."""
+        write_layout(self.path("image"), [packed(b"") * 3_200_000])
+        self.require_bounded("its gzip stream has 16,385 members, which unpack to 0 bytes")
+        self.empty()
+        layer = archive([member("f", bytes(MAX_MEMBERS * MEMBER_BYTES))])
+        small = [packed(layer[begin:begin + 130]) for begin in range(0, len(layer), 130)]
+        write_layout(self.path("image"), [b"".join(small) + bytes(700_000)])
+        self.assertEqual(self.bounded().returncode, 0)
+        self.empty()
+        write_layout(self.path("image"), [b"".join(small) + packed(b"") * 999])
+        self.require_bounded("members, which unpack to")
+
     def test_maps_of_sparse_files(self) -> None:
         if shutil.which("zstd") is None:
             self.skipTest("needs zstd")
@@ -524,7 +548,7 @@ class Bomb(HostileTest):
 
 
 def _by_zstd(data: bytes) -> list[bytes]:
-    """Packed by zstd, where that is there."""
+    """Packed by zstd, if that is there."""
     zstd = shutil.which("zstd")
     return [subprocess.run([zstd, "-q"], input=data, stdout=subprocess.PIPE, check=True).stdout] if zstd else []
 

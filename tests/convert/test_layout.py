@@ -1,4 +1,4 @@
-"""Where the converter's modules lie: a package takes modules only from those that stand before it."""
+"""Where the converter's modules are: a package takes modules only from those before it."""
 
 import ast
 import unittest

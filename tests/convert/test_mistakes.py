@@ -9,6 +9,7 @@ import subprocess
 import sys
 import unittest
 from importlib import import_module
+from pathlib import Path
 from unittest import mock
 
 from images import archive, folder, member, put_index, put_manifest, write_layout
@@ -17,6 +18,7 @@ from support import COMMAND, FolderTest, call, why_no_trusted
 import convert
 from convert import cli
 from convert.common.faults import OTHER, ClosedPipe, Fault
+from convert.folder import mounts
 from convert.image.targets import target_of
 from convert.model.manifests import read_manifest
 from convert.model.stacks import layer_paths, require_order
@@ -149,6 +151,25 @@ class Places(FolderTest):
         for out in ("upper", "link"):
             result = call("flatten", "--stack", self.path("upper"), "--userxattr", "--out", self.path(out))
             self.require_fault(result, 2, "is a layer that is read")
+
+
+class Mounted(FolderTest):
+    """An upper directory that is in use."""
+
+    def test_said(self) -> None:
+        os.makedirs(self.path("a b", "upper"))
+        upper = self.path("a\\040b", "upper")
+        with open(self.path("mounts"), "w", encoding="utf-8") as file:
+            file.write(
+                "22 1 254:0 / / rw - ext4 /dev/vda rw\n"
+                f"29 22 0:26 / /mnt/m\\040n rw - overlay overlay rw,lowerdir=/l,upperdir={upper},workdir=/w\n"
+            )
+        with mock.patch.object(mounts, "_MOUNTS", Path(self.path("mounts"))):
+            result = call("scan", self.path("a b", "upper"), "--out", self.path("m"), "--digests-only", "--userxattr")
+        self.require_done(result)
+        self.assertIn("the upper directory of the overlay that is mounted at /mnt/m n; what is written meanwhile", result[2])
+        result = call("scan", self.path("a b", "upper"), "--out", self.path("m"), "--digests-only", "--userxattr")
+        self.assertEqual(result, (0, "", ""))
 
 
 class LeftOut(FolderTest):

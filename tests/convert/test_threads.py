@@ -10,7 +10,7 @@ from unittest import mock
 from support import ROOT  # noqa: F401
 
 from convert.common.contents import LARGE_PIECE, DigestedBeside
-from convert.common.streams import Digesting, Reader, read_ahead
+from convert.common.streams import Digesting, Hash, Reader, read_ahead
 
 DATA = random.Random(1).randbytes(9 * LARGE_PIECE + 12_345)
 WAIT = 0.005  # seconds
@@ -59,10 +59,10 @@ class Threads(unittest.TestCase):
     def tearDown(self) -> None:
         self.assertEqual(threading.active_count(), 1)
 
-    def read(self, stream: Reader, wait: float) -> bytes:
+    def read(self, stream: Reader, wait: float, digest: Hash | None = None) -> bytes:
         """All bytes of a stream that is read ahead, in pieces of odd sizes."""
         pick, pieces = random.Random(2), [b"x"]
-        with read_ahead(stream) as ahead:
+        with read_ahead(stream, digest) as ahead:
             while pieces[-1]:
                 time.sleep(wait)
                 pieces.append(ahead.read(pick.randint(1, 2 * LARGE_PIECE)))
@@ -70,10 +70,13 @@ class Threads(unittest.TestCase):
         return b"".join(pieces[1:])
 
     def test_read_ahead(self) -> None:
-        for stream_waits, reader_waits in ((0.0, 0.0), (WAIT, 0.0), (0.0, WAIT)):
+        for stream_waits, reader_waits, digest in (
+            (0.0, 0.0, hashlib.sha256()), (WAIT, 0.0, hashlib.sha256()), (0.0, WAIT, hashlib.sha256()),
+            (0.0, 0.0, _SlowDigest()),
+        ):
             source = Digesting(_Stream(stream_waits), "sha256")
-            self.assertTrue(self.read(source, reader_waits) == DATA)
-            self.assertEqual(source.digest.hexdigest(), hashlib.sha256(DATA).hexdigest())
+            self.assertTrue(self.read(source, reader_waits, digest) == DATA)
+            self.assertEqual({digest.hexdigest(), source.digest_of_all()}, {hashlib.sha256(DATA).hexdigest()})
 
     def test_what_breaks_off(self) -> None:
         """All that comes before is given."""

@@ -3,7 +3,7 @@
 A block is fenced, and says what it is: `sh` is run, `output` is printed by the block of `sh` before it, `json` is read,
 and `text` or nothing is a figure or a form. A comment right above a block of `sh` says what is special:
 
-    <!-- status: 1 -->              the status that it ends with, where that isn't 0
+    <!-- status: 1 -->              the status that it ends with, if that isn't 0
     <!-- needs: root, sqfs2tar -->  what it can't be run without: root, the `built` or `unproved` program of this
                                     checkout, or other programs
     <!-- skip: the reason -->       why no test runs it

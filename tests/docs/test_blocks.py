@@ -156,17 +156,38 @@ class Jobs(DocumentTest):
         )
         self.assertEqual(made.returncode, 0, made.stdout)
 
-    def test_images(self) -> None:
+    def commands(self, part: str, least: int) -> list[str]:
+        """The commands that have this part, at least so many."""
         text = (ROOT / "README.md").read_text(encoding="utf-8")
-        commands = [command.replace("\\|", "|") for command in _CODE_IN_ROW.findall(text)]
-        images = [command for command in commands if re.search(r"\bshop\b", command) and "docker" not in command]
-        self.assertGreater(len(images), 6)
-        for command in images:
-            with self.subTest(command):
-                ran = self.run_lines(command)
-                wanted = 1 if "--fail-over" in command else 0
-                self.assertEqual(ran.returncode, wanted, ran.stdout)
-                self.run_lines("rm -rf s flat flat.tar")
+        found = [command.replace("\\|", "|") for command in _CODE_IN_ROW.findall(text) if re.search(part, command)]
+        self.assertGreaterEqual(len(found), least)
+        return found
+
+    def require_done(self, command: str, status: int = 0) -> None:
+        """Runs a command, and takes away what it wrote."""
+        with self.subTest(command):
+            ran = self.run_lines(command)
+            self.assertEqual(ran.returncode, status, ran.stdout)
+            self.run_lines("rm -rf s flat flat.tar new.squashfs")
+
+    def test_images(self) -> None:
+        for command in self.commands(r"^layers .*\bshop\b", 7):
+            self.require_done(command, status=1 if "--fail-over" in command else 0)
+
+    def test_stacks(self) -> None:
+        reason = why_not(["root", "sqfs2tar", "tar2sqfs"])
+        if reason:
+            self.skipTest(reason)
+        made = self.run_lines(
+            "mkdir overlay\n"
+            "layers build given/l0.json --blobs given/blobs --out upper\n"
+            "layers build given/l2.json --blobs given/blobs --out filesystem.squashfs\n"
+            "cp -a upper overlay\n"
+            "cp filesystem.squashfs rom.squashfs\n"
+        )
+        self.assertEqual(made.returncode, 0, made.stdout)
+        for command in self.commands("--stack", 2):
+            self.require_done(command)
 
 
 if __name__ == "__main__":

@@ -7,16 +7,19 @@ use crate::contents::Content;
 use ovl_inode::Digest;
 use sha2::Sha256;
 use std::io::Read;
+use thiserror::Error;
 
 /// How many bytes a room has that serves [`content_in`].
 pub const PART: usize = 65536;
 
 /// Why what a reader gives isn't told.
-#[derive(Clone, Copy, Debug, PartialEq, Eq)]
+#[derive(Clone, Copy, Debug, PartialEq, Eq, Error)]
 pub enum PartFault {
     /// A read answered an error.
+    #[error("a read failed")]
     Device,
     /// More bytes came than a length can tell.
+    #[error("too many bytes")]
     TooLong,
 }
 

@@ -25,24 +25,21 @@ const NAME: &str = "ovl_layers";
 const VERSION: &str = "0.1.0";
 
 const ABOUT: &str = "\
-Tells what a stack of overlay layers shows and what is wrong with it, and makes layers that show the same: without what
-changes nothing, without redirects and metacopy files, or two or all as one. All by JSON manifests; nothing is mounted.
-Without words it shows the layer whose manifest is on standard input.";
+Inspects, checks and rewrites stacks of overlayfs layers. Layers are given as JSON manifests; nothing is mounted.
+Rewriting never changes what a stack shows. Without words it shows the layer whose manifest is on standard input.";
 
-const SHOW: &str = "Lists each path that the overlay of the layers shows, with what is there";
+const SHOW: &str = "List each path that the overlay of the layers shows, with what is there";
 
 const FSCK: &str =
-    "Checks that the layers fit one another and that the contents of their files are whole";
+    "Check that the layers fit one another and that the contents of their files are whole";
 
-const VACUUM: &str =
-    "Takes out of the topmost layer what changes nothing in what the overlay shows";
+const VACUUM: &str = "Drop from the topmost layer what changes nothing in what the overlay shows";
 
-const DEREF: &str =
-    "Unfolds moved directories and metacopy files of the topmost layer; the overlay shows the same";
+const DEREF: &str = "Write the topmost layer without redirects and metacopy files";
 
-const MERGE: &str = "Puts the topmost layer into the one below it; the overlay shows the same";
+const MERGE: &str = "Put the topmost layer into the one below it";
 
-const FLATTEN: &str = "Writes all that the overlay shows as one layer; alone it shows the same";
+const FLATTEN: &str = "Write all that the overlay shows as one layer";
 
 const WORKERS: &str = "How many workers share the directories, 1 to 64";
 
@@ -51,91 +48,87 @@ const DATA_LAYERS: &str = "How many of the layers, the lowest ones, are data-onl
 const BLOBS: &str =
     "Folder with the contents of the layers' files, each file named by its SHA-256 digest";
 
-const ANY_SIZE: &str =
-    "Read the contents in parts, those that the layers name alone, whatever their size";
+const ANY_SIZE: &str = "Read only contents that the layers name, in parts, whatever their size";
 
-const DOWN_TO: &str =
-    "Merge again and again until N layers that aren't data-only are left, 1 to 127";
+const DOWN_TO: &str = "Merge until N layers that aren't data-only are left, 1 to 127";
 
 const OUT: &str = "Folder for the new layers, written there as layer-0.json and so on";
 
 const LAYERS: &str = "Manifest of a layer, the topmost layer first";
 
 const MORE: &str = "\
-What the commands take:
-  <LAYER>...         Manifest of a layer, the topmost layer first
-  --workers <N>      How many workers share the directories, 1 to 64 [default: 4]
-  --data-layers <K>  How many of the layers, the lowest ones, are data-only, 0 to 127 [default: 0]
-  --blobs <DIR>      For all but show: folder with the contents of the layers' files, each file named by its SHA-256 digest
-  --any-size         For all but show: read the contents in parts, those that the layers name alone, whatever their size
-  --out <DIR>        For vacuum, deref, merge and flatten: folder for the new layers, written there as layer-0.json and so on
-  --down-to <N>      For merge: merge again and again until N layers that aren't data-only are left, 1 to 127
+All commands but show read the contents of files. vacuum, deref, merge and flatten first check as fsck does: if there is
+a fault, they print its report and write nothing. `ovl_layers <COMMAND> --help` explains a command and its options.
 
-A data-only layer shows no path of its own. It has contents for metacopy files of the layers over it that name it by an
-absolute redirect, as in the mount option lowerdir=a:b::c, where c is one.
-
-fsck is for a stack that is to be mounted or shipped: it tells faults, as directories moved from a place that is lost or
-not hidden, and files whose contents are missing or wrong, and it notes marks that do nothing. It ends with status 1
-where it tells a fault. It repairs nothing.
-
-vacuum is for an upper layer that is to be kept or shipped: it takes out each file and directory that only says again what
-the layers below show there, and tells which. With the new layer the overlay shows the same as before. It first checks as
-fsck does; where there is a fault it tells that in place of all else, writes no layer, and ends with status 1.
-
-deref is for an upper layer that is to be read where redirects and metacopy files mean nothing: a directory that was moved
-becomes a new one with all that the overlay shows in it, and a metacopy file gets the contents that it shows. It tells
-what the new layer has, and what each entry is to the overlay. It first checks, as vacuum does.
-
-merge is for an upper layer that is to be taken into the layer below it: it writes the two as one, layer-1.json, and a
-layer of a root alone to go over it, layer-0.json. With these in place of the two the overlay shows the same as before. It
-tells what the one layer has, as deref does, and first checks, as vacuum does.
-
-With --down-to N merge takes that layer into the next one, and so on, until N of the layers are left: layer-1.json, which
-holds all that were merged, and the N - 1 lowest that were given. Data-only layers and layer-0.json aren't counted, and N must
-be less than there are. Each merge checks first, by contents that are read once. What is told and written is that of the last,
-as if all were done one by one. To have a single layer, flatten is quicker, and leaves no data-only layers under it;
---down-to 1 is for one that is to stay over them.
-
-flatten is for a stack that is to be one layer: it writes all that the overlay shows as one, with no whiteout, no mark, and
-nothing under it; data-only layers aren't needed any more. It tells what that has, as deref does, and first checks, as vacuum
-does.
-
-All contents together have at most 268,435,456 bytes, those in the folder that no layer names too. With --any-size there is
-no such limit: what the layers name is read in parts, each once, and not held.
+Exit status:
+  0  Done
+  1  The layers have a fault
+  2  The words don't fit
+  3  Something can't be read, or isn't a manifest
+  4  Something can't be written
+  5  A new layer passes a limit, memory ran out, or anything else
 
 Examples:
   ovl_layers < layer.json
   ovl_layers show upper.json lower.json
-  ovl_layers fsck --blobs contents --workers 8 upper.json lower.json
   ovl_layers fsck --blobs contents --any-size upper.json lower.json
-  ovl_layers vacuum --blobs contents --out new upper.json lower.json
-  ovl_layers deref --blobs contents --out new upper.json lower.json
-  ovl_layers merge --blobs contents --out new upper.json lower.json
-  ovl_layers merge --blobs contents --out new --down-to 2 upper.json middle.json lower.json base.json
   ovl_layers flatten --blobs contents --out new upper.json lower.json";
 
-const SHOW_EXAMPLE: &str = "\
+const MORE_ON_SHOW: &str = "\
+Prints a line for each path: kind, mode, owner, group, time, size, the digest of a file's contents (or a link's target,
+or a device's numbers), the path, and its attributes. The last line is their number.
+
+A data-only layer shows no path of its own. It has contents for metacopy files of the layers over it, which name it by
+an absolute redirect, as c in the mount option lowerdir=a:b::c.
+
 Example:
   ovl_layers show --workers 8 upper.json lower.json";
 
-const FSCK_EXAMPLE: &str = "\
-Example:
-  ovl_layers fsck --blobs contents --workers 8 upper.json lower.json";
+const MORE_ON_FSCK: &str = "\
+For a stack that is to be mounted or shipped. Faults are directories moved from a place that is lost or not hidden, and
+files whose contents are missing or wrong; notes are marks that do nothing. The status is 1 if there is a fault. Nothing
+is repaired.
 
-const VACUUM_EXAMPLE: &str = "\
+Without --any-size all files of the folder are held in memory, at most 268,435,456 bytes.
+
+Examples:
+  ovl_layers fsck --blobs contents --workers 8 upper.json lower.json
+  ovl_layers fsck --blobs contents --any-size upper.json lower.json";
+
+const MORE_ON_VACUUM: &str = "\
+For an upper layer that is to be kept or shipped. Each file and directory goes that only repeats what the layers below
+show there; the report lists them. With the new layer the overlay shows the same as before.
+
 Example:
   ovl_layers vacuum --blobs contents --out new upper.json lower.json";
 
-const DEREF_EXAMPLE: &str = "\
+const MORE_ON_DEREF: &str = "\
+For an upper layer that is to be read where redirects and metacopy files mean nothing. A directory that was moved becomes
+a new one with all that the overlay shows in it, and a metacopy file gets the contents that it shows. With the new layer
+the overlay shows the same as before. The report lists its entries, each with what it means to the overlay.
+
 Example:
   ovl_layers deref --blobs contents --out new upper.json lower.json";
 
-const MERGE_EXAMPLE: &str = "\
+const MORE_ON_MERGE: &str = "\
+For an upper layer that is to be taken into the layer below it. layer-1.json is the two as one, and layer-0.json a layer
+with only a root, which may be left out. With these in place of the two the overlay shows the same as before. The report
+lists the entries of layer-1.json.
+
+With --down-to N merging goes on with that layer and the next one, until N are left: layer-1.json, which holds all that
+were merged, and the N - 1 lowest that were given. Data-only layers and layer-0.json aren't counted, and N must be less
+than there are. Each merge checks first; contents are read once. The report is that of the last merge.
+
+To have a single layer, flatten is quicker, and leaves no data-only layers under it.
+
 Examples:
   ovl_layers merge --blobs contents --out new upper.json lower.json
   ovl_layers merge --blobs contents --out new --down-to 2 upper.json middle.json lower.json base.json";
 
-const FLATTEN_EXAMPLE: &str = "\
+const MORE_ON_FLATTEN: &str = "\
+For a stack that is to be one layer. It has no whiteout and no mark, and shows by itself what the stack shows; data-only
+layers aren't needed any more. The report lists its entries.
+
 Example:
   ovl_layers flatten --blobs contents --out new upper.json lower.json";
 
@@ -144,10 +137,10 @@ pub fn tool<'a>(alloc: Global) -> Result<Command<'a>, AllocError>
     ensures { IfOk result (λ command. app_of command ≡ tool_app) }
 {
     let command = telling(alloc)?;
-    let command = with_rewriting(alloc, command, "vacuum", VACUUM, VACUUM_EXAMPLE)?;
-    let command = with_rewriting(alloc, command, "deref", DEREF, DEREF_EXAMPLE)?;
+    let command = with_rewriting(alloc, command, "vacuum", VACUUM, MORE_ON_VACUUM)?;
+    let command = with_rewriting(alloc, command, "deref", DEREF, MORE_ON_DEREF)?;
     let command = command.subcommand(merge(alloc)?)?;
-    with_rewriting(alloc, command, "flatten", FLATTEN, FLATTEN_EXAMPLE)
+    with_rewriting(alloc, command, "flatten", FLATTEN, MORE_ON_FLATTEN)
 }
 
 // The program's own level, with the commands that make no layer.
@@ -181,14 +174,14 @@ fn show<'a>(alloc: Global) -> Result<Command<'a>, AllocError>
 {
     let command = Command::new(alloc, "show")
         .about(SHOW)
-        .after_help(SHOW_EXAMPLE);
+        .after_help(MORE_ON_SHOW);
     with_layers(alloc, command)
 }
 
 fn fsck<'a>(alloc: Global) -> Result<Command<'a>, AllocError>
     ensures { IfOk result (HasShape fsck_shape) }
 {
-    with_layers(alloc, with_blobs(alloc, "fsck", FSCK, FSCK_EXAMPLE)?)
+    with_layers(alloc, with_blobs(alloc, "fsck", FSCK, MORE_ON_FSCK)?)
 }
 
 // A command that makes new layers.
@@ -196,11 +189,11 @@ fn rewriting<'a>(
     alloc: Global,
     name: &'a str,
     about: &'a str,
-    example: &'a str,
+    more: &'a str,
 ) -> Result<Command<'a>, AllocError>
     ensures { IfOk result (HasShape (rewriting_shape name.now)) }
 {
-    with_layers(alloc, with_folders(alloc, name, about, example)?)
+    with_layers(alloc, with_folders(alloc, name, about, more)?)
 }
 
 // The level of all commands with one more that makes new layers.
@@ -209,18 +202,18 @@ fn with_rewriting<'a>(
     command: Command<'a>,
     name: &'a str,
     about: &'a str,
-    example: &'a str,
+    more: &'a str,
 ) -> Result<Command<'a>, AllocError>
     ensures { IfOk result (λ more. app_of more
         ≡ with_subcommand (app_of command.entry) (rewriting_shape name.now)) }
 {
-    command.subcommand(rewriting(alloc, name, about, example)?)
+    command.subcommand(rewriting(alloc, name, about, more)?)
 }
 
 fn merge<'a>(alloc: Global) -> Result<Command<'a>, AllocError>
     ensures { IfOk result (HasShape merge_shape) }
 {
-    let command = with_folders(alloc, "merge", MERGE, MERGE_EXAMPLE)?.arg(down_to(alloc))?;
+    let command = with_folders(alloc, "merge", MERGE, MORE_ON_MERGE)?.arg(down_to(alloc))?;
     with_layers(alloc, command)
 }
 
@@ -241,13 +234,13 @@ fn with_blobs<'a>(
     alloc: Global,
     name: &'a str,
     about: &'a str,
-    example: &'a str,
+    more: &'a str,
 ) -> Result<Command<'a>, AllocError>
     ensures { IfOk result (HasShape (blobs_shape name.now)) }
 {
     Command::new(alloc, name)
         .about(about)
-        .after_help(example)
+        .after_help(more)
         .arg(blobs(alloc))?
         .arg(any_size(alloc))
 }
@@ -257,11 +250,11 @@ fn with_folders<'a>(
     alloc: Global,
     name: &'a str,
     about: &'a str,
-    example: &'a str,
+    more: &'a str,
 ) -> Result<Command<'a>, AllocError>
     ensures { IfOk result (HasShape (folders_shape name.now)) }
 {
-    with_blobs(alloc, name, about, example)?.arg(out(alloc))
+    with_blobs(alloc, name, about, more)?.arg(out(alloc))
 }
 
 fn workers<'a>(alloc: Global) -> Arg<'a>

@@ -9,6 +9,8 @@ use crate::faults::EngineFault;
 use ovl_check::Content;
 use ovl_inode::Digest;
 use std::alloc::{AllocError, Global};
+use std::fmt::Display;
+use thiserror::Error;
 
 /// Where the contents of blobs are had from, which needn't be held in memory.
 ///
@@ -47,11 +49,14 @@ pub trait Contents {
 }
 
 /// Why a command over contents that aren't held gives no answer.
-#[derive(Debug, PartialEq, Eq, Drop)]
+#[derive(Debug, PartialEq, Eq, Drop, Error)]
+#[error_bound(F: Display)]
 pub enum CommandFault<F> {
     /// As of a command over blobs.
+    #[error(transparent)]
     Engine(EngineFault),
     /// The contents can't be told.
+    #[error("contents: {0}")]
     Contents(F),
 }
 

@@ -7,7 +7,8 @@ ghost use Rattle.ovl_program.specs.declared.files.reads.ReadFault.TheVariants.{T
 use ovl_check::PartFault;
 use ovl_engine::BLOB_LIMIT;
 use std::alloc::{AllocError, AllocFailed, Global};
-use std::io::{Error, ErrorKind, Read};
+use std::io::{self, ErrorKind, Read};
+use thiserror::Error;
 
 /// The most bytes that are held of one input, be it a manifest or a blob. A command takes no blob
 /// of more, since all its blobs together have at most so many; blobs that are read in parts aren't
@@ -21,13 +22,16 @@ const ROOM: usize = 16384;
 const SMALL_ROOM: usize = 1024;
 
 /// Why not all of an input, a file or a folder is had.
-#[derive(Clone, Copy, Debug, PartialEq, Eq)]
+#[derive(Clone, Copy, Debug, PartialEq, Eq, Error)]
 pub enum ReadFault {
     /// It can't be opened, or a read answered an error.
+    #[error("a read failed")]
     Device,
     /// More bytes than the limit came, or than a length can tell.
+    #[error("too many bytes")]
     TooLong,
     /// Out of memory.
+    #[error("out of memory")]
     Memory,
 }
 
@@ -130,12 +134,12 @@ fn room_for(alloc: Global, expected: usize) -> Vec<u8>
     }
 }
 
-impl From<Error> for ReadFault {
+impl From<io::Error> for ReadFault {
     ghost from_gives = { λ error fault. (fault ≢ TooLong)
         × ((fault ≡ Memory) ↔ ((raw_os_error error ≡ None) × (error_kind error ≡ OutOfMemory))) };
 
     // Where the system itself is out of memory, that is the device's fault.
-    fn from(error: Error) -> ReadFault {
+    fn from(error: io::Error) -> ReadFault {
         if error.raw_os_error().is_none() && error.kind() == ErrorKind::OutOfMemory {
             ReadFault::Memory
         } else {

@@ -11,6 +11,7 @@ use crate::faults::ProgramFault;
 use ovl_engine::Content;
 use ovl_inode::Digest;
 use std::alloc::{AllocError, Global};
+use thiserror::Error;
 
 /// What the file of a blob holds: how many bytes, and whether they are those that its name says.
 #[derive(Clone, Copy, Debug)]
@@ -53,7 +54,8 @@ pub struct Told {
 }
 
 /// Why a worker stopped, at the name of this number.
-#[derive(Debug, Drop)]
+#[derive(Debug, Drop, Error)]
+#[error("blob {number}: {fault}")]
 pub struct Stop {
     pub number: usize,
     pub fault: ProgramFault,

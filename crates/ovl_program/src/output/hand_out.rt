@@ -7,9 +7,11 @@ ghost use Rattle.ovl_program.specs.Status.{ending_of, ending_status};
 use crate::output::status::Ending;
 use ovl_engine::{Answer, emit};
 use std::io::Write;
+use thiserror::Error;
 
 /// Where an answer isn't written whole.
-#[derive(Clone, Copy, Debug, PartialEq, Eq)]
+#[derive(Clone, Copy, Debug, PartialEq, Eq, Error)]
+#[error("only {written} bytes of part {part} were written")]
 pub struct OutFault {
     /// The first part that isn't, by its number: those of the layers from 0 on, and then the
     /// report's.
