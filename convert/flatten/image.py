@@ -154,7 +154,16 @@ class _Doing(Doing):
     def pack(self, layers: Sequence[str]) -> None:
         """See `Steps`."""
         blobs, config, links = (self.path(f"{STACK}/{name}") for name in _FOR_PACK)
-        with self._new_layers() as new_layers:
+        with contextlib.ExitStack() as beside:
+
+            def drop_blobs() -> None:
+                if not self._options.keep:
+                    beside.enter_context(removing(blobs))
+
+            new_layers = None
+            if self._options.compress == NONE:
+                out = self._options.out.told
+                new_layers = beside.enter_context(NewLayers(self._folder, out, len(layers), drop_blobs))
             with timed("pack") as words:
                 pack(PackOptions(
                     layers=[self.path(layer) for layer in layers], blobs=blobs, out=self._target(), tag=self._name,
@@ -162,16 +171,11 @@ class _Doing(Doing):
                     annotations=self.path(_ANNOTATIONS) if self._has_annotations else None, new_layers=new_layers,
                 ))
                 words.append(counted(len(layers), "layer", "layers"))
-            needless = () if self._options.keep else (blobs,)
-            with timed("the new image, read again") as words, removing(*needless):
+            if new_layers is None:
+                drop_blobs()
+            with timed("the new image, read again") as words:
                 words.append(self._shown(self._image, new_layers))
                 self.compare(_SHOWN)
-
-    def _new_layers(self) -> contextlib.AbstractContextManager[NewLayers | None]:
-        """What reads plain layers as they are written; packed ones are read when the image is whole."""
-        if self._options.compress != NONE:
-            return contextlib.nullcontext()
-        return NewLayers(self._folder, self._options.out.told)
 
     def _target(self) -> Target:
         """The image that is made, on its way to its name."""

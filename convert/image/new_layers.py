@@ -3,7 +3,7 @@
 import contextlib
 import os
 import tempfile
-from collections.abc import Hashable, Iterator
+from collections.abc import Callable, Hashable, Iterator
 from types import TracebackType
 
 from ..common.faults import reading, writing
@@ -25,10 +25,13 @@ class NewLayers:
     """Reads plain layers from the files of a new image, each once.
 
     So a layer is named by what the disk has, and it isn't read once more when the image is: see `KeptLayers`.
+    Something may begin once the last of so many layers is written.
     """
 
-    def __init__(self, folder: str, out: str) -> None:
+    def __init__(self, folder: str, out: str, layers: int, begin_at_last: Callable[[], None]) -> None:
         self._out = out
+        self._left = layers
+        self._begin_at_last = begin_at_last
         self._kept: dict[Hashable, KeptAgain] = {}
         with writing(out):
             self._file = tempfile.TemporaryFile(dir=folder)
@@ -43,6 +46,9 @@ class NewLayers:
 
     def read(self, file: int, begin: int, size: int) -> str:
         """Reads the layer that stands in a part of an open file; gives the digits of the digest of its bytes."""
+        self._left -= 1
+        if self._left == 0:
+            self._begin_at_last()
         layer = _NewLayer(self._out, file, begin, size)
         taking = Taking(out=self._out, writer=Digester(), held=Held(), below=MergedTree())
         keeping = Keeping(self._file, self._out)

@@ -31,7 +31,8 @@ ahead.LEAST_BYTES = 0
 sys.exit(main(sys.argv[2:]))
 """
 _COMMAND: list[str] = [sys.executable, "-B", str(COMMAND)]
-if "LAYERS_TEST_SIDE_BY_SIDE" in os.environ:
+IS_SIDE_BY_SIDE = "LAYERS_TEST_SIDE_BY_SIDE" in os.environ
+if IS_SIDE_BY_SIDE:
     ahead.LEAST_BYTES = 0
     _COMMAND[2:] = ["-c", _SIDE_BY_SIDE, str(ROOT)]
 
