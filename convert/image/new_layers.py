@@ -6,7 +6,7 @@ import tempfile
 from collections.abc import Callable, Hashable, Iterator
 from types import TracebackType
 
-from ..common.faults import reading, writing
+from ..common.faults import TarFault, cannot_read, reading, writing
 from ..common.progress import Progress
 from ..common.streams import Digesting, Slice, Source, Watched
 from ..model.blobs import Digester
@@ -96,6 +96,9 @@ class _NewLayer:
     def archive(self, progress: Progress) -> Iterator[Source]:
         """Its bytes, whose digest is there at the end."""
         source = Digesting(Watched(Slice(*self._place), progress), ALGORITHM)
-        with reading(self.path):
-            yield source
-            self.digest = source.digest_of_all()
+        try:
+            with reading(self.path):
+                yield source
+                self.digest = source.digest_of_all()
+        except TarFault as error:
+            raise cannot_read(self.path, str(error)) from error
