@@ -23,7 +23,6 @@ from ..common.faults import ENDING, OTHER, READING, WRITING, Fault, ReadFault, T
 from ..common.progress import Progress, tell_progress
 from ..common.streams import Source
 from ..model.blobs import Writer
-from ..model.layer_tree import Held
 from ..model.workers import usual_workers
 from ..tar.headers import Header
 from .archives import ArchiveReader, Layer, Store, Taking, has_contents
@@ -188,7 +187,7 @@ class _LayersAhead:
 
     def _read_as(self, layer: Layer, number: int, keeping: Keeping, worker: "_Worker", writer: Writer) -> None:
         budget = SharedBudget(self._used, number)
-        taking = replace(self._taking, writer=writer, held=Held(budget))
+        taking = replace(self._taking, writer=writer, budget=budget)
 
         def keep(header: Header, store: Store) -> None:
             worker.require_parent()

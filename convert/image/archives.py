@@ -3,13 +3,14 @@
 import contextlib
 import copy
 import functools
+import itertools
 import hashlib
 import os
-from collections.abc import Callable, Hashable, Mapping
-from dataclasses import dataclass, replace
+from collections.abc import Callable, Hashable, Iterator, Mapping
+from dataclasses import dataclass, field, replace
 from typing import Protocol
 
-from ..common.budgets import TooMuch
+from ..common.budgets import Budget, TooMuch
 from ..common.contents import PIECE
 from ..common.faults import cannot_read
 from ..common.omissions import Loss, Losses
@@ -22,7 +23,7 @@ from ..model.entries import (
     BLOCK, CHAR, DIRECTORY, FIFO, FILE, LINK_MODE, METACOPY, NO_ATTRIBUTES, OVERLAY, SYMLINK, WHITEOUT, Entry,
     is_whiteout,
 )
-from ..model.layer_tree import Attributes, Blocked, Gap, Held, LayerTree, Unfit, whiteout
+from ..model.layer_tree import Blocked, Gap, LayerTree, Unfit, whiteout
 from ..model.merged_tree import MergedTree
 from ..model.times import ONE_SECOND
 from ..tar import headers as tar
@@ -32,6 +33,8 @@ from ..tar.reader import TarReader
 from .archive_names import AUFS_LINKS, OPAQUE_NAME, WHITEOUT_PREFIX, Paths, is_of_aufs, may_be_special
 from .layer_cache import NO_CONTENTS, Contents, Keeping, KeptLayers
 
+RawAttributes = tuple[tuple[bytes, bytes], ...]
+_ATTRIBUTE_BYTES = 256  # that an attribute takes at most beside its name and value
 _KINDS = {
     tar.SYMLINK: SYMLINK, tar.CHAR: CHAR, tar.BLOCK: BLOCK, tar.DIRECTORY: DIRECTORY, tar.FIFO: FIFO,
     HARD_LINK: FILE, **{bytes([kind]): FILE for kind in REGULAR_TYPES},
@@ -72,6 +75,15 @@ class Layer(Protocol):
         """
 
 
+@dataclass(frozen=True, slots=True)
+class Attributes:
+    """Attributes as an entry has them, how many marks were left out, and why others can't be stated."""
+
+    kept: Mapping[str, bytes]
+    marks: int
+    problems: tuple[str, ...] = ()
+
+
 @dataclass(frozen=True, kw_only=True)
 class Taking:
     """What is taken of the archives of layers, and where it goes.
@@ -82,7 +94,7 @@ class Taking:
 
     out: str
     writer: Writer
-    held: Held
+    budget: Budget
     below: MergedTree
     skip_unsupported: bool = False
     overlay_marks: bool = False
@@ -90,6 +102,8 @@ class Taking:
     userxattr: bool | None = False  # for an image, whose archives have no such marks
     most_contents: int | None = None  # bytes of all its files, if they are bounded
     kept: KeptLayers | None = None  # of an image, which may name a layer again
+    attribute_sets: dict[RawAttributes, Attributes] = field(default_factory=dict)  # as records had them before
+    links: Iterator[int] = field(default_factory=lambda: itertools.count(1))  # numbers for the names of one file
 
 
 class ArchiveReader:
@@ -124,7 +138,7 @@ class ArchiveReader:
             raise cannot_read(self._layer.path, f"its unpacked bytes aren't those of {algorithm}:{wanted}")
 
     def _read(self, stream: Source, take: Take) -> None:
-        archive = TarReader(buffered(stream), self._taking.held.budget)
+        archive = TarReader(buffered(stream), self._taking.budget)
         for header in archive:
             take(header, functools.partial(self._store, archive, header))
 
@@ -150,7 +164,7 @@ class LayerArchive:
     def __init__(self, layer: Layer, taking: Taking) -> None:
         self._layer = layer
         self._taking = taking
-        self._tree = LayerTree(taking.held)
+        self._tree = LayerTree(taking.budget)
         self._paths = Paths(not taking.is_folder)
         self._losses = Losses()
         self._aufs_links: dict[str, Entry] = {}
@@ -172,7 +186,7 @@ class LayerArchive:
         layers = self._taking.kept
         kept = layers.kept(self._layer) if layers else None
         if kept is not None:
-            for header, contents in kept.entries(self._taking.held.budget):
+            for header, contents in kept.entries(self._taking.budget):
                 self._take_fitting(header, _known(contents))
             return
         keeping = layers.keeping(self._layer) if layers else None
@@ -237,7 +251,7 @@ class LayerArchive:
             self._losses.add(Loss.AUFS, _path(names))
             if _is_aufs_link(names) and header.type in REGULAR_TYPES:
                 entry = self._entry(header, names)
-                self._taking.held.grow()
+                self._taking.budget.entries.take()
                 _fill(entry, store)
                 self._aufs_links[_path(names)] = entry
             return
@@ -292,7 +306,11 @@ class LayerArchive:
 
     def _attributes(self, header: Header, names: list[str]) -> Mapping[str, bytes]:
         raw = header.attributes
-        found = self._taking.held.attributes(tuple(raw.items()), lambda: self._decoded(raw))
+        key = tuple(raw.items())
+        found = self._taking.attribute_sets.get(key)
+        if found is None:
+            self._taking.budget.text.take(sum(_ATTRIBUTE_BYTES + 2 * (len(name) + len(value)) for name, value in key))
+            found = self._taking.attribute_sets[key] = self._decoded(raw)
         if found.marks:
             self._losses.add(Loss.MARK, _path(names), found.marks)
         for problem in found.problems:
@@ -324,13 +342,13 @@ class LayerArchive:
             raise Unfit(f"it links to {told}, which is no file of this layer so far or of those below")
         if METACOPY in found.attributes and not is_folder:
             raise Unfit(f"it links to {told}, a file without its contents")
-        self._taking.held.budget.attributes.take(len(found.attributes))
+        self._taking.budget.attributes.take(len(found.attributes))
         if (entry.mode, entry.uid, entry.gid) != (found.mode, found.uid, found.gid):
             self._losses.add(Loss.LINK_HEADER, _path(names))
         if here is None:
             self._losses.add(Loss.LOWER_LINK, _path(names))
         elif not is_whiteout(here):  # the kernel links the whiteouts of a mount to one another, which nothing shows
-            here.link = here.link or self._taking.held.new_link()
+            here.link = here.link or next(self._taking.links)
         own = copy.copy(found)
         own.link = here.link if here else 0
         return own

@@ -6,11 +6,11 @@ import tempfile
 from collections.abc import Callable, Hashable, Iterator
 from types import TracebackType
 
+from ..common.budgets import Budget
 from ..common.faults import TarFault, cannot_read, reading, writing
 from ..common.progress import Progress
 from ..common.streams import Digesting, Slice, Source, Watched
 from ..model.blobs import Digester
-from ..model.layer_tree import Held
 from ..model.merged_tree import MergedTree
 from ..tar.headers import Header
 from .archives import ArchiveReader, Store, Taking, has_contents
@@ -50,7 +50,7 @@ class NewLayers:
         if self._left == 0:
             self._begin_at_last()
         layer = _NewLayer(self._out, file, begin, size)
-        taking = Taking(out=self._out, writer=Digester(), held=Held(), below=MergedTree())
+        taking = Taking(out=self._out, writer=Digester(), budget=Budget(), below=MergedTree())
         keeping = Keeping(self._file, self._out)
 
         def keep(header: Header, store: Store) -> None:

@@ -4,12 +4,12 @@ import contextlib
 import os
 from dataclasses import dataclass, replace
 
+from ..common.budgets import Budget
 from ..common.faults import cannot_read
 from ..common.outputs import new_folder, write_text
 from ..model import rules, stacks
 from ..model.blobs import staged_writers
 from ..model.entries import REDIRECT
-from ..model.layer_tree import Held
 from ..model.links import LinkNames, links_path
 from ..model.manifests import has_attribute, write_manifest
 from ..model.merged_tree import MergedTree, write_shown_links
@@ -65,7 +65,7 @@ def _unpack_layers(
     below, writer = MergedTree(), new_writer()
     taking = Taking(
         out=options.out, skip_unsupported=options.skip_unsupported, overlay_marks=options.overlay_marks, writer=writer,
-        held=Held(), below=below,
+        budget=Budget(), below=below,
     )
     try:
         with contextlib.nullcontext(read) if read else layers_read(layers, taking, stage, new_writer) as kept:

@@ -7,6 +7,7 @@ from collections.abc import Iterator
 from dataclasses import dataclass, field
 from enum import Enum, auto
 
+from ..common.budgets import Budget
 from ..common.faults import TarFault, cannot_read, reading
 from ..common.omissions import Loss, Losses, ScanLosses
 from ..common.open_dirs import READ_WHERE_IT_LEADS
@@ -15,7 +16,7 @@ from ..common.streams import Slice, Source, Watched, is_packed, unpacked
 from ..image.archives import LayerArchive, Taking
 from ..model.blobs import Digester, writers
 from ..model.entries import Named
-from ..model.layer_tree import Held, LayerTree, whiteout
+from ..model.layer_tree import LayerTree, whiteout
 from ..model.links import renumber, write_layer
 from ..model.merged_tree import MergedTree
 from ..tar.headers import BLOCK_BYTES, parse_header
@@ -150,7 +151,7 @@ def squashfs_tree(path: str, told_as: str, userxattr: bool) -> LayerTree:
     try:
         layer = _FileLayer(told_as, Form.SQUASHFS, file)
         taking = Taking(
-            out=told_as, overlay_marks=True, writer=Digester(), held=Held(), below=MergedTree(), is_folder=True,
+            out=told_as, overlay_marks=True, writer=Digester(), budget=Budget(), below=MergedTree(), is_folder=True,
             userxattr=userxattr,
         )
         return LayerArchive(layer, taking).tree()
@@ -165,7 +166,7 @@ def _read(layer: _FileLayer, options: FileOptions) -> LayerTree:
         try:
             return LayerArchive(layer, Taking(
                 out=options.blobs or options.out, skip_unsupported=options.skip_unsupported, overlay_marks=True,
-                writer=writer, held=Held(), below=MergedTree(), is_folder=True, userxattr=options.userxattr,
+                writer=writer, budget=Budget(), below=MergedTree(), is_folder=True, userxattr=options.userxattr,
                 most_contents=most,
             )).tree()
         finally:
