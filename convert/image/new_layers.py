@@ -13,7 +13,7 @@ from ..common.streams import Digesting, Slice, Source, Watched
 from ..model.blobs import Digester
 from ..model.merged_tree import MergedTree
 from ..tar.headers import Header
-from .archives import ArchiveReader, Store, Taking, has_contents
+from .archives import ArchiveReader, Store, ReadOptions, has_contents
 from .documents import Digest
 from .images import ImageLayer
 from .layer_cache import NO_CONTENTS, Keeping, Kept, KeptAgain, Named
@@ -50,13 +50,13 @@ class NewLayers:
         if self._left == 0:
             self._begin_at_last()
         layer = _NewLayer(self._out, file, begin, size)
-        taking = Taking(out=self._out, writer=Digester(), budget=Budget(), below=MergedTree())
+        read_options = ReadOptions(out=self._out, writer=Digester(), budget=Budget(), below=MergedTree())
         keeping = Keeping(self._file, self._out)
 
         def keep(header: Header, store: Store) -> None:
             keeping.add(header, store() if has_contents(header) else NO_CONTENTS)
 
-        ArchiveReader(layer, taking).read(keep)
+        ArchiveReader(layer, read_options).read(keep)
         kept = KeptAgain(self._file, keeping, self._out)
         status = os.fstat(file)
         for place in ((status.st_dev, status.st_ino), (begin, size)):  # as in a folder, and in an archive
