@@ -8,6 +8,7 @@ import shutil
 import subprocess
 import sys
 import tempfile
+import time
 import unittest
 from pathlib import Path
 
@@ -98,6 +99,17 @@ def why_no_trusted(folder: str) -> str | None:
             with contextlib.suppress(FileNotFoundError):
                 os.unlink(path)
     return None
+
+
+def left_stage(folder: str, age: int) -> str:
+    """What a run leaves in a folder that was killed so many seconds ago."""
+    name = f".layers-{age:016x}"
+    path = os.path.join(folder, name)
+    os.makedirs(os.path.join(path, "inner"))
+    with open(os.path.join(path, "made-by"), "w", encoding="ascii") as mark:
+        mark.write(f"{name} is the stage of a run of layers, process 1\n")
+    os.utime(mark.name, (time.time() - age, time.time() - age))
+    return path
 
 
 def links(path: str) -> list[list[str]]:
