@@ -1,4 +1,4 @@
-"""What the archives of an image may have together, so that a small image can't take all time or memory."""
+"""What an image may have in its archives and layers together, so that a small one can't take all time or memory."""
 
 import mmap
 
@@ -10,6 +10,8 @@ MAX_PARTS = 1 << 20
 MAX_HOLES = 1 << 34  # bytes, which have to be digested
 MAX_ATTRIBUTES = 1 << 23
 MAX_UNSTATED = 1 << 18
+MAX_ENTRIES = 1 << 22  # of all layers, which are held to know what each one covers
+MAX_TEXT = 1 << 29  # bytes
 _STEPS = 1_000  # in which a process looks what others have
 _NUMBER_BYTES = 8
 
@@ -50,9 +52,11 @@ class Budget:
         self.holes = Counter(MAX_HOLES, "bytes of holes")
         self.attributes = Counter(MAX_ATTRIBUTES, "attributes")
         self.unstated = Counter(MAX_UNSTATED, "directories that its archives leave out")
+        self.entries = Counter(MAX_ENTRIES, "entries in its layers")
+        self.text = Counter(MAX_TEXT, "bytes of names, targets and attributes")
 
     def counters(self) -> tuple[Counter, ...]:
-        """All of them, in an order of their own."""
+        """Those of archives, which several processes may read, in an order of their own."""
         return (
             self.headers, self.global_headers, self.records, self.given_records, self.parts, self.holes,
             self.attributes, self.unstated,

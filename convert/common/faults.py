@@ -109,9 +109,20 @@ def writing(path: str) -> Iterator[None]:
 
 @contextlib.contextmanager
 def told_as(stage: str, path: str) -> Iterator[None]:
-    """Tells what can't be written in a stage as a fault of the path that it is to become."""
+    """Tells a fault of what is in a stage as one of the path that it is to become."""
     try:
         yield
-    except WriteFault as fault:
-        inside = re.compile(re.escape(printable(stage)) + r"(/[^:\s]*)?")
-        raise WriteFault(inside.sub(lambda _: path, fault.text)) from fault
+    except Fault as fault:
+        inside = re.compile(re.escape(printable(stage)) + r"(?![0-9])(/[^:;,\s]*)?")
+        fault.text = inside.sub(lambda _: printable(path), fault.text)
+        raise
+
+
+@contextlib.contextmanager
+def signals_wait() -> Iterator[set[int]]:
+    """Has signals that end a command wait; gives those that waited before."""
+    mask = signal.pthread_sigmask(signal.SIG_BLOCK, ENDING)
+    try:
+        yield mask
+    finally:
+        signal.pthread_sigmask(signal.SIG_SETMASK, mask)

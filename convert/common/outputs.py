@@ -6,15 +6,82 @@ import stat
 import sys
 import tempfile
 from collections.abc import Callable, Iterable, Iterator
+from dataclasses import dataclass
 from typing import IO, TextIO
 
 from .contents import PIECE, Write
-from .faults import ClosedPipe, cannot_write, reason_of, told_as, writing
-from .stages import Stage, remove, tidy, told
+from .faults import ClosedPipe, cannot_write, reason_of, signals_wait, told_as, writing
+from .open_dirs import (
+    CREATE, FOLDER_MODE, dress_of, is_at, move, open_folder, open_way, path_of, place_of, put_on, remove, status_of,
+)
+from .progress import note
+from .stages import Stage, lock, tidy
 
 STANDARD_OUTPUT = "-"
+NEW = "new"  # in a stage: what is to get the path
 _AT_ONCE = 1 << 18
 _USUAL_MODE = 0o666  # less what the umask takes
+_MOST_LINKS = 40  # on the way to a file
+
+
+@dataclass(frozen=True)
+class Place:
+    """A path that is written: its last name, the open folder that it is in, and what was there."""
+
+    folder: int
+    name: str
+    found: os.stat_result | None
+
+    def put(self, stage: Stage) -> None:
+        """Moves what was made in a stage there: where nothing was, or in place of the very file that was there."""
+        made = status_of(NEW, stage.file)
+        if self.found is None:
+            try:
+                move(stage.file, NEW, self.folder, self.name)
+            except FileExistsError:
+                raise OSError(None, "it came meanwhile") from None
+        else:
+            self.require(self.found)
+            os.rename(NEW, self.name, src_dir_fd=stage.file, dst_dir_fd=self.folder)
+        self.require(made)
+
+    def require(self, wanted: os.stat_result) -> None:
+        """Fails if another file or folder is there."""
+        if not is_at(self.name, self.folder, wanted):
+            raise OSError(None, "it was replaced meanwhile")
+
+
+@contextlib.contextmanager
+def opened_place(path: str) -> Iterator[Place]:
+    """Where a path leads. A link that is neither this user's nor root's isn't followed."""
+    links = 0
+    while True:
+        folder, name = os.path.split(path.rstrip("/") or "/")
+        file = open_way(folder or ".")
+        with _closed(file):
+            place = _place_in(file, name or ".")
+            if place.found is None or not stat.S_ISLNK(place.found.st_mode):
+                yield place
+                return
+            links += 1
+            if place.found.st_uid not in (0, os.geteuid()) or links > _MOST_LINKS:
+                raise OSError(None, "it is a link of another user")
+            path = os.path.join(folder, os.readlink(place.name, dir_fd=file))
+
+
+@contextlib.contextmanager
+def _closed(file: int) -> Iterator[int]:
+    try:
+        yield file
+    finally:
+        os.close(file)
+
+
+def _place_in(folder: int, name: str) -> Place:
+    try:
+        return Place(folder, name, status_of(name, folder))
+    except FileNotFoundError:
+        return Place(folder, name, None)
 
 
 def write_text(path: str, pieces: Iterable[str]) -> None:
@@ -37,16 +104,15 @@ def write_text(path: str, pieces: Iterable[str]) -> None:
 def write_file(path: str, fill: Callable[[Write], None], mode: int = _USUAL_MODE) -> None:
     """Has a file filled.
 
-    Nothing, or a regular file, is replaced as a whole by one that was filled under another name beside
-    it; a link leads there. Anything else that is there, such as a device or a pipe, is written
-    through, as standard output is, which `-` means.
+    Nothing, or a regular file, is replaced as a whole by one that was filled in a stage beside it; a link leads
+    there. Anything else that is there, such as a device or a pipe, is written through, as standard output is,
+    which `-` means.
     """
-    place = _place(path)
     with writing(path):
-        if place is None:
-            _write_through(path, fill)
+        if is_replaced(path):
+            _replace(path, lambda file: fill(file.write), mode)
         else:
-            _replace(place, lambda file: fill(file.write), mode)
+            _write_through(path, fill)
 
 
 def write_file_in_place(path: str, beside: str, fill: Callable[[IO[bytes]], None], mode: int) -> None:
@@ -55,9 +121,8 @@ def write_file_in_place(path: str, beside: str, fill: Callable[[IO[bytes]], None
     What can't be written so gets its bytes at the end, from a file without a name that is made beside a path.
     An error of the system is one of writing.
     """
-    place = _place(path)
-    if place is not None:
-        _replace(place, fill, mode)
+    if is_replaced(path):
+        _replace(path, fill, mode)
         return
     with tempfile.TemporaryFile(dir=os.path.dirname(beside) or ".") as file:
         fill(file)
@@ -72,23 +137,16 @@ def _copy(file: IO[bytes], write: Write) -> None:
 
 def is_replaced(path: str) -> bool:
     """Whether a file of this name is written as one, and not into what is there or standard output."""
-    return _place(path) is not None
-
-
-def _place(path: str) -> str | None:
-    """Where a regular file is to be, or nothing if what is there is to be written through."""
     if path == STANDARD_OUTPUT:
-        return None
+        return False
     with writing(path):
         try:
             status = os.stat(path)
         except FileNotFoundError:
-            return os.path.realpath(path)
+            return True
         if stat.S_ISDIR(status.st_mode):
             raise IsADirectoryError(None, "it is a folder")
-        if not stat.S_ISREG(status.st_mode) or _is_standard_output(status):
-            return None
-        return os.path.realpath(path)
+        return stat.S_ISREG(status.st_mode) and not _is_standard_output(status)
 
 
 def _is_standard_output(status: os.stat_result) -> bool:
@@ -101,9 +159,13 @@ def _write_through(path: str, fill: Callable[[Write], None]) -> None:
     if path == STANDARD_OUTPUT or _is_standard_output(os.stat(path)):
         with standard_output() as out:
             fill(out.buffer.write)
-    else:
-        with open(os.open(path, os.O_WRONLY | os.O_CLOEXEC | os.O_NOCTTY), "wb", buffering=_AT_ONCE) as file:
-            fill(file.write)
+        return
+    with opened_place(path):  # for whose link it is
+        file = os.open(path, os.O_WRONLY | os.O_CLOEXEC | os.O_NOCTTY)
+    with open(file, "wb", buffering=_AT_ONCE) as out_file:
+        if stat.S_ISREG(os.fstat(file).st_mode):
+            raise OSError(None, "what was there was replaced meanwhile")
+        fill(out_file.write)
 
 
 @contextlib.contextmanager
@@ -119,84 +181,176 @@ def standard_output() -> Iterator[TextIO]:
         raise cannot_write("standard output", reason_of(error)) from None
 
 
-def _replace(place: str, fill: Callable[[IO[bytes]], None], mode: int) -> None:
-    folder = os.path.dirname(place)
-    tidy(folder)
-    stage = Stage(folder, mode)
-    try:
-        with open(stage.file, "w+b", buffering=_AT_ONCE, closefd=False) as file:
-            fill(file)
-        os.rename(stage.path, place)
-    finally:
-        stage.close()
+def _replace(path: str, fill: Callable[[IO[bytes]], None], mode: int) -> None:
+    with new_file(path) as stage:
+        file = os.open(NEW, CREATE, mode, dir_fd=stage.file)
+        with open(file, "w+b", buffering=_AT_ONCE) as out:
+            fill(out)
 
 
 @contextlib.contextmanager
-def new_folder(path: str) -> Iterator[str]:
-    """A stage inside a folder that is absent or empty. At the end its contents are moved up.
+def new_file(path: str, told_path: str | None = None) -> Iterator[Stage]:
+    """A stage beside a path, where a regular file is or nothing. The file that the body makes of the name NEW gets it.
 
-    If the body fails all of it is removed, and the folder too if it wasn't there.
+    One that takes the place of another is on the disk before, so that a power cut leaves the one or the other.
     """
-    was_there = require_empty(path)
-    moved: list[str] = []
-    stage: Stage | None = None
+    told = told_path or path
+    with contextlib.ExitStack() as opened:
+        with writing(told):
+            place = opened.enter_context(opened_place(path))
+            if place.found is not None and not stat.S_ISREG(place.found.st_mode):
+                raise OSError(None, "it is no regular file")
+            tidy(place.folder, os.path.dirname(path))
+            stage = opened.enter_context(Stage(place.folder))
+        with told_as(stage.path, told):
+            yield stage
+        with writing(told):
+            if place.found is not None:
+                _flush(stage)
+            with signals_wait():
+                place.put(stage)
+
+
+def _flush(stage: Stage) -> None:
+    """Has the bytes of a new file written to the disk."""
+    with _closed(os.open(NEW, os.O_RDONLY | os.O_NOFOLLOW | os.O_CLOEXEC, dir_fd=stage.file)) as file:
+        os.fsync(file)
+
+
+@contextlib.contextmanager
+def folder_made(path: str, told_path: str | None = None, is_dressed: bool = False) -> Iterator[Stage]:
+    """A stage for a folder that is absent or empty. The one that the body makes of the name NEW there becomes it.
+
+    If it is absent, that is moved to its place. If it is there, it gets what is in that, while no other run writes into
+    it, and if it `is_dressed`, the owner, mode, attributes and time too. If anything fails it is as it was.
+    """
+    told = told_path or path
+    with contextlib.ExitStack() as opened:
+        with writing(told):
+            place, folder = opened.enter_context(opened_place(path)), None
+            if place.found is None:
+                tidy(place.folder, os.path.dirname(path))
+            else:
+                folder = opened.enter_context(_closed(_opened_empty(place, path)))
+                opened.enter_context(_as_it_was(folder))
+            stage = opened.enter_context(Stage(place.folder if folder is None else folder))
+        with told_as(stage.path, told):
+            yield stage
+        with writing(told), signals_wait():
+            if folder is None:
+                place.put(stage)
+            else:
+                _fill(folder, stage, is_dressed)
+                place.require(os.fstat(folder))
+
+
+@contextlib.contextmanager
+def _as_it_was(folder: int) -> Iterator[None]:
+    """Dresses an open folder as it was if the body fails."""
+    before = dress_of(folder)
     try:
-        with writing(path):
-            if not was_there:
-                os.mkdir(path, 0o700)
-            stage = Stage(path)
-        with told_as(stage.path, path):
-            yield stage.path
-        with writing(path):
-            for name in sorted(os.listdir(stage.path)):
-                moved.append(os.path.join(path, name))
-                os.rename(os.path.join(stage.path, name), moved[-1])
-            stage.close()
+        yield
     except BaseException:
-        if stage is not None:
-            stage.close()
-        for place in moved:
-            remove(place)
-        if not was_there:
-            with contextlib.suppress(OSError):
-                os.rmdir(path)
+        with contextlib.suppress(OSError):
+            put_on(folder, before)
         raise
 
 
 @contextlib.contextmanager
-def passing_folder(path: str, told_path: str | None = None) -> Iterator[str]:
-    """A stage beside a path, a folder that is taken away at the end whatever happens."""
-    folder = os.path.dirname(path)
-    with writing(told_path or path):
-        tidy(folder)
-        stage = Stage(folder)
+def new_folder(path: str, told_path: str | None = None, is_dressed: bool = False) -> Iterator[str]:
+    """The same, with an empty folder of this user alone for the body to fill."""
+    with folder_made(path, told_path, is_dressed) as stage:
+        with writing(told_path or path):
+            os.mkdir(NEW, FOLDER_MODE, dir_fd=stage.file)
+        yield place_of(stage.file, NEW)
+
+
+def _fill(folder: int, stage: Stage, is_dressed: bool) -> None:
+    """Moves all that is in the new folder of a stage into an open one, or nothing. The stage is used up."""
+    moved: list[tuple[str, os.stat_result]] = []
     try:
-        with told_as(stage.path, told_path or path):
+        with _closed(open_folder(NEW, stage.file)) as new:
+            wanted = dress_of(new)
+            os.chmod(new, FOLDER_MODE)
+            for name in sorted(os.listdir(new)):
+                found = status_of(name, new)
+                try:
+                    move(new, name, folder, name)
+                except FileExistsError:
+                    raise OSError(None, f"{name} came into it meanwhile") from None
+                moved.append((name, found))
+        stage.close()  # which gives the folder another time, and needs the right to write to it
+        if is_dressed:
+            put_on(folder, wanted)
+    except BaseException:
+        for name, found in moved:
+            remove(name, folder, found)
+        raise
+
+
+@contextlib.contextmanager
+def passing_folder(folder: str, told_path: str | None = None) -> Iterator[str]:
+    """A stage in a folder, which is taken away at the end whatever happens."""
+    with contextlib.ExitStack() as opened:
+        with writing(told_path or folder):
+            parent = opened.enter_context(_closed(open_way(folder)))
+            tidy(parent, folder)
+            stage = opened.enter_context(Stage(parent))
+        with told_as(stage.path, told_path or folder):
             yield stage.path
-    finally:
-        stage.close()
 
 
 @contextlib.contextmanager
 def kept_folder(path: str) -> Iterator[str]:
-    """A folder that is absent or empty, made if it is absent; what the body puts there stays."""
-    if not require_empty(path):
-        with writing(path):
-            os.mkdir(path, 0o700)
-    yield path
+    """A folder that is absent or empty, and gets what the body puts into it, even if that fails then."""
+    failed: BaseException | None = None
+    with new_folder(path) as folder:
+        try:
+            with told_as(folder, path):
+                yield folder
+        except BaseException as problem:  # pylint: disable=broad-except
+            failed = problem
+    if failed is not None:
+        raise failed
 
 
-def require_empty(path: str) -> bool:
-    """Whether the folder is there; refuses one that holds anything but old stages, which go."""
+@contextlib.contextmanager
+def folder_of(path: str) -> Iterator[str]:
+    """The open folder that what is written to a path will lie in: the one there, or else the one that the path is in."""
+    with opened_place(path) as place:
+        if place.found is None or not stat.S_ISDIR(place.found.st_mode):
+            yield path_of(place.folder)
+        else:
+            with _closed(open_folder(place.name, place.folder)) as folder:
+                yield path_of(folder)
+
+
+def require_empty(path: str) -> None:
+    """Refuses a folder that can't be filled: it holds anything but old stages, which go, or is none."""
+    with writing(path), opened_place(path) as place:
+        if place.found is not None:
+            os.close(_opened_empty(place, path))
+
+
+def _opened_empty(place: Place, path: str) -> int:
+    """Opens a folder that is empty but for old stages, which go; as long as it is open, no other run can."""
+    folder = open_folder(place.name, place.folder)
     try:
-        stages = tidy(path)
-        names = os.listdir(path)
-    except FileNotFoundError:
-        return False
-    except OSError as error:
-        raise cannot_write(path, reason_of(error)) from error
-    if stages and len(stages) == len(names):
-        raise cannot_write(path, f"it holds {told(stages[0])}; take that away, or name another folder")
-    if names:
-        raise cannot_write(path, "it isn't empty; name a folder that is empty or absent")
-    return True
+        if not lock(folder):
+            raise OSError(None, "another run writes into it")
+        stages, names = tidy(folder, path), os.listdir(folder)
+        if stages and len(stages) == len(names):
+            raise OSError(None, f"it holds {stages[0]}; take that away, or name another folder")
+        if names:
+            raise OSError(None, "it isn't empty; name a folder that is empty or absent")
+    except BaseException:
+        os.close(folder)
+        raise
+    return folder
+
+
+def note_stages_beside(path: str) -> None:
+    """Says which stages of other runs are beside a path."""
+    with writing(path), opened_place(path) as place:
+        for found in tidy(place.folder, os.path.dirname(path)):
+            note(f"there is {found}")

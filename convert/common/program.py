@@ -10,7 +10,7 @@ from collections.abc import Iterable, Iterator, Sequence
 from pathlib import Path
 from typing import IO
 
-from .faults import ENDING, FAULTY, OTHER, Fault, ReadFault, UsageFault, reading, writing
+from .faults import FAULTY, OTHER, Fault, ReadFault, UsageFault, reading, signals_wait, writing
 
 NAME = "ovl_layers"
 _HERE = Path(__file__).resolve().parents[2]
@@ -50,7 +50,8 @@ def find_program() -> str | None:
     for place in [_UNPROVED] if _is_unproved else places:
         if place.is_file() and os.access(place, os.X_OK):
             return str(place)
-    return None if _is_unproved else shutil.which(NAME)
+    found = None if _is_unproved else shutil.which(NAME)
+    return None if found is None else os.path.abspath(found)
 
 
 def require_program(given: Iterable[str]) -> str:
@@ -70,7 +71,7 @@ def _launch(*words: str) -> None:
     """Has the launcher prove and build the program, or compile it; it says on standard error how long that takes."""
     command = [str(_LAUNCHER), *words, "show", str(_SMALLEST)]
     # (asked to end, it keeps what is proved)
-    with _running(command, subprocess.DEVNULL, None, signal.SIGTERM) as launcher:
+    with _running(command, subprocess.DEVNULL, None, end=signal.SIGTERM) as launcher:
         status = launcher.wait()
     if status != 0:
         raise ReadFault(f"the program {NAME} isn't built: {_LAUNCHER} ended with status {status}")
@@ -100,12 +101,13 @@ def word_of_path(path: str) -> str:
     return f"./{path}" if path.startswith("-") else path
 
 
-def run_program(program: str, words: Sequence[str], report: str, faults: IO[str]) -> str:
-    """Runs it, with its report into a file. Gives the report's last line, which sums it up.
+def run_program(program: str, words: Sequence[str], folder: str, report: str, faults: IO[str]) -> str:
+    """Runs it in a folder, with its report into a new file there. Gives the report's last line, which sums it up.
 
     What it refuses is told as it is: its own words, or the report, among the faults, where that tells of any.
     """
-    with writing(report), open(report, "xb") as file, _running([program, *words], file, subprocess.PIPE) as process:
+    report, command = f"{folder}/{report}", [program, *words]
+    with writing(report), open(report, "xb") as file, _running(command, file, subprocess.PIPE, folder) as process:
         told = process.communicate()[1]
     print(told.decode("utf-8", "replace"), end="", file=sys.stderr)
     status = process.returncode
@@ -120,29 +122,27 @@ def run_program(program: str, words: Sequence[str], report: str, faults: IO[str]
 
 @contextlib.contextmanager
 def _running(
-    words: Sequence[str], out: IO[bytes] | int, told: int | None, end: signal.Signals = signal.SIGKILL,
+    words: Sequence[str], out: IO[bytes] | int, told: int | None, folder: str | None = None,
+    end: signal.Signals = signal.SIGKILL,
 ) -> Iterator["subprocess.Popen[bytes]"]:
     """A process that ends with this one's work: signals wait while it is started, so that none leaves it alone."""
-    mask = signal.pthread_sigmask(signal.SIG_BLOCK, ENDING)
-    try:
-        with _start(words, out, told, mask) as process:
-            try:
-                signal.pthread_sigmask(signal.SIG_SETMASK, mask)
-                yield process
-            except BaseException:
-                process.send_signal(end)
-                process.wait()
-                raise
-    finally:
-        signal.pthread_sigmask(signal.SIG_SETMASK, mask)
+    with signals_wait() as mask, _start(words, out, told, folder, mask) as process:
+        try:
+            signal.pthread_sigmask(signal.SIG_SETMASK, mask)
+            yield process
+        except BaseException:
+            process.send_signal(end)
+            process.wait()
+            raise
 
 
 def _start(
-    words: Sequence[str], out: IO[bytes] | int, told: int | None, mask: set[int]
+    words: Sequence[str], out: IO[bytes] | int, told: int | None, folder: str | None, mask: set[int]
 ) -> "subprocess.Popen[bytes]":
+    """Starts it. No thread lives then that could hold what the new process waits for."""
     try:
         return subprocess.Popen(
-            words, stdin=subprocess.DEVNULL, stdout=out, stderr=told,
+            words, stdin=subprocess.DEVNULL, stdout=out, stderr=told, cwd=folder,
             preexec_fn=lambda: signal.pthread_sigmask(signal.SIG_SETMASK, mask),
         )
     except OSError as error:

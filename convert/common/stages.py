@@ -1,111 +1,176 @@
-"""Stages: what is half made stands under a name of its own, locked while its process lives."""
+"""Stages: what is half made lies in a folder of its own, locked while its process lives."""
 
 import contextlib
 import fcntl
 import os
+import re
 import secrets
-import shutil
-import signal
 import stat
-import threading
 import time
 from collections.abc import Iterator
 
+from .faults import signals_wait
+from .open_dirs import CREATE, FOLDER_MODE, READ, empty, is_at, open_folder, open_root, path_of, remove
 from .progress import note
 
 _PREFIX = ".layers-"
+_NAME = re.compile(re.escape(_PREFIX) + "[0-9a-f]{16}")
+_NAME_BYTES = 8
+_MARK = "made-by"  # a file in each stage, which says whose it is
+_MARK_MODE = 0o600
+_MOST_MARKED = 4_096  # bytes
 _OLD = 24 * 60 * 60  # seconds
 
 
 class Stage:
-    """A new folder or file beside what it will become. It goes away at the end, but for what was moved."""
+    """A new folder of this user alone, in an open one. It goes away at the end, but for what was moved out of it."""
 
-    def __init__(self, folder: str, file_mode: int | None = None) -> None:
-        self.path = os.path.join(folder, _PREFIX + secrets.token_hex(8))
-        if file_mode is None:
-            os.mkdir(self.path, 0o700)
-            self.file = os.open(self.path, os.O_RDONLY | os.O_DIRECTORY | os.O_CLOEXEC)
-        else:
-            self.file = os.open(self.path, os.O_RDWR | os.O_CREAT | os.O_EXCL | os.O_CLOEXEC, file_mode)
-        _lock(self.file)
+    def __init__(self, parent: int) -> None:
+        self.name = _PREFIX + secrets.token_hex(_NAME_BYTES)
+        self.file = -1
+        with signals_wait():
+            os.mkdir(self.name, FOLDER_MODE, dir_fd=parent)
+            try:
+                self.file = self._opened(parent)
+            except BaseException:
+                with contextlib.suppress(OSError):
+                    os.rmdir(self.name, dir_fd=parent)
+                raise
+            self._parent = os.dup(parent)
+            lock(self.file)
+
+    def __enter__(self) -> "Stage":
+        return self
+
+    def __exit__(self, *_: object) -> None:
+        self.close()
+
+    @property
+    def path(self) -> str:
+        """A path to what is in it, wherever it was moved to."""
+        return path_of(self.file)
+
+    def names(self) -> list[str]:
+        """What was made in it."""
+        return sorted(name for name in os.listdir(self.file) if name != _MARK)
 
     def close(self) -> None:
         """Takes away what is still there."""
-        remove(self.path)
         if self.file >= 0:
+            take_away(self.name, self._parent, self.file)
             os.close(self.file)
+            os.close(self._parent)
             self.file = -1
+
+    def _opened(self, parent: int) -> int:
+        """Opens and marks it; fails if it isn't the new folder, but one that another user put in its place."""
+        file = open_folder(self.name, parent)
+        try:
+            if os.listdir(file):
+                raise _replaced()
+            mark = os.open(_MARK, CREATE, _MARK_MODE, dir_fd=file)
+            try:
+                # A file system that has no owners gives both the same.
+                if os.fstat(mark).st_uid != os.fstat(file).st_uid:
+                    raise _replaced()
+                os.write(mark, _marked(self.name) + b"process %d\n" % os.getpid())
+            except BaseException:
+                os.unlink(_MARK, dir_fd=file)
+                raise
+            finally:
+                os.close(mark)
+        except BaseException:
+            os.close(file)
+            raise
+        return file
+
+
+def _replaced() -> OSError:
+    return OSError(None, "a folder that was made in it was replaced meanwhile")
+
+
+def take_away(name: str, parent: int, folder: int) -> bool:
+    """Takes away an open folder with all that is in it, as far as that can be done; says whether it is gone."""
+    empty(folder)
+    with contextlib.suppress(OSError):
+        if is_at(name, parent, os.fstat(folder)):
+            os.rmdir(name, dir_fd=parent)
+            return True
+    return False
+
+
+def _marked(name: str) -> bytes:
+    """How the mark of a stage begins."""
+    return f"{name} is the stage of a run of layers, ".encode()
 
 
 @contextlib.contextmanager
-def removing(*paths: str) -> Iterator[None]:
-    """Takes files and folders away beside other work, which they would hold up at its end.
+def removing(folder: str, *names: str) -> Iterator[None]:
+    """Takes away what is in a folder beside other work, which it would hold up at its end.
 
-    No signal comes to the thread that does it, so that the work can make them wait.
+    A process does it, so that no thread lives while the work starts others.
     """
-    thread = threading.Thread(target=lambda: list(map(remove, paths)))
-    mask = signal.pthread_sigmask(signal.SIG_BLOCK, signal.valid_signals())
-    try:
-        thread.start()
-    finally:
-        signal.pthread_sigmask(signal.SIG_SETMASK, mask)
+    if not names:
+        yield
+        return
+    with signals_wait():
+        process = os.fork()
+        if process == 0:
+            try:
+                parent = open_root(folder)
+                for name in names:
+                    remove(name, parent)
+            finally:
+                os._exit(0)
     try:
         yield
     finally:
-        thread.join()
+        os.waitpid(process, 0)
 
 
-def remove(path: str) -> None:
-    """Takes away a file or a folder, as far as that can be done."""
-    if os.path.isdir(path) and not os.path.islink(path):
-        shutil.rmtree(path, ignore_errors=True)
-    else:
-        with contextlib.suppress(OSError):
-            os.unlink(path)
+def tidy(folder: int, path: str) -> list[str]:
+    """Takes away this user's stages whose processes ended a day ago or before, and says so; tells of the others.
 
-
-def tidy(folder: str) -> list[str]:
-    """Takes away this user's stages whose processes ended a day ago or before, and says so; gives the others."""
-    stages: list[str] = []
-    with contextlib.suppress(OSError), os.scandir(folder or ".") as found:
-        stages = sorted(entry.name for entry in found if entry.name.startswith(_PREFIX))
+    A stage has a name as they are given here, and its own mark: nothing else is touched.
+    """
+    names: list[str] = []
+    with contextlib.suppress(OSError), _opened(".", folder) as listed:
+        names = sorted(name for name in os.listdir(listed) if _NAME.fullmatch(name))
     kept = []
-    for name in stages:
-        path = os.path.join(folder, name)
-        if _is_left(path):
-            remove(path)
-            note(f"took away {path}, which a run that was cut off left over a day ago")
-        else:
-            kept.append(path)
+    for name in names:
+        with contextlib.suppress(OSError), _opened(name, folder) as stage:
+            begun, place = _begun(stage, name), os.path.join(path, name)
+            is_left = lock(stage)
+            if is_left and begun < time.time() - _OLD and take_away(name, folder, stage):
+                note(f"took away {place}, which a run that was cut off left over a day ago")
+            else:
+                kept.append(f"{place}, the stage of a run that {'was cut off' if is_left else 'is at work'}")
     return kept
 
 
-def told(stage: str) -> str:
-    """What a stage is that was found."""
-    state = "is at work" if _is_locked(stage) else "was cut off"
-    return f"{stage}, the stage of a run that {state}"
+@contextlib.contextmanager
+def _opened(name: str, parent: int) -> Iterator[int]:
+    folder = open_folder(name, parent)
+    try:
+        yield folder
+    finally:
+        os.close(folder)
 
 
-def _is_left(path: str) -> bool:
-    with contextlib.suppress(OSError):
-        status = os.lstat(path)
-        is_ours = status.st_uid == os.geteuid() and (stat.S_ISDIR(status.st_mode) or stat.S_ISREG(status.st_mode))
-        return is_ours and status.st_mtime < time.time() - _OLD and not _is_locked(path)
-    return False
+def _begun(stage: int, name: str) -> float:
+    """When a stage of this user was made; fails where it is none."""
+    mark = os.open(_MARK, READ, dir_fd=stage)
+    try:
+        found = os.fstat(mark)
+        is_ours = os.geteuid() == os.fstat(stage).st_uid == found.st_uid and stat.S_ISREG(found.st_mode)
+        if not is_ours or not os.read(mark, _MOST_MARKED).startswith(_marked(name)):
+            raise FileNotFoundError
+        return found.st_mtime
+    finally:
+        os.close(mark)
 
 
-def _is_locked(path: str) -> bool:
-    """Whether a process has the stage open that made it. The lock goes with the process, however it ends."""
-    with contextlib.suppress(OSError):
-        file = os.open(path, os.O_RDONLY | os.O_NOFOLLOW | os.O_NONBLOCK | os.O_CLOEXEC)
-        try:
-            return not _lock(file)
-        finally:
-            os.close(file)
-    return False
-
-
-def _lock(file: int) -> bool:
+def lock(file: int) -> bool:
     """Locks where no other process has; a file system without locks has all stages of dead processes."""
     try:
         fcntl.flock(file, fcntl.LOCK_EX | fcntl.LOCK_NB)

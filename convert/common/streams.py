@@ -31,7 +31,7 @@ _ZSTD = b"\x28\xb5\x2f\xfd"
 _BZIP2 = {b"BZh%d1AY&SY" % level: "bzip2" for level in range(1, 10)}
 _OTHERS = {**_BZIP2, b"\xfd7zXZ\0": "xz"}
 _PACKINGS = {_GZIP: "gzip", _ZSTD: "zstd", **_OTHERS}
-HEAD_BYTES = 10  # that tell how a file is packed
+HEAD_BYTES = 10  # that show how a file is packed
 _ZSTD_INPUT = re.compile(r"(zstd: )?/\*stdin\*\\ ?: ")  # what zstd puts before what it says
 
 
@@ -111,7 +111,7 @@ class SeekingSlice(Slice):
 
 
 class Gunzip(Reader):
-    """The bytes of a gzip stream, of all its members; zeros may stand after the last one."""
+    """The bytes of a gzip stream, of all its members; zeros may come after the last one."""
 
     def __init__(self, packed: io.BufferedReader) -> None:
         super().__init__()
@@ -198,7 +198,7 @@ class Plain(Reader):
 
 
 class Watched(Reader):
-    """Reads a part of a file, and tells the progress how many of its bytes were read."""
+    """Reads a part of a file, and counts its bytes on the progress."""
 
     def __init__(self, part: Slice, progress: Progress) -> None:
         super().__init__()
@@ -269,7 +269,7 @@ class Ahead(Reader):
         return self._piece[begin:self._place]
 
     def _has_next(self) -> bool:
-        """Goes on to the next piece, where there is one. At the end all are digested."""
+        """Goes on to the next piece, if there is one. At the end all are digested."""
         piece, filled = self._pieces[0]
         size = filled.result() or 0
         if self._digested is not None:
@@ -331,7 +331,7 @@ def is_packed(head: bytes) -> bool:
 def unpacked(part: io.RawIOBase, name: str, *, may_wait: bool = False) -> Iterator[Source]:
     """The bytes of an archive. Tells what is wrong with its packing as a fault of this name.
 
-    What feeds zstd is waited for at the end, but where it may itself have to wait for bytes, as for those of a pipe.
+    What feeds zstd is waited for at the end, unless it may itself have to wait for bytes, as for those of a pipe.
     """
     packed = io.BufferedReader(part, PIECE)
     head = packed.peek(HEAD_BYTES)[:HEAD_BYTES]

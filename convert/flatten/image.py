@@ -4,6 +4,7 @@ import contextlib
 import os
 import shlex
 import sys
+import tempfile
 import time
 from collections.abc import Iterator, Sequence
 from dataclasses import dataclass, replace
@@ -11,10 +12,10 @@ from pathlib import Path
 
 from ..common.contents import PIECE
 from ..common.faults import UsageFault, cannot_write, writing
-from ..common.outputs import kept_folder, new_folder, passing_folder, standard_output
+from ..common.outputs import NEW, folder_made, new_file, note_stages_beside, passing_folder, standard_output
 from ..common.program import NAME, find_program, makes_layers, word_of_path, words_of
 from ..common.progress import counted, note, note_path
-from ..common.stages import removing, tidy, told
+from ..common.stages import removing
 from ..image.compression import NONE
 from ..image.images import Image, image_place, opened_image, spellings
 from ..image.members import STANDARD_INPUT
@@ -24,7 +25,7 @@ from ..image.targets import ARCHIVE_SUFFIX, Form, Target
 from ..image.unpack import UnpackOptions, unpack
 from ..model import stacks
 from ..tar.disk_space import least_shown, require_room
-from .steps import AGAIN, BEFORE, REPORT, STACK, Doing, carry_out, new_layer, timed
+from .steps import AGAIN, BEFORE, REPORT, STACK, Doing, carry_out, new_layer, timed, work_folder
 
 _IMAGE = "image"
 _SHOWN = f"{_IMAGE}.show"
@@ -56,9 +57,9 @@ def flatten(options: FlattenOptions) -> None:
     options = _with_place(options)
     _require_free(options)
     begun = time.monotonic()
-    with _new_image(options.out) as image:
-        with passing_folder(image) if options.keep is None else kept_folder(options.keep) as folder:
-            before, after = carry_out(_Doing(options, folder, image), options.layers)
+    with _new_image(options.out) as stage:
+        with work_folder(stage, options.keep) as folder:
+            before, after = carry_out(_Doing(options, folder, f"{stage}/{NEW}"), options.layers)
     seconds = time.monotonic() - begun
     note_path(options.out.told, f"{counted(after, 'layer', 'layers')} in place of {before}, {seconds:.2f} s in all")
 
@@ -90,27 +91,15 @@ def _require_free(options: FlattenOptions) -> None:
 
 @contextlib.contextmanager
 def _new_image(out: Target) -> Iterator[str]:
-    """Where the new image is to be made. It gets its name at the end, and only there."""
-    if out.form is not Form.ARCHIVE:
-        with new_folder(out.path) as stage:
-            image = f"{stage}/{_IMAGE}"
-            yield image
-            with writing(out.path):
-                for name in os.listdir(image):
-                    os.rename(f"{image}/{name}", f"{stage}/{name}")
-                os.rmdir(image)
+    """A stage, in which the new image is to be made. It gets its name at the end, and only there."""
+    if out.is_standard_output:
+        with passing_folder(tempfile.gettempdir(), out.told) as folder:
+            yield folder
+            _print_image(f"{folder}/{NEW}")
         return
-    place = os.path.realpath(out.place)
-    for found in tidy(os.path.dirname(place)):
-        note(f"there is {told(found)}")
-    with passing_folder(place, out.told) as stage:
-        image = f"{stage}/{_IMAGE}{ARCHIVE_SUFFIX}"
-        yield image
-        if out.is_standard_output:
-            _print_image(image)
-        else:
-            with writing(out.path):
-                os.rename(image, place)
+    note_stages_beside(out.path)
+    with new_file(out.path) if out.form is Form.ARCHIVE else folder_made(out.path) as stage:
+        yield stage.path
 
 
 def _print_image(image: str) -> None:
@@ -154,7 +143,16 @@ class _Doing(Doing):
     def pack(self, layers: Sequence[str]) -> None:
         """See `Steps`."""
         blobs, config, links = (self.path(f"{STACK}/{name}") for name in _FOR_PACK)
-        with self._new_layers() as new_layers:
+        with contextlib.ExitStack() as beside:
+
+            def drop_blobs() -> None:
+                if not self._options.keep:
+                    beside.enter_context(removing(self.path(STACK), stacks.BLOBS))
+
+            new_layers = None
+            if self._options.compress == NONE:
+                out = self._options.out.told
+                new_layers = beside.enter_context(NewLayers(self._folder, out, len(layers), drop_blobs))
             with timed("pack") as words:
                 pack(PackOptions(
                     layers=[self.path(layer) for layer in layers], blobs=blobs, out=self._target(), tag=self._name,
@@ -162,16 +160,11 @@ class _Doing(Doing):
                     annotations=self.path(_ANNOTATIONS) if self._has_annotations else None, new_layers=new_layers,
                 ))
                 words.append(counted(len(layers), "layer", "layers"))
-            needless = () if self._options.keep else (blobs,)
-            with timed("the new image, read again") as words, removing(*needless):
+            if new_layers is None:
+                drop_blobs()
+            with timed("the new image, read again") as words:
                 words.append(self._shown(self._image, new_layers))
                 self.compare(_SHOWN)
-
-    def _new_layers(self) -> contextlib.AbstractContextManager[NewLayers | None]:
-        """What reads plain layers as they are written; packed ones are read when the image is whole."""
-        if self._options.compress != NONE:
-            return contextlib.nullcontext()
-        return NewLayers(self._folder, self._options.out.told)
 
     def _target(self) -> Target:
         """The image that is made, on its way to its name."""
@@ -179,11 +172,11 @@ class _Doing(Doing):
 
     def _shown(self, image: str, new_layers: NewLayers | None) -> str:
         """Writes what an image shows."""
-        with passing_folder(self.path(AGAIN)) as folder:
-            again, marks = f"{folder}/{AGAIN}", self._options.overlay_marks
+        marks = self._options.overlay_marks
+        with self.passing(AGAIN) as again:
             options = UnpackOptions(image=image, out=again, overlay_marks=marks, digests_only=True)
             found = unpack(options, new_layers)
-            return self.run_on("show", stacks.layer_paths(again, len(found.layers)), self.path(_SHOWN))
+            return self.run_on("show", stacks.layer_paths(AGAIN, len(found.layers)), _SHOWN)
 
 
 def _name_of(image: Image, options: FlattenOptions) -> str | None:

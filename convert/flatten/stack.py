@@ -9,9 +9,9 @@ from enum import Enum
 
 from ..common.faults import UsageFault, cannot_write, writing
 from ..common.omissions import Loss, Losses
-from ..common.outputs import kept_folder, passing_folder, require_empty, write_text
-from ..common.progress import counted, note, note_path
-from ..common.stages import tidy, told
+from ..common.open_dirs import place_of
+from ..common.outputs import NEW, folder_made, new_file, note_stages_beside, require_empty, write_text
+from ..common.progress import counted, note_path
 from ..folder.build import BuildOptions, build
 from ..folder.build_squashfs import SUFFIX, build_squashfs
 from ..folder.stack_layers import StackOptions, read_stack, require_forms, require_ordinary
@@ -24,7 +24,7 @@ from ..model.manifests import read_manifest
 from ..model.show_report import read_report, report_of
 from ..squashfs import programs as squashfs
 from ..squashfs.limits import fitted_lines
-from .steps import AGAIN, BEFORE, STACK, Doing, carry_out, timed
+from .steps import AGAIN, BEFORE, STACK, Doing, carry_out, timed, work_folder
 
 _NEW = "new"
 _FITTED = "fitted.show"
@@ -64,15 +64,13 @@ def flatten_stack(options: FlattenStackOptions) -> None:
     Nothing is written unless that shows, read again, what the given layers show, except for what was reported.
     """
     _require_sound(options)
-    begun, place = time.monotonic(), os.path.realpath(options.out)
-    for found in tidy(os.path.dirname(place)):
-        note(f"there is {told(found)}")
-    with passing_folder(place) as stage:
-        made = f"{stage}/{os.path.basename(place)}"
-        with passing_folder(made) if options.keep is None else kept_folder(options.keep) as folder:
+    begun = time.monotonic()
+    note_stages_beside(options.out)
+    is_file, is_layer = options.is_squashfs() and options.layers == 1, options.layers == 1
+    with new_file(options.out) if is_file else folder_made(options.out, is_dressed=is_layer) as stage:
+        with work_folder(stage.path, options.keep) as folder:
+            made = place_of(stage.file, NEW)
             before, after = carry_out(_DoingStack(options, folder, made), options.layers, options.data_layers)
-        with writing(options.out):
-            os.rename(made, place)
     seconds = time.monotonic() - begun
     note_path(options.out, f"{counted(after, 'layer', 'layers')} in place of {before}, {seconds:.2f} s in all")
 
@@ -122,7 +120,7 @@ class _DoingStack(Doing):
                 os.mkdir(stack)
             read_stack(self._options.stack, stack)
             words.append(counted(self.count, "layer", "layers"))
-        paths = stacks.layer_paths(stack, self.count)
+        paths = stacks.layer_paths(STACK, self.count)
         self.data_layers = frozenset(paths[self.count - self._options.data_layers:])
         return self.count
 
@@ -178,9 +176,11 @@ class _DoingStack(Doing):
 
     def _show(self, built: Sequence[str]) -> str:
         """Writes what the new layers show."""
-        with passing_folder(self.path(AGAIN)) as folder:
+        with self.passing(AGAIN) as folder:
+            with writing(folder):
+                os.mkdir(folder)
             read_stack(replace(self._options.stack, layers=built, digests_only=True), folder)
-            return self.run_on("show", stacks.layer_paths(folder, len(built)), self.path(_SHOWN))
+            return self.run_on("show", stacks.layer_paths(AGAIN, len(built)), _SHOWN)
 
     def _wanted(self) -> str:
         """The report that the new layers are to show: that of the given ones, as far as their form can hold it."""

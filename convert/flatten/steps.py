@@ -3,11 +3,13 @@
 import contextlib
 import filecmp
 import os
+import shutil
 import time
 from collections.abc import Iterable, Iterator, Sequence
 from typing import IO, Protocol
 
 from ..common.faults import Fault, reading, writing
+from ..common.outputs import kept_folder
 from ..common.program import makes_layers, require_program, run_program, words_of
 from ..common.progress import note
 from ..model import stacks
@@ -21,6 +23,7 @@ AGAIN = "again"
 BEFORE = "before.show"
 _AFTER = "after.show"
 REPORT = "report"
+_WORK = "work"
 
 
 class Steps(Protocol):
@@ -105,7 +108,7 @@ class Doing:
         self._faults = faults
         self._program = require_program(given)
         self.count = 0  # of the given layers
-        self.data_layers: frozenset[str] = frozenset()  # the paths of those that are data-only
+        self.data_layers: frozenset[str] = frozenset()  # the names of those that are data-only
 
     def path(self, name: str) -> str:
         """A name in the folder of the work."""
@@ -114,18 +117,26 @@ class Doing:
     def run(self, step: str, what: str, layers: Sequence[str], new: str, own: Sequence[str] = ()) -> None:
         """See `Steps`."""
         with timed(step) as words:
-            words.append(self.run_on(what, [self.path(layer) for layer in layers], self.path(new), own))
+            words.append(self.run_on(what, layers, new, own))
 
     def run_on(self, what: str, layers: Sequence[str], new: str, own: Sequence[str] = ()) -> str:
-        """Runs the program on layers at paths; gives the last line of its report."""
-        blobs = self.path(f"{STACK}/{stacks.BLOBS}")
+        """Runs the program, in the folder of the work, on layers there; gives the last line of its report."""
+        blobs = f"{STACK}/{stacks.BLOBS}"
         words = words_of(what, layers, blobs, new, sum(layer in self.data_layers for layer in layers), own)
         report = new
         if makes_layers(what):
-            with writing(new):
-                os.mkdir(new)
+            with writing(self.path(new)):
+                os.mkdir(self.path(new))
             report = f"{new}/{REPORT}"
-        return run_program(self._program, words, report, self._faults)
+        return run_program(self._program, words, self._folder, report, self._faults)
+
+    @contextlib.contextmanager
+    def passing(self, name: str) -> Iterator[str]:
+        """The path of a name in the folder of the work, of which nothing is left at the end."""
+        try:
+            yield self.path(name)
+        finally:
+            shutil.rmtree(self.path(name), ignore_errors=True)
 
     def vacuum(self, step: str, layers: Sequence[str], new: str) -> str:
         """See `Steps`."""
@@ -161,6 +172,18 @@ def _removed_in(report: str) -> set[str]:
     """The paths, as reports write them, that `vacuum` took away."""
     with reading(report), open(report, encoding="ascii") as lines:
         return {words[1] for words in map(str.split, lines) if words[0] == "removed" and words[1].startswith("/")}
+
+
+@contextlib.contextmanager
+def work_folder(stage: str, keep: str | None) -> Iterator[str]:
+    """The folder of the work: in a stage, with which it goes, or one that is kept."""
+    if keep is not None:
+        with kept_folder(keep) as folder:
+            yield folder
+        return
+    with writing(stage):
+        os.mkdir(f"{stage}/{_WORK}")
+    yield f"{stage}/{_WORK}"
 
 
 @contextlib.contextmanager

@@ -9,7 +9,7 @@ from dataclasses import dataclass
 from ..common.contents import PIECE, Copier, digest_and_size, may_clone, read_small, write_all
 from ..common.faults import cannot_read, cannot_write, reason_of, writing
 from ..common.open_dirs import CREATE, Chain, open_folder, open_root, place_of
-from ..common.outputs import new_folder
+from ..common.outputs import folder_of, new_folder
 from ..common.progress import Progress
 from ..model import rules, times
 from ..model.attributes import Unstated, marks_to_user, write_attributes
@@ -17,7 +17,7 @@ from ..model.blobs import blob_path, opened_blob
 from ..model.entries import BLOCK, CHAR, DIRECTORY, FIFO, FILE, SYMLINK, Entry, only_in_manifests
 from ..model.links import FirstNames, take_links
 from ..model.manifests import read_manifest
-from ..tar.disk_space import existing, require_room
+from ..tar.disk_space import require_room
 
 _TYPES = {
     CHAR: stat.S_IFCHR, BLOCK: stat.S_IFBLK, FIFO: stat.S_IFIFO, "socket": stat.S_IFSOCK,
@@ -57,16 +57,17 @@ def build(options: BuildOptions) -> None:
             with opened_blob(options.blobs, str(entry.blob), entry.size) as file:
                 taken = min(entry.size, os.fstat(file).st_blocks * _STAT_BLOCK)
             need += taken if firsts.before(entry) is None else 0
-    if not may_clone(options.blobs, existing(options.out)):
+    with writing(options.told), folder_of(options.out) as folder:
+        takes_room = not may_clone(options.blobs, folder)
+    if takes_room:
         require_room(options.told, options.out, need)
-    with new_folder(options.out) as stage:
-        with writing(options.out):
-            root = open_root(stage)
+    with new_folder(options.out, options.told, is_dressed=True) as folder:
+        with writing(options.told):
+            root = open_root(folder)
         try:
-            _Builder(options, root).make(entries[1:])
+            _Builder(options, root).make(entries)
         finally:
             os.close(root)
-    _finish_root(options, entries)
 
 
 def entry_problem(entry: Entry, userxattr: bool) -> str | None:
@@ -108,10 +109,10 @@ class _Builder:
         self._copier = Copier()
 
     def make(self, entries: list[Entry]) -> None:
-        """Makes all entries; their parents come before them."""
+        """Makes all entries; the root comes first, and parents before what is in them."""
         progress = Progress("making entries", len(entries))
         try:
-            for entry in entries:
+            for entry in entries[1:]:
                 *names, name = entry.path[1:].split("/")
                 self._leave(len(names))
                 try:
@@ -120,6 +121,8 @@ class _Builder:
                     raise self._fault(entry, error) from error
                 progress.step()
             self._leave(0)
+            with writing(self._options.told):
+                _dress(self._levels[0].folder, entries[0], self._options.userxattr)
         finally:
             progress.end()
             self._chain.close()
@@ -224,17 +227,3 @@ def _set_time(file: int, entry: Entry) -> None:
 def _require_time(status: os.stat_result, entry: Entry) -> None:
     if status.st_mtime_ns != entry.mtime_ns:
         raise OSError(None, f"the file system can't have the time {times.shown(entry.mtime_ns)}")
-
-
-def _finish_root(options: BuildOptions, entries: list[Entry]) -> None:
-    """Dresses the folder itself, after its contents were moved up, which changes the times of folders."""
-    with writing(options.out):
-        root = open_root(options.out)
-        try:
-            for entry in entries[1:]:
-                if entry.kind == DIRECTORY and entry.path.count("/") == 1:
-                    times_ns = (entry.mtime_ns, entry.mtime_ns)
-                    os.utime(entry.path[1:], ns=times_ns, dir_fd=root, follow_symlinks=False)
-            _dress(root, entries[0], options.userxattr)
-        finally:
-            os.close(root)

@@ -8,7 +8,8 @@ from dataclasses import replace
 from ..common.contents import PIECE, PRIVATE_MODE, ZEROS
 from ..common.faults import Fault, UsageFault, cannot_write, writing
 from ..common.omissions import Losses
-from ..common.outputs import passing_folder
+from ..common.open_dirs import place_of
+from ..common.outputs import NEW, new_file
 from ..common.progress import Progress
 from ..image.pack import contents_of
 from ..model.attributes import marks_to_user
@@ -43,17 +44,13 @@ def build_squashfs(options: BuildOptions) -> None:
     """Makes the squashfs of a manifest. It gets its name once it gives the manifest back, except for what is reported."""
     losses = Losses()
     entries = _fitting(options, losses)
-    place = os.path.realpath(options.out)
-    if os.path.lexists(place) and not os.path.isfile(place):
-        raise cannot_write(options.told, "it is no regular file")
-    with passing_folder(place) as folder:
-        path = f"{folder}/{os.path.basename(place)}"
-        with squashfs.written(path, options.told, options.compress) as write:
+    with new_file(options.out, options.told) as stage:
+        with squashfs.written(stage.path, NEW, options.told, options.compress) as write:
             _write_archive(entries, options, TarWriter(write))
+        path = place_of(stage.file, NEW)
         _require_same(path, entries, options)
         with writing(options.told):
             os.chmod(path, PRIVATE_MODE)
-            os.rename(path, place)
     losses.tell(options.told)
 
 

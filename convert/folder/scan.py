@@ -1,12 +1,13 @@
 """`scan`: a layer as a manifest and blobs, whether it is a folder, a squashfs or an archive of its folder."""
 
+import contextlib
 import itertools
 import os
 import stat
-from collections.abc import Iterator, Mapping, Sequence
-from dataclasses import dataclass
+from collections.abc import Callable, Iterator, Mapping, Sequence
+from dataclasses import dataclass, fields
 
-from ..common.faults import cannot_read, reading, reason_of
+from ..common.faults import ReadFault, cannot_read, reading, reason_of
 from ..common.omissions import ScanLosses
 from ..common.open_dirs import READ, Chain, open_root
 from ..common.progress import Progress, note_path
@@ -18,7 +19,10 @@ from ..model.links import write_layer
 from ..model.workers import give_blobs
 from ..squashfs.layer_files import FileOptions, Form, form_of, scan_file
 from .mounts import note_mounted
-from .walks import Found, walk
+from .walks import Found, found_at, state_of, walk
+
+_TRIES = 2  # to look at what changes meanwhile
+_CHANGED = "f" * 64  # in place of a digest; no contents that are known have it
 
 
 @dataclass(frozen=True, kw_only=True)
@@ -57,13 +61,21 @@ def scan_folder(options: ScanOptions, losses: ScanLosses, links: Iterator[int] |
     with reading(options.layer):
         root = open_root(options.layer)
     try:
-        entries = Survey(options, losses, links or itertools.count(1)).entries(root)
-        _store_contents(options, root, entries)
+        survey = Survey(options, losses, links or itertools.count(1))
+        entries = survey.entries(root)
+        _store_contents(options, root, entries, survey)
     finally:
         os.close(root)
     note_mounted(options.layer)
     losses.hard_links += write_layer(options.out, lambda: named(entries), options.layer, links is not None)
     return entries
+
+
+@dataclass(slots=True, eq=False)
+class _ScannedFile(Entry):
+    """The entry of a file, with the state that the file had then."""
+
+    state: bytes = b""
 
 
 class Survey:
@@ -84,7 +96,7 @@ class Survey:
                 self._leave_out(found, f"the folder has over {rules.MAX_ENTRIES:,} entries")
                 break
             problem = _place_problem(found)
-            entry = None if problem else self._entry(found)
+            entry = None if problem else self._settled(found)
             if entry is None:
                 self._leave_out(found, problem or "")
                 continue
@@ -95,13 +107,35 @@ class Survey:
         progress.end()
         return entries
 
+    def renew(self, entry: "_ScannedFile", folder: int) -> None:
+        """Makes the entry of a file in an open folder again, since the file has changed."""
+        *way, name = entry.path[1:].split("/")
+        with reading(self._options.layer + entry.path):
+            renewed = self._settled(found_at(folder, name, entry.path, len(way) + 1))
+        if not isinstance(renewed, _ScannedFile):
+            raise _changed(self._options.layer + entry.path)
+        for member in fields(_ScannedFile):
+            setattr(entry, member.name, getattr(renewed, member.name))
+
+    def _settled(self, found: Found) -> Entry | None:
+        """The entry of what doesn't change while it is looked at, which is tried twice."""
+        for _ in range(_TRIES):
+            entry = self._entry(found)
+            with reading(self._path(found)):
+                if found.renew():
+                    return entry
+        raise _changed(self._path(found))
+
     def _entry(self, found: Found) -> Entry | None:
         """The entry of what was found, or nothing if it was left out."""
         status = found.status
-        entry = Entry(
+        kind: type[Entry] = _ScannedFile if found.kind == FILE else Entry
+        entry = kind(
             found.path, found.kind, stat.S_IMODE(status.st_mode), status.st_uid, status.st_gid,
             status.st_mtime_ns, self._attributes(found),
         )
+        if isinstance(entry, _ScannedFile):
+            entry.state = state_of(status)
         if found.kind == SYMLINK:
             with reading(self._path(found)):
                 entry.target = found.target()
@@ -160,41 +194,58 @@ def _place_problem(found: Found) -> str | None:
     return rules.name_problem(found.name) or rules.path_problem(found.path, found.depth)
 
 
-def _store_contents(options: ScanOptions, root: int, entries: list[Entry]) -> None:
-    """The second pass: gives each file with contents its blob."""
-    files = [entry for entry in entries if entry.size and entry.names_contents()]
+def _changed(path: str) -> ReadFault:
+    return cannot_read(path, "it was changed meanwhile, and again while it was looked at once more")
+
+
+def _store_contents(options: ScanOptions, root: int, entries: list[Entry], survey: Survey) -> None:
+    """The second pass: gives each file with contents its blob. One that has changed since the first is looked at again."""
+    files = [entry for entry in entries if isinstance(entry, _ScannedFile) and entry.names_contents()]
     progress = Progress("reading files", len(files))
 
     with writers(options.blobs) as new_writer:
 
         def job(share: Sequence[Entry]) -> Iterator[str]:
-            chain, writer = Chain(root), new_writer()
-            try:
+            with _opened(root, new_writer) as (chain, writer):
                 for entry in share:
-                    yield _stored(options.layer, chain, writer, entry)
-            finally:
-                writer.close()
-                chain.close()
+                    assert isinstance(entry, _ScannedFile)
+                    yield _stored(options.layer, chain, writer, entry) or _CHANGED
 
         try:
             give_blobs(files, options.workers, job, progress.step)
         finally:
             progress.end()
+        with _opened(root, new_writer) as (chain, writer):
+            for entry in files:
+                if entry.blob == _CHANGED:
+                    survey.renew(entry, chain.folder(entry.path[1:].split("/")[:-1]))
+                    if entry.names_contents():
+                        entry.blob = _stored(options.layer, chain, writer, entry)
+                        if entry.blob is None:
+                            raise _changed(options.layer + entry.path)
 
 
-def _stored(folder: str, chain: Chain, writer: Writer, entry: Entry) -> str:
-    path = folder + entry.path
+@contextlib.contextmanager
+def _opened(root: int, new_writer: Callable[[], Writer]) -> Iterator[tuple[Chain, Writer]]:
+    """The way to files below a root, and what takes their contents."""
+    chain, writer = Chain(root), new_writer()
+    try:
+        yield chain, writer
+    finally:
+        writer.close()
+        chain.close()
+
+
+def _stored(folder: str, chain: Chain, writer: Writer, entry: _ScannedFile) -> str | None:
+    """The digest of a file's contents; nothing if the file isn't as it was for its entry, before it is read or after."""
     *names, name = entry.path[1:].split("/")
     file = -1
     try:
         file = os.open(name, READ, dir_fd=chain.folder(names))
-        is_regular = stat.S_ISREG(os.fstat(file).st_mode)
-        digest = writer.put(file, entry.size) if is_regular else None
+        digest = writer.put(file, entry.size) if state_of(os.fstat(file)) == entry.state else None
+        return digest if state_of(os.fstat(file)) == entry.state else None
     except OSError as error:
-        raise cannot_read(path, reason_of(error)) from error
+        raise cannot_read(folder + entry.path, reason_of(error)) from error
     finally:
         if file >= 0:
             os.close(file)
-    if digest is None:
-        raise cannot_read(path, "it was changed meanwhile")
-    return digest

@@ -2,11 +2,12 @@
 
 import os
 import stat
+import struct
 from collections.abc import Iterator
 from dataclasses import dataclass
 
 from ..common.faults import cannot_read, reading, reason_of
-from ..common.open_dirs import open_folder, place_of
+from ..common.open_dirs import open_folder, place_of, status_of
 from ..model.entries import BLOCK, CHAR, DIRECTORY, FIFO, FILE, SOCKET, SYMLINK
 
 _KINDS = {
@@ -18,6 +19,18 @@ _KINDS = {
     stat.S_IFIFO: FIFO,
     stat.S_IFSOCK: SOCKET,
 }
+
+
+# What each change of a file or folder changes: its place on the disk, times, mode, owner and size.
+_STATE = struct.Struct("=QQqqIIIq")
+
+
+def state_of(status: os.stat_result) -> bytes:
+    """What is another wherever what has this status was replaced or changed."""
+    return _STATE.pack(
+        status.st_dev, status.st_ino, status.st_ctime_ns, status.st_mtime_ns, status.st_mode, status.st_uid,
+        status.st_gid, status.st_size,
+    )
 
 
 @dataclass(slots=True)
@@ -36,6 +49,13 @@ class Found:
     def place(self) -> str | int:
         """What calls on attributes take: never a link's target."""
         return self.folder if self.depth == 0 else place_of(self.folder, self.name)
+
+    def renew(self) -> bool:
+        """Looks at it again; says whether it was as it is."""
+        before = state_of(self.status)
+        self.status = status_of(self.name, self.folder) if self.depth else os.fstat(self.folder)
+        self.kind = _KINDS[stat.S_IFMT(self.status.st_mode)]
+        return state_of(self.status) == before
 
     def target(self) -> str:
         """Where a symlink leads."""
@@ -61,7 +81,7 @@ def walk(root: int, root_path: str, cross: bool) -> Iterator[Found]:
     yield found
     if not found.enter:
         return
-    levels = [_opened(os.dup(root), "", root_path)]
+    levels = [_opened(os.dup(root), "", root_path, status)]
     try:
         while levels:
             if not levels[-1].names:
@@ -71,7 +91,7 @@ def walk(root: int, root_path: str, cross: bool) -> Iterator[Found]:
             name = level.names.pop()
             path = f"{level.path}/{name}"
             try:
-                found = _found(level.folder, name, path, len(levels), status.st_dev)
+                found = found_at(level.folder, name, path, len(levels), status.st_dev)
             except OSError as error:
                 raise cannot_read(root_path + path, reason_of(error)) from error
             found.enter = cross or not found.is_other_system
@@ -79,24 +99,29 @@ def walk(root: int, root_path: str, cross: bool) -> Iterator[Found]:
             if found.enter and found.kind == DIRECTORY:
                 with reading(root_path + path):
                     folder = open_folder(name, level.folder)
-                levels.append(_opened(folder, path, root_path))
+                levels.append(_opened(folder, path, root_path, found.status))
     finally:
         for level in levels:
             os.close(level.folder)
 
 
-def _opened(folder: int, path: str, root_path: str) -> _Open:
-    """A folder with its names, the first one last."""
+def _opened(folder: int, path: str, root_path: str, found: os.stat_result) -> _Open:
+    """A folder with its names, the first one last; it is the one that was found."""
     try:
         with reading(root_path + path):
+            there = os.fstat(folder)
+            if (there.st_mode, there.st_uid, there.st_gid) != (found.st_mode, found.st_uid, found.st_gid) or \
+                    not os.path.samestat(there, found):
+                raise OSError(None, "it was changed meanwhile")
             return _Open(folder, path, sorted(os.listdir(folder), key=os.fsencode, reverse=True))
     except BaseException:
         os.close(folder)
         raise
 
 
-def _found(folder: int, name: str, path: str, depth: int, device: int) -> Found:
-    status = os.stat(name, dir_fd=folder, follow_symlinks=False)
+def found_at(folder: int, name: str, path: str, depth: int, device: int | None = None) -> Found:
+    """What has a name in an open folder, and whether its file system isn't that of the device."""
+    status = status_of(name, folder)
     kind = _KINDS[stat.S_IFMT(status.st_mode)]
-    other = kind == DIRECTORY and status.st_dev != device
+    other = kind == DIRECTORY and device is not None and status.st_dev != device
     return Found(path, name, depth, folder, status, kind, other)

@@ -23,10 +23,9 @@ from ..common.faults import ENDING, OTHER, READING, WRITING, Fault, ReadFault, T
 from ..common.progress import Progress, tell_progress
 from ..common.streams import Source
 from ..model.blobs import Writer
-from ..model.layer_tree import Held
 from ..model.workers import usual_workers
 from ..tar.headers import Header
-from .archives import ArchiveReader, Layer, Store, Taking, has_contents
+from .archives import ArchiveReader, Layer, Store, ReadOptions, has_contents
 from .images import ImageLayer
 from .layer_cache import NO_CONTENTS, Contents, Keeping, Kept, KeptLayers, Named, Repeats, counted_again, entries_at
 from .quick_gzip import NotTaken
@@ -39,14 +38,14 @@ NewWriter = Callable[[], Writer]
 
 @contextlib.contextmanager
 def layers_read(
-    layers: Sequence[ImageLayer], taking: Taking, folder: str, new_writer: NewWriter
+    layers: Sequence[ImageLayer], options: ReadOptions, folder: str, new_writer: NewWriter
 ) -> Iterator[KeptLayers]:
     """The layers that are read before they are taken: all, where that saves time, or those that are named again.
 
     What is kept of them stands in a folder, in files without names.
     """
-    if _saves_time(layers, taking):
-        ahead = _LayersAhead(layers, taking, folder)
+    if _saves_time(layers, options):
+        ahead = _LayersAhead(layers, options, folder)
         try:
             ahead.start(new_writer)
             yield ahead
@@ -54,17 +53,17 @@ def layers_read(
         finally:
             ahead.close()
     else:
-        repeats = Repeats(layers, folder, taking.out)
+        repeats = Repeats(layers, folder, options.out)
         try:
             yield repeats
         finally:
             repeats.close()
 
 
-def _saves_time(layers: Sequence[ImageLayer], taking: Taking) -> bool:
+def _saves_time(layers: Sequence[ImageLayer], options: ReadOptions) -> bool:
     """Whether other processes are to read. What is left out must not leave blobs behind, so then none does."""
     sizes = {layer.identity(): layer.size for layer in layers}
-    if sum(sizes.values()) < LEAST_BYTES or usual_workers() == 1 or taking.skip_unsupported:
+    if sum(sizes.values()) < LEAST_BYTES or usual_workers() == 1 or options.skip_unsupported:
         return False
     return len(sizes) > 1 or layers[0].may_be_quick()
 
@@ -81,9 +80,9 @@ class _Read:
 class _LayersAhead:
     """Layers that processes read, the largest first; see `KeptLayers`."""
 
-    def __init__(self, layers: Sequence[ImageLayer], taking: Taking, folder: str) -> None:
+    def __init__(self, layers: Sequence[ImageLayer], options: ReadOptions, folder: str) -> None:
         self._layers = layers
-        self._taking = taking
+        self._options = options
         self._folder = folder
         self._numbers: dict[Hashable, int] = {}
         for number, layer in enumerate(layers):
@@ -98,7 +97,7 @@ class _LayersAhead:
         """Starts the processes."""
         sizes = {number: self._layers[number].size for number in self._numbers.values()}
         for share in _shared(sizes, usual_workers()):
-            with writing(self._taking.out):
+            with writing(self._options.out):
                 worker = _Worker(share, tempfile.TemporaryFile(dir=self._folder))
             self._workers |= dict.fromkeys(share, worker)
             worker.start(lambda worker: self._read_all(worker, new_writer))
@@ -116,8 +115,8 @@ class _LayersAhead:
         """
         reads = [(worker.file, read) for worker in set(self._workers.values()) for read in worker.read.values()]
         if any(read.is_again for _, read in reads):
-            out = self._taking.out
-            self._taking.writer.drop_others({
+            out = self._options.out
+            self._options.writer.drop_others({
                 contents[0] for file, read in reads for _, contents in entries_at(file, read.place, out)
             })
 
@@ -133,7 +132,7 @@ class _LayersAhead:
         """The entries of a layer, once it is read, and then the fault that ended it."""
         worker = self._workers[number]
         read = self._result(worker, number)
-        entries = entries_at(worker.file, read.place, self._taking.out)
+        entries = entries_at(worker.file, read.place, self._options.out)
         if number in self._taken:
             yield from counted_again(entries, budget)
             return
@@ -156,7 +155,7 @@ class _LayersAhead:
         for number in worker.layers:
             place, fault, is_again = (0, 0), None, False
             try:
-                keeping = Keeping(worker.file, self._taking.out)
+                keeping = Keeping(worker.file, self._options.out)
                 try:
                     is_again = self._read(number, keeping, worker, writer)
                 finally:
@@ -188,14 +187,14 @@ class _LayersAhead:
 
     def _read_as(self, layer: Layer, number: int, keeping: Keeping, worker: "_Worker", writer: Writer) -> None:
         budget = SharedBudget(self._used, number)
-        taking = replace(self._taking, writer=writer, held=Held(budget))
+        options = replace(self._options, writer=writer, budget=budget)
 
         def keep(header: Header, store: Store) -> None:
             worker.require_parent()
             keeping.add(header, store() if has_contents(header) else NO_CONTENTS)
 
         try:
-            ArchiveReader(layer, taking).read(keep)
+            ArchiveReader(layer, options).read(keep)
         finally:
             budget.tell()
 

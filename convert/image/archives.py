@@ -3,13 +3,14 @@
 import contextlib
 import copy
 import functools
+import itertools
 import hashlib
 import os
-from collections.abc import Callable, Hashable, Mapping
-from dataclasses import dataclass, replace
+from collections.abc import Callable, Hashable, Iterator, Mapping
+from dataclasses import dataclass, field, replace
 from typing import Protocol
 
-from ..common.budgets import TooMuch
+from ..common.budgets import Budget, TooMuch
 from ..common.contents import PIECE
 from ..common.faults import cannot_read
 from ..common.omissions import Loss, Losses
@@ -22,7 +23,7 @@ from ..model.entries import (
     BLOCK, CHAR, DIRECTORY, FIFO, FILE, LINK_MODE, METACOPY, NO_ATTRIBUTES, OVERLAY, SYMLINK, WHITEOUT, Entry,
     is_whiteout,
 )
-from ..model.layer_tree import Attributes, Blocked, Gap, Held, LayerTree, Unfit, whiteout
+from ..model.layer_tree import Blocked, Gap, LayerTree, Unfit, whiteout
 from ..model.merged_tree import MergedTree
 from ..model.times import ONE_SECOND
 from ..tar import headers as tar
@@ -32,6 +33,8 @@ from ..tar.reader import TarReader
 from .archive_names import AUFS_LINKS, OPAQUE_NAME, WHITEOUT_PREFIX, Paths, is_of_aufs, may_be_special
 from .layer_cache import NO_CONTENTS, Contents, Keeping, KeptLayers
 
+RawAttributes = tuple[tuple[bytes, bytes], ...]
+_ATTRIBUTE_BYTES = 256  # that an attribute takes at most beside its name and value
 _KINDS = {
     tar.SYMLINK: SYMLINK, tar.CHAR: CHAR, tar.BLOCK: BLOCK, tar.DIRECTORY: DIRECTORY, tar.FIFO: FIFO,
     HARD_LINK: FILE, **{bytes([kind]): FILE for kind in REGULAR_TYPES},
@@ -72,8 +75,17 @@ class Layer(Protocol):
         """
 
 
+@dataclass(frozen=True, slots=True)
+class Attributes:
+    """Attributes as an entry has them, how many marks were left out, and why others can't be stated."""
+
+    kept: Mapping[str, bytes]
+    marks: int
+    problems: tuple[str, ...] = ()
+
+
 @dataclass(frozen=True, kw_only=True)
-class Taking:
+class ReadOptions:
     """What is taken of the archives of layers, and where it goes.
 
     The archive of a layer's folder has whiteouts as the kernel has them, and no names with a meaning of their
@@ -82,7 +94,7 @@ class Taking:
 
     out: str
     writer: Writer
-    held: Held
+    budget: Budget
     below: MergedTree
     skip_unsupported: bool = False
     overlay_marks: bool = False
@@ -90,14 +102,16 @@ class Taking:
     userxattr: bool | None = False  # for an image, whose archives have no such marks
     most_contents: int | None = None  # bytes of all its files, if they are bounded
     kept: KeptLayers | None = None  # of an image, which may name a layer again
+    attribute_sets: dict[RawAttributes, Attributes] = field(default_factory=dict)  # as records had them before
+    links: Iterator[int] = field(default_factory=lambda: itertools.count(1))  # numbers for the names of one file
 
 
 class ArchiveReader:
     """Reads one layer's archive: entry by entry, and the contents of its files into blobs."""
 
-    def __init__(self, layer: Layer, taking: Taking) -> None:
+    def __init__(self, layer: Layer, options: ReadOptions) -> None:
         self._layer = layer
-        self._taking = taking
+        self._options = options
         self._contents = 0
 
     def read(self, take: Take) -> None:
@@ -124,13 +138,13 @@ class ArchiveReader:
             raise cannot_read(self._layer.path, f"its unpacked bytes aren't those of {algorithm}:{wanted}")
 
     def _read(self, stream: Source, take: Take) -> None:
-        archive = TarReader(buffered(stream), self._taking.held.budget)
+        archive = TarReader(buffered(stream), self._options.budget)
         for header in archive:
             take(header, functools.partial(self._store, archive, header))
 
     def _store(self, archive: TarReader, header: Header) -> Contents:
         """Writes an entry's data as a blob, zeros as holes."""
-        most, writer = self._taking.most_contents, self._taking.writer
+        most, writer = self._options.most_contents, self._options.writer
         self._contents += header.size
         if most is not None and self._contents > most:
             raise TooMuch(f"its files have over {most:,} bytes, which is more than its own size speaks for")
@@ -140,18 +154,18 @@ class ArchiveReader:
         return writer.take(archive.data(), header.size), header.size
 
     def _require_space(self, size: int) -> None:
-        if size > PIECE and not isinstance(self._taking.writer, Digester):
-            require_room(self._taking.out, self._taking.out, size)
+        if size > PIECE and not isinstance(self._options.writer, Digester):
+            require_room(self._options.out, self._options.out, size)
 
 
 class LayerArchive:
     """One layer's archive."""
 
-    def __init__(self, layer: Layer, taking: Taking) -> None:
+    def __init__(self, layer: Layer, options: ReadOptions) -> None:
         self._layer = layer
-        self._taking = taking
-        self._tree = LayerTree(taking.held)
-        self._paths = Paths(not taking.is_folder)
+        self._options = options
+        self._tree = LayerTree(options.budget)
+        self._paths = Paths(not options.is_folder)
         self._losses = Losses()
         self._aufs_links: dict[str, Entry] = {}
         self._left_out: set[str] = set()  # paths of what can't be stated
@@ -161,7 +175,7 @@ class LayerArchive:
         layer = self._layer
         try:
             self._take_all()
-            self._tree.settle(self._taking.below.root, lambda gap, path: self._losses.add(_GAPS[gap], path))
+            self._tree.settle(self._options.below.root, lambda gap, path: self._losses.add(_GAPS[gap], path))
         except TooMuch as problem:
             raise cannot_read(layer.path, str(problem)) from None
         self._losses.tell(layer.name)
@@ -169,14 +183,14 @@ class LayerArchive:
 
     def _take_all(self) -> None:
         """Takes the entries of its archive, or of one of the same bytes that was read, whose contents are blobs."""
-        layers = self._taking.kept
+        layers = self._options.kept
         kept = layers.kept(self._layer) if layers else None
         if kept is not None:
-            for header, contents in kept.entries(self._taking.held.budget):
+            for header, contents in kept.entries(self._options.budget):
                 self._take_fitting(header, _known(contents))
             return
         keeping = layers.keeping(self._layer) if layers else None
-        reader = ArchiveReader(self._layer, self._taking)
+        reader = ArchiveReader(self._layer, self._options)
         if keeping is None:
             reader.read(self._take_fitting)
         else:
@@ -217,7 +231,7 @@ class LayerArchive:
             self._losses.add(Loss.BELOW, _path(names))
             return
         if may_be_special(header.name) and _is_special(names):
-            if not self._taking.is_folder:
+            if not self._options.is_folder:
                 self._take_special(header, names, store)
                 return
             self._losses.add(Loss.WHITEOUT_NAME, _path(names))
@@ -227,7 +241,7 @@ class LayerArchive:
             entry = self._linked(header, names, entry)
         elif entry.kind == FILE:
             _fill(entry, store)
-        elif is_whiteout(entry) and not self._taking.is_folder:
+        elif is_whiteout(entry) and not self._options.is_folder:
             self._losses.add(Loss.DEVICE, _path(names))
         self._tree.put(names, entry)
 
@@ -237,7 +251,7 @@ class LayerArchive:
             self._losses.add(Loss.AUFS, _path(names))
             if _is_aufs_link(names) and header.type in REGULAR_TYPES:
                 entry = self._entry(header, names)
-                self._taking.held.grow()
+                self._options.budget.entries.take()
                 _fill(entry, store)
                 self._aufs_links[_path(names)] = entry
             return
@@ -292,7 +306,11 @@ class LayerArchive:
 
     def _attributes(self, header: Header, names: list[str]) -> Mapping[str, bytes]:
         raw = header.attributes
-        found = self._taking.held.attributes(tuple(raw.items()), lambda: self._decoded(raw))
+        key = tuple(raw.items())
+        found = self._options.attribute_sets.get(key)
+        if found is None:
+            self._options.budget.text.take(sum(_ATTRIBUTE_BYTES + 2 * (len(name) + len(value)) for name, value in key))
+            found = self._options.attribute_sets[key] = self._decoded(raw)
         if found.marks:
             self._losses.add(Loss.MARK, _path(names), found.marks)
         for problem in found.problems:
@@ -303,8 +321,8 @@ class LayerArchive:
         attributes: Mapping[str, bytes] = {
             name.decode("utf-8", "surrogateescape"): value for name, value in raw.items()
         }
-        attributes = marks_of(attributes, self._taking.userxattr)
-        takes_marks = self._taking.overlay_marks
+        attributes = marks_of(attributes, self._options.userxattr)
+        takes_marks = self._options.overlay_marks
         own = {name: value for name, value in attributes.items() if takes_marks or not name.startswith(OVERLAY)}
         problems = {name: problem for name in own if (problem := rules.attribute_problem(name))}
         kept = {name: value for name, value in own.items() if name not in problems}
@@ -315,29 +333,29 @@ class LayerArchive:
 
     def _linked(self, header: Header, names: list[str], entry: Entry) -> Entry:
         """One more name of a file of this layer, or a copy of one of the layers below."""
-        told, is_folder = os.fsdecode(header.target), self._taking.is_folder
+        told, is_folder = os.fsdecode(header.target), self._options.is_folder
         linked = Paths(not is_folder).names(header.target, "the file that it links to")
         aufs = self._aufs_links.get(_path(linked))
         here = aufs or (self._tree.file_at(linked, None, is_folder) if linked else None)
-        found = here or (self._tree.file_at(linked, self._taking.below.root) if linked else None)
+        found = here or (self._tree.file_at(linked, self._options.below.root) if linked else None)
         if found is None:
             raise Unfit(f"it links to {told}, which is no file of this layer so far or of those below")
         if METACOPY in found.attributes and not is_folder:
             raise Unfit(f"it links to {told}, a file without its contents")
-        self._taking.held.budget.attributes.take(len(found.attributes))
+        self._options.budget.attributes.take(len(found.attributes))
         if (entry.mode, entry.uid, entry.gid) != (found.mode, found.uid, found.gid):
             self._losses.add(Loss.LINK_HEADER, _path(names))
         if here is None:
             self._losses.add(Loss.LOWER_LINK, _path(names))
         elif not is_whiteout(here):  # the kernel links the whiteouts of a mount to one another, which nothing shows
-            here.link = here.link or self._taking.held.new_link()
+            here.link = here.link or next(self._options.links)
         own = copy.copy(found)
         own.link = here.link if here else 0
         return own
 
     def _refuse_or_note(self, header: Header, problem: str) -> None:
         name = os.fsdecode(header.name)
-        if not self._taking.skip_unsupported:
+        if not self._options.skip_unsupported:
             raise cannot_read(self._layer.path, f"{name}: {problem}")
         note(f"{self._layer.path}: {name}: left out: {problem}")
 

@@ -372,7 +372,7 @@ def require_configuration(value: Json) -> None:
 
 
 def layer_digests(configuration: Mapping[str, Json]) -> list[Digest] | None:
-    """The digests of its layers' unpacked bytes, where a configuration has them."""
+    """The digests of its layers' unpacked bytes, if a configuration has them."""
     rootfs = configuration.get("rootfs")
     if rootfs is None:
         return None

@@ -4,7 +4,8 @@ import os
 from collections.abc import Callable
 from typing import IO, Protocol
 
-from ..common.contents import PIECE
+from ..common.contents import PIECE, PRIVATE_MODE
+from ..common.open_dirs import FOLDER_MODE
 from ..tar.headers import BLOCK_BYTES, DIRECTORY, Header, header_block
 from ..tar.writer import TarWriter
 
@@ -27,21 +28,27 @@ class FolderFiles:
     """In a folder."""
 
     def __init__(self, folder: str, blobs: str) -> None:
-        self._folder = folder
-        self._blobs = os.path.join(folder, blobs)
-        os.makedirs(self._blobs, exist_ok=True)
+        self._folder = self._blobs = folder
+        for name in filter(None, blobs.split("/")):
+            self._blobs = f"{self._blobs}/{name}"
+            os.mkdir(self._blobs, FOLDER_MODE)
 
     def blob(self, fill: Fill) -> None:
         """See `ImageFiles`."""
         path = os.path.join(self._blobs, "layer")
-        with open(path, "x+b", buffering=PIECE) as file:
+        with open(path, "x+b", buffering=PIECE, opener=_private) as file:
             digest = fill(file)
         os.rename(path, os.path.join(self._blobs, digest))
 
     def put(self, name: str, data: bytes) -> None:
         """See `ImageFiles`."""
-        with open(os.path.join(self._folder, name), "wb") as file:
+        with open(os.path.join(self._folder, name), "wb", opener=_private) as file:
             file.write(data)
+
+
+def _private(path: str, flags: int) -> int:
+    """Opens a new file of this user alone: layers have what the files of the layers have."""
+    return os.open(path, flags, PRIVATE_MODE)
 
 
 class ArchiveFiles:

@@ -99,7 +99,7 @@ def _inner(name: str) -> str | None:
 
 
 def _told(name: bytes) -> str:
-    """A name in an archive as a text, where the kernel has names that are as long."""
+    """A name in an archive as a text, if the kernel has names that are as long."""
     if len(name) > _MAX_NAME:
         raise TarFault(f"a name of over {_MAX_NAME:,} bytes")
     return os.fsdecode(name)

@@ -3,17 +3,17 @@
 import contextlib
 import os
 import tempfile
-from collections.abc import Hashable, Iterator
+from collections.abc import Callable, Hashable, Iterator
 from types import TracebackType
 
-from ..common.faults import reading, writing
+from ..common.budgets import Budget
+from ..common.faults import TarFault, cannot_read, reading, writing
 from ..common.progress import Progress
 from ..common.streams import Digesting, Slice, Source, Watched
 from ..model.blobs import Digester
-from ..model.layer_tree import Held
 from ..model.merged_tree import MergedTree
 from ..tar.headers import Header
-from .archives import ArchiveReader, Store, Taking, has_contents
+from .archives import ArchiveReader, Store, ReadOptions, has_contents
 from .documents import Digest
 from .images import ImageLayer
 from .layer_cache import NO_CONTENTS, Keeping, Kept, KeptAgain, Named
@@ -25,10 +25,13 @@ class NewLayers:
     """Reads plain layers from the files of a new image, each once.
 
     So a layer is named by what the disk has, and it isn't read once more when the image is: see `KeptLayers`.
+    Something may begin once the last of so many layers is written.
     """
 
-    def __init__(self, folder: str, out: str) -> None:
+    def __init__(self, folder: str, out: str, layers: int, begin_at_last: Callable[[], None]) -> None:
         self._out = out
+        self._left = layers
+        self._begin_at_last = begin_at_last
         self._kept: dict[Hashable, KeptAgain] = {}
         with writing(out):
             self._file = tempfile.TemporaryFile(dir=folder)
@@ -43,14 +46,17 @@ class NewLayers:
 
     def read(self, file: int, begin: int, size: int) -> str:
         """Reads the layer that stands in a part of an open file; gives the digits of the digest of its bytes."""
+        self._left -= 1
+        if self._left == 0:
+            self._begin_at_last()
         layer = _NewLayer(self._out, file, begin, size)
-        taking = Taking(out=self._out, writer=Digester(), held=Held(), below=MergedTree())
+        read_options = ReadOptions(out=self._out, writer=Digester(), budget=Budget(), below=MergedTree())
         keeping = Keeping(self._file, self._out)
 
         def keep(header: Header, store: Store) -> None:
             keeping.add(header, store() if has_contents(header) else NO_CONTENTS)
 
-        ArchiveReader(layer, taking).read(keep)
+        ArchiveReader(layer, read_options).read(keep)
         kept = KeptAgain(self._file, keeping, self._out)
         status = os.fstat(file)
         for place in ((status.st_dev, status.st_ino), (begin, size)):  # as in a folder, and in an archive
@@ -90,6 +96,9 @@ class _NewLayer:
     def archive(self, progress: Progress) -> Iterator[Source]:
         """Its bytes, whose digest is there at the end."""
         source = Digesting(Watched(Slice(*self._place), progress), ALGORITHM)
-        with reading(self.path):
-            yield source
-            self.digest = source.digest_of_all()
+        try:
+            with reading(self.path):
+                yield source
+                self.digest = source.digest_of_all()
+        except TarFault as error:
+            raise cannot_read(self.path, str(error)) from error

@@ -260,7 +260,7 @@ def _link_header(entry: Entry, first: str) -> Header:
 
 
 def _copy_contents(entry: Entry, options: PackOptions, out: DigestedBeside) -> None:
-    """A file's contents, which are those of its digest; where they aren't, that is told a little later."""
+    """A file's contents, which are those of its digest; if they aren't, that is reported a little later."""
     blob = str(entry.blob)
     path = blob_path(options.blobs, blob)
     file = open_blob(path, entry.size)

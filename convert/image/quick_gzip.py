@@ -1,8 +1,8 @@
 """Unpacking gzip by the program `igzip` of Debian's package isal, which takes a third of the time that zlib does.
 
-It passes over what stands after the last member. So it is used for bytes whose digest is known alone, and a member of
-random bytes is put behind the others, which comes out only where nothing before it was passed over. Whoever uses it
-reads again by zlib what it doesn't take, so what is told of a broken stream doesn't hang on whether it is there.
+It passes over what is after the last member. So it is used only for bytes whose digest is known, and a member of
+random bytes is put after the others, which comes out only if nothing before it was passed over. Whoever uses it
+reads again by zlib what it doesn't take, so what is reported of a broken stream doesn't depend on whether it is there.
 """
 
 import contextlib
@@ -28,13 +28,13 @@ class NotTaken(Exception):
 
 
 def find_program() -> str | None:
-    """The program, where it is there."""
+    """The program, if it is there."""
     return shutil.which(_NAME)
 
 
 @contextlib.contextmanager
 def unpacked_quickly(packed: Reader, digest: Digest | None) -> Iterator["QuickGunzip"]:
-    """The bytes of a gzip stream, of all its members; fails at the end where the stream isn't sound, or has another digest."""
+    """The bytes of a gzip stream, of all its members; fails at the end if the stream isn't sound, or has another digest."""
     process = _started()
     source = packed if digest is None else Digesting(packed, digest[0])
     stream = QuickGunzip(process, secrets.token_bytes(_MARK_BYTES))

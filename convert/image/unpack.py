@@ -4,18 +4,18 @@ import contextlib
 import os
 from dataclasses import dataclass, replace
 
+from ..common.budgets import Budget
 from ..common.faults import cannot_read
 from ..common.outputs import new_folder, write_text
 from ..model import rules, stacks
 from ..model.blobs import staged_writers
 from ..model.entries import REDIRECT
-from ..model.layer_tree import Held
 from ..model.links import LinkNames, links_path
 from ..model.manifests import has_attribute, write_manifest
 from ..model.merged_tree import MergedTree, write_shown_links
 from ..tar.disk_space import require_room
 from .ahead import NewWriter, layers_read
-from .archives import LayerArchive, Taking
+from .archives import LayerArchive, ReadOptions
 from .configuration import text_of
 from .images import Image, ImageLayer, image_place, opened_image
 from .layer_cache import KeptLayers
@@ -63,23 +63,23 @@ def _unpack_layers(
     options: UnpackOptions, layers: list[ImageLayer], stage: str, new_writer: NewWriter, read: KeptLayers | None
 ) -> None:
     below, writer = MergedTree(), new_writer()
-    taking = Taking(
+    read_options = ReadOptions(
         out=options.out, skip_unsupported=options.skip_unsupported, overlay_marks=options.overlay_marks, writer=writer,
-        held=Held(), below=below,
+        budget=Budget(), below=below,
     )
     try:
-        with contextlib.nullcontext(read) if read else layers_read(layers, taking, stage, new_writer) as kept:
-            _take_layers(layers, replace(taking, kept=kept), stage)
+        with contextlib.nullcontext(read) if read else layers_read(layers, read_options, stage, new_writer) as kept:
+            _take_layers(layers, replace(read_options, kept=kept), stage)
         write_shown_links(stage, below)
     finally:
         writer.close()
 
 
-def _take_layers(layers: list[ImageLayer], taking: Taking, stage: str) -> None:
+def _take_layers(layers: list[ImageLayer], read_options: ReadOptions, stage: str) -> None:
     """Writes the manifest of each layer, and its links, and puts it above those below."""
     written = 0
     for number, layer in zip(reversed(range(len(layers))), layers):
-        tree = LayerArchive(layer, taking).tree()
+        tree = LayerArchive(layer, read_options).tree()
         path, names = f"{stage}/{stacks.layer_name(number, len(layers))}", LinkNames()
         write_manifest(path, names.passing(tree.entries()), layer.path)
         names.write(links_path(path), tree.entries, path)
@@ -88,4 +88,4 @@ def _take_layers(layers: list[ImageLayer], taking: Taking, stage: str) -> None:
             raise cannot_read(
                 layer.path, f"the manifests of the layers have over {rules.MAX_IMAGE_MANIFESTS:,} bytes"
             )
-        taking.below.cover(tree.entries(), has_attribute(path, [REDIRECT]))
+        read_options.below.cover(tree.entries(), has_attribute(path, [REDIRECT]))

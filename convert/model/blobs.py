@@ -10,11 +10,11 @@ from types import TracebackType
 
 from ..common.contents import PIECE, PRIVATE_MODE, Copier, Piece, digest_and_size, is_zeros, read_small, write_all
 from ..common.faults import cannot_read, is_of_writing, reason_of, writing
-from ..common.open_dirs import CREATE, READ
+from ..common.open_dirs import CREATE, FOLDER_MODE, READ, open_folder, open_root
+from ..common.outputs import Place, opened_place
 from ..common.progress import note
-from ..common.stages import Stage, tidy, told
+from ..common.stages import Stage, tidy
 
-_FOLDER_MODE = 0o700
 _SCRATCH = "scratch"
 
 
@@ -27,61 +27,55 @@ class BlobStore:
 
     def __init__(self, folder: str) -> None:
         self.folder = folder
-        self._stage: Stage | None = None
+        self._opened = contextlib.ExitStack()
         self._is_new = False
         self._was_empty = False
         self._numbers = itertools.count(1)
 
     def __enter__(self) -> "BlobStore":
-        try:
-            with writing(self.folder):
-                self._stage = self._new_stage()
-        except BaseException:
-            self._take_away()
-            raise
+        with contextlib.ExitStack() as opened, writing(self.folder):
+            self._file = self._open(opened)
+            opened.callback(os.close, self._file)
+            for stage in tidy(self._file, self.folder):
+                note(f"there is {stage}")
+            self._was_empty = not os.listdir(self._file)
+            self._stage = opened.enter_context(Stage(self._file))
+            self._opened = opened.pop_all()
         return self
 
     def __exit__(
         self, kind: type[BaseException] | None, error: BaseException | None, trace: TracebackType | None
     ) -> None:
-        is_done = False
-        try:
+        with self._opened:
             if error is None:
                 with writing(self.folder):
                     self._publish()
-                is_done = True
-        finally:
-            if self._stage is not None:
-                self._stage.close()
-            if not is_done:
-                self._take_away()
+                self._is_new = False
 
-    def _new_stage(self) -> Stage:
-        self._is_new = not os.path.isdir(self.folder)
-        if self._is_new:
-            os.mkdir(self.folder, _FOLDER_MODE)
-        for stage in tidy(self.folder):
-            note(f"there is {told(stage)}")
-        with os.scandir(self.folder) as names:
-            self._was_empty = next(names, None) is None
-        return Stage(self.folder)
+    def _open(self, opened: contextlib.ExitStack) -> int:
+        """Opens the folder, and makes it first where it is absent."""
+        place = opened.enter_context(opened_place(self.folder))
+        if place.found is None:
+            os.mkdir(place.name, FOLDER_MODE, dir_fd=place.folder)
+            self._is_new = True
+            opened.callback(self._take_away, place)
+        return open_folder(place.name, place.folder)
 
-    def _take_away(self) -> None:
-        """Takes away a folder that wasn't there and is empty."""
+    def _take_away(self, place: Place) -> None:
+        """Takes away a folder that wasn't there and is empty, unless all is done."""
         if self._is_new:
             with contextlib.suppress(OSError):
-                os.rmdir(self.folder)
+                os.rmdir(place.name, dir_fd=place.folder)
 
     def writer(self) -> "BlobWriter":
         """One that puts contents in. Several may write at the same time, each in a process of its own."""
-        assert self._stage is not None
-        return BlobWriter(self.folder, self._stage.path, _scratch_name(self._numbers), not self._was_empty)
+        scratch = _scratch_name(self._numbers)
+        return BlobWriter(self.folder, self._file, self._stage.file, scratch, not self._was_empty)
 
     def _publish(self) -> None:
-        assert self._stage is not None
-        for name in os.listdir(self._stage.path):
+        for name in self._stage.names():
             if not name.startswith(_SCRATCH):
-                os.rename(f"{self._stage.path}/{name}", f"{self.folder}/{name}")
+                os.rename(name, name, src_dir_fd=self._stage.file, dst_dir_fd=self._file)
 
 
 def _scratch_name(numbers: Iterator[int]) -> str:
@@ -96,14 +90,14 @@ class BlobWriter:
     into the same stage, each with a scratch file of its own.
     """
 
-    def __init__(self, folder: str, stage: str, scratch: str, has_others: bool) -> None:
+    def __init__(self, folder: str, others: int, stage: int, scratch: str, has_others: bool) -> None:
         self._blobs = folder
+        self._others = others
         self._scratch_name = scratch
         self._has_others = has_others
         self._copier = Copier()
         self._scratch = -1
-        with writing(folder):
-            self._folder = os.open(stage, os.O_RDONLY | os.O_DIRECTORY | os.O_CLOEXEC)
+        self._folder = os.dup(stage)
 
     def close(self) -> None:
         """Takes the scratch file away, and closes what is open."""
@@ -219,7 +213,7 @@ class BlobWriter:
         if not self._has_others:
             return False
         try:
-            file = os.open(blob_path(self._blobs, digest), READ)
+            file = os.open(digest, READ, dir_fd=self._others)
         except OSError:
             return False
         try:
@@ -283,8 +277,12 @@ def staged_writers(blobs: str | None) -> Iterator[Callable[[], Writer]]:
         return
     folder, numbers = blobs, itertools.count(1)
     with writing(folder):
-        os.mkdir(folder, _FOLDER_MODE)
-    yield lambda: BlobWriter(folder, folder, _scratch_name(numbers), has_others=False)
+        os.mkdir(folder, FOLDER_MODE)
+        file = open_root(folder)
+    try:
+        yield lambda: BlobWriter(folder, file, file, _scratch_name(numbers), has_others=False)
+    finally:
+        os.close(file)
 
 
 def blob_path(folder: str, digest: str) -> str:

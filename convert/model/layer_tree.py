@@ -1,7 +1,7 @@
 """A layer that is put together from the entries of an archive, in whatever order they come."""
 
 import sys
-from collections.abc import Callable, Iterator, Mapping
+from collections.abc import Callable, Iterator
 from dataclasses import dataclass, field, replace
 from enum import Enum, auto
 
@@ -11,8 +11,6 @@ from .entries import CHAR, DIRECTORY, IS_OPAQUE, NO_ATTRIBUTES, OPAQUE, OVERLAY,
 from .merged_tree import Directory, Node
 
 _IMPLIED_MODE = 0o755
-_ATTRIBUTE_BYTES = 256  # that an attribute takes at most beside its name and value
-RawAttributes = tuple[tuple[bytes, bytes], ...]
 
 
 class Unfit(Exception):
@@ -62,51 +60,6 @@ class Gap(Enum):
     ANEW = auto()  # a directory in place of something else of its layer, above a directory
 
 
-class Held:
-    """What the layers of an image hold in memory, within bounds."""
-
-    def __init__(self, budget: Budget | None = None) -> None:
-        self.budget = budget or Budget()
-        self._entries = 0
-        self._bytes = 0
-        self._sets: dict[RawAttributes, Attributes] = {}
-        self._links = 0
-
-    def new_link(self) -> int:
-        """A number for the names of one file."""
-        self._links += 1
-        return self._links
-
-    def grow(self) -> None:
-        """One entry more."""
-        self._entries += 1
-        if self._entries > rules.MAX_IMAGE_ENTRIES:
-            raise TooMuch(f"the image's layers have over {rules.MAX_IMAGE_ENTRIES:,} entries")
-
-    def weigh(self, size: int) -> None:
-        """So many bytes of text more."""
-        self._bytes += size
-        if self._bytes > rules.MAX_IMAGE_TEXT:
-            raise TooMuch(f"names, targets and attributes of the image take over {rules.MAX_IMAGE_TEXT:,} bytes")
-
-    def attributes(self, key: RawAttributes, make: Callable[[], "Attributes"]) -> "Attributes":
-        """The attributes of records that are the same as before, or new ones."""
-        found = self._sets.get(key)
-        if found is None:
-            self.weigh(sum(_ATTRIBUTE_BYTES + 2 * (len(name) + len(value)) for name, value in key))
-            found = self._sets[key] = make()
-        return found
-
-
-@dataclass(frozen=True, slots=True)
-class Attributes:
-    """Attributes as an entry has them, how many marks were left out, and why others can't be stated."""
-
-    kept: Mapping[str, bytes]
-    marks: int
-    problems: tuple[str, ...] = ()
-
-
 class LayerTree:
     """Entries by path, which they don't hold themselves. A later entry of a path takes the place of an earlier one.
 
@@ -114,10 +67,10 @@ class LayerTree:
     same path it says nothing more than that a directory there is opaque.
     """
 
-    def __init__(self, held: Held) -> None:
+    def __init__(self, budget: Budget) -> None:
         self.root = _implied()
         self.root.is_root = True
-        self._held = held
+        self._budget = budget
         self._count = 1
         self._way: list[str] = []
         self._last = self.root
@@ -181,8 +134,8 @@ class LayerTree:
             if found is None:
                 if name not in folder.whiteouts:
                     self._grow()
-                self._held.weigh(sys.getsizeof(name))
-                self._held.budget.unstated.take()
+                self._budget.text.take(sys.getsizeof(name))
+                self._budget.unstated.take()
                 found = folder.children[name] = _implied()
             elif not isinstance(found, Folder):
                 sort = "the symlink" if found.kind == SYMLINK else "what is no directory,"
@@ -238,7 +191,7 @@ class LayerTree:
                 tell(Gap.OVER_OTHER, f"{path}/{name}")
         if not folder.is_stated:
             if below is not None:
-                self._held.budget.attributes.take(len(below.entry.attributes))
+                self._budget.attributes.take(len(below.entry.attributes))
                 folder.entry = _shown_directory(below.entry)
             elif folder.children and not folder.is_root:
                 tell(Gap.UNKNOWN, path or "/")
@@ -275,13 +228,13 @@ class LayerTree:
         self._way, self._last = [], self.root
 
     def _grow(self) -> None:
-        self._held.grow()
+        self._budget.entries.take()
         self._count += 1
         if self._count > rules.MAX_ENTRIES:
             raise TooMuch(f"the layer has over {rules.MAX_ENTRIES:,} entries")
 
     def _weigh(self, name: str, entry: Entry) -> None:
-        self._held.weigh(sys.getsizeof(name) + (sys.getsizeof(entry.target) if entry.target else 0))
+        self._budget.text.take(sys.getsizeof(name) + (sys.getsizeof(entry.target) if entry.target else 0))
 
 
 def whiteout(uid: int = 0, gid: int = 0, mtime_ns: int = 0) -> Entry:

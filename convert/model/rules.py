@@ -19,8 +19,6 @@ MAX_SIZE = 2**63 - 1
 MIN_TIME = -(2**63)  # seconds
 MAX_TIME = 2**63 - 1
 MAX_MANIFEST_BYTES = 268_435_456
-MAX_IMAGE_ENTRIES = 4 * MAX_ENTRIES  # of all layers of an image, which are held to know what each one covers
-MAX_IMAGE_TEXT = 2 * MAX_MANIFEST_BYTES  # bytes that their names, targets and attributes take
 MAX_IMAGE_MANIFESTS = 4 * MAX_MANIFEST_BYTES
 MAX_ATTRIBUTE_NAMES = 65_536  # bytes of the names of an entry's attributes; Linux has no more
 

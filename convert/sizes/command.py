@@ -23,7 +23,6 @@ from .texts import Origin, json_text, per_cent, table
 
 _SHOWN = "show"
 _STACK = "stack"
-_WORK = "sizes"
 
 
 class TooMuchHidden(Fault):
@@ -54,11 +53,11 @@ def sizes(options: SizesOptions, tell: Callable[[Iterable[str]], None]) -> None:
     if options.stack is not None:
         require_ordinary(len(options.stack.layers), options.data_layers)
     program = require_program(_given_paths(options))
-    with passing_folder(os.path.join(tempfile.gettempdir(), _WORK)) as folder:
+    with passing_folder(tempfile.gettempdir()) as folder:
         given = _given_image(options, folder) if options.stack is None else _given_stack(options.stack, folder)
-        report = f"{folder}/{_SHOWN}"
-        run_program(program, words_of("show", given.layers, "", "", options.data_layers), report, sys.stderr)
-        found = sizes_of(given.layers, options.data_layers, report)
+        words = words_of("show", stacks.layer_paths(_STACK, len(given.layers)), "", "", options.data_layers)
+        run_program(program, words, folder, _SHOWN, sys.stderr)
+        found = sizes_of(given.layers, options.data_layers, f"{folder}/{_SHOWN}")
     if options.page is not None:
         write_page(options.page, found, given.origins, given.name)
     if options.page != STANDARD_OUTPUT:

@@ -7,15 +7,16 @@ from collections.abc import Iterator
 from dataclasses import dataclass, field
 from enum import Enum, auto
 
+from ..common.budgets import Budget
 from ..common.faults import TarFault, cannot_read, reading
 from ..common.omissions import Loss, Losses, ScanLosses
 from ..common.open_dirs import READ_WHERE_IT_LEADS
 from ..common.progress import Progress
 from ..common.streams import Slice, Source, Watched, is_packed, unpacked
-from ..image.archives import LayerArchive, Taking
+from ..image.archives import LayerArchive, ReadOptions
 from ..model.blobs import Digester, writers
 from ..model.entries import Named
-from ..model.layer_tree import Held, LayerTree, whiteout
+from ..model.layer_tree import LayerTree, whiteout
 from ..model.links import renumber, write_layer
 from ..model.merged_tree import MergedTree
 from ..tar.headers import BLOCK_BYTES, parse_header
@@ -149,11 +150,11 @@ def squashfs_tree(path: str, told_as: str, userxattr: bool) -> LayerTree:
         file = os.open(path, READ_WHERE_IT_LEADS)
     try:
         layer = _FileLayer(told_as, Form.SQUASHFS, file)
-        taking = Taking(
-            out=told_as, overlay_marks=True, writer=Digester(), held=Held(), below=MergedTree(), is_folder=True,
+        read_options = ReadOptions(
+            out=told_as, overlay_marks=True, writer=Digester(), budget=Budget(), below=MergedTree(), is_folder=True,
             userxattr=userxattr,
         )
-        return LayerArchive(layer, taking).tree()
+        return LayerArchive(layer, read_options).tree()
     finally:
         os.close(file)
 
@@ -163,9 +164,9 @@ def _read(layer: _FileLayer, options: FileOptions) -> LayerTree:
     with writers(options.blobs) as new_writer:
         writer = new_writer()
         try:
-            return LayerArchive(layer, Taking(
+            return LayerArchive(layer, ReadOptions(
                 out=options.blobs or options.out, skip_unsupported=options.skip_unsupported, overlay_marks=True,
-                writer=writer, held=Held(), below=MergedTree(), is_folder=True, userxattr=options.userxattr,
+                writer=writer, budget=Budget(), below=MergedTree(), is_folder=True, userxattr=options.userxattr,
                 most_contents=most,
             )).tree()
         finally:

@@ -44,7 +44,7 @@ def require_program(name: str) -> str:
     program = shutil.which(name)
     if program is None:
         raise ReadFault(f"there is no program {name}, which reads and writes squashfs; install {_PACKAGE}")
-    return program
+    return os.path.abspath(program)
 
 
 def entry_count(file: int, path: str) -> int:
@@ -87,12 +87,12 @@ def archive_of(file: int, path: str, tell_socket: Callable[[str], None]) -> Iter
 
 
 @contextlib.contextmanager
-def written(path: str, told_as: str, compress: str | None) -> Iterator[Write]:
-    """What takes the bytes of an archive, of which a squashfs is made at a path where nothing is."""
+def written(folder: str, name: str, told_as: str, compress: str | None) -> Iterator[Write]:
+    """What takes the bytes of an archive, of which a squashfs is made of a name that nothing in a folder has."""
     command = [require_program(_WRITER), "--quiet", "--no-skip", "--num-jobs", str(usual_workers())]
     command += [] if compress is None else ["--compressor", compress]
     with tempfile.TemporaryFile() as told:
-        with _started([*command, path], told, {}, stdin=subprocess.PIPE) as process:
+        with _started([*command, name], told, {}, stdin=subprocess.PIPE, folder=folder) as process:
             assert process.stdin is not None
             with contextlib.suppress(BrokenPipeError):
                 yield process.stdin.write
@@ -102,20 +102,20 @@ def written(path: str, told_as: str, compress: str | None) -> Iterator[Write]:
         told.seek(0)
         words = told.read(_LAST_TOLD)
     if status != 0:
-        reason = os.strerror(errno.ENOSPC) if _is_full(path) else _reason(words, path, _WRITER, status)
+        reason = os.strerror(errno.ENOSPC) if _is_full(folder) else _reason(words, name, _WRITER, status)
         raise cannot_write(told_as, reason)
 
 
-def _is_full(path: str) -> bool:
-    """Whether nothing more can be written beside a path."""
-    free = os.statvfs(os.path.dirname(path) or ".")
+def _is_full(folder: str) -> bool:
+    """Whether nothing more can be written into a folder."""
+    free = os.statvfs(folder)
     return free.f_bavail * free.f_frsize < _LEAST_FREE
 
 
 @contextlib.contextmanager
 def _started(
     command: Sequence[str], told: IO[bytes], limits: Mapping[int, int], stdin: int = subprocess.DEVNULL,
-    stdout: int = subprocess.DEVNULL, pass_fds: tuple[int, ...] = (),
+    stdout: int = subprocess.DEVNULL, pass_fds: tuple[int, ...] = (), folder: str | None = None,
 ) -> Iterator["subprocess.Popen[bytes]"]:
     """A process that ends with this one's work: signals wait while it is started, so that none leaves it running."""
     mask = signal.pthread_sigmask(signal.SIG_BLOCK, ENDING)
@@ -128,7 +128,8 @@ def _started(
 
     try:
         process = subprocess.Popen(
-            command, stdin=stdin, stdout=stdout, stderr=told, pass_fds=pass_fds, preexec_fn=prepare, env=_ENVIRONMENT
+            command, stdin=stdin, stdout=stdout, stderr=told, pass_fds=pass_fds, preexec_fn=prepare, env=_ENVIRONMENT,
+            cwd=folder,
         )
         try:
             signal.pthread_sigmask(signal.SIG_SETMASK, mask)

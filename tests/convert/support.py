@@ -8,6 +8,7 @@ import shutil
 import subprocess
 import sys
 import tempfile
+import time
 import unittest
 from pathlib import Path
 
@@ -31,7 +32,8 @@ ahead.LEAST_BYTES = 0
 sys.exit(main(sys.argv[2:]))
 """
 _COMMAND: list[str] = [sys.executable, "-B", str(COMMAND)]
-if "LAYERS_TEST_SIDE_BY_SIDE" in os.environ:
+IS_SIDE_BY_SIDE = "LAYERS_TEST_SIDE_BY_SIDE" in os.environ
+if IS_SIDE_BY_SIDE:
     ahead.LEAST_BYTES = 0
     _COMMAND[2:] = ["-c", _SIDE_BY_SIDE, str(ROOT)]
 
@@ -97,6 +99,17 @@ def why_no_trusted(folder: str) -> str | None:
             with contextlib.suppress(FileNotFoundError):
                 os.unlink(path)
     return None
+
+
+def left_stage(folder: str, age: int) -> str:
+    """What a run leaves in a folder that was killed so many seconds ago."""
+    name = f".layers-{age:016x}"
+    path = os.path.join(folder, name)
+    os.makedirs(os.path.join(path, "inner"))
+    with open(os.path.join(path, "made-by"), "w", encoding="ascii") as mark:
+        mark.write(f"{name} is the stage of a run of layers, process 1\n")
+    os.utime(mark.name, (time.time() - age, time.time() - age))
+    return path
 
 
 def links(path: str) -> list[list[str]]:

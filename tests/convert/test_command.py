@@ -8,6 +8,7 @@ import filecmp
 import gzip
 import hashlib
 import io
+import itertools
 import json
 import os
 import runpy
@@ -23,11 +24,12 @@ import unittest
 import zlib
 from unittest import mock
 
-from support import COMMAND, ROOT, ROOT_LAYER, FolderTest, call, links, run, run_as_anybody, why_no_trusted
+from support import (
+    COMMAND, ROOT, ROOT_LAYER, FolderTest, call, left_stage, links, run, run_as_anybody, why_no_trusted,
+)
 
 from convert.common import open_dirs as places
 from convert.image.compression import BLOCK, GZIP, packing
-from convert.model.entries import Entry
 from convert.model.manifests import read_manifest
 
 A = hashlib.sha256(b"a").hexdigest()
@@ -197,16 +199,15 @@ class Scanning(CommandTest):
         finally:
             os.close(root)
 
-    def test_a_file_that_changes(self) -> None:
+    def test_a_file_that_always_changes(self) -> None:
         os.mkdir(self.path("in"))
         with open(self.path("in", "f"), "wb") as file:
             file.write(b"abc")
-        for size in (2, 4, 1 << 20):
-            with mock.patch("convert.folder.scan.Survey.entries") as entries:
-                entries.return_value = [Entry("/", "dir", 0), Entry("/f", "file", 0, size=size)]
-                self.require_fault(self.scan(), 3, "/in/f: it was changed meanwhile")
-                words = ("scan", self.path("in"), "--out", self.path("out.json"), "--digests-only", "--userxattr")
-                self.require_fault(call(*words), 3, "/in/f: it was changed meanwhile")
+        numbers = itertools.count()
+        for words in ("--blobs", self.path("blobs")), ("--digests-only",):
+            with mock.patch("convert.folder.scan.state_of", side_effect=lambda _: b"%d" % next(numbers)):
+                result = call("scan", self.path("in"), "--out", self.path("out.json"), "--userxattr", *words)
+            self.require_fault(result, 3, "/in/f: it was changed meanwhile, and again")
             self.require_nothing_left("in")
 
     def test_ways_of_copying(self) -> None:
@@ -440,17 +441,10 @@ class Stages(CommandTest):
             "scan", self.path("in"), "--out", self.path("l.json"), "--blobs", self.path("blobs"), "--userxattr",
         )
 
-    def stage(self, folder: str, age: int) -> str:
-        """A stage that no process has."""
-        path = os.path.join(folder, f".layers-{age:016}")
-        os.makedirs(os.path.join(path, "inner"))
-        os.utime(path, (time.time() - age, time.time() - age))
-        return path
-
     def test_old_ones_go(self) -> None:
         os.mkdir(self.path("blobs"))
-        old, young = self.stage(self.path("blobs"), 90_000), self.stage(self.path("blobs"), 80_000)
-        here = self.stage(self.folder, 90_000)
+        old, young = left_stage(self.path("blobs"), 90_000), left_stage(self.path("blobs"), 80_000)
+        here = left_stage(self.folder, 90_000)
         result = call(*self.words)
         self.require_done(result)
         for path in (old, here):
@@ -461,7 +455,7 @@ class Stages(CommandTest):
 
     def test_one_of_a_run_that_lives(self) -> None:
         os.mkdir(self.path("blobs"))
-        old = self.stage(self.path("blobs"), 90_000)
+        old = left_stage(self.path("blobs"), 90_000)
         file = os.open(old, os.O_RDONLY)
         try:
             fcntl.flock(file, fcntl.LOCK_EX)
@@ -474,10 +468,10 @@ class Stages(CommandTest):
         self.require_done(call(*self.words))
         build = ("build", self.path("l.json"), "--blobs", self.path("blobs"), "--out", self.path("out"))
         os.mkdir(self.path("out"))
-        young = self.stage(self.path("out"), 80_000)
+        young = left_stage(self.path("out"), 80_000)
         self.require_fault(call(*build), 4, f"it holds {young}, the stage of a run that was cut off")
         shutil.rmtree(young)
-        self.stage(self.path("out"), 90_000)
+        left_stage(self.path("out"), 90_000)
         self.require_done(call(*build))
         self.assertEqual(os.listdir(self.path("out")), ["f"])
 

@@ -15,7 +15,7 @@ from pathlib import Path
 from unittest import mock
 
 from images import archive, folder, member, put_index, put_manifest, write_layout, write_saved
-from support import ROOT, FolderTest, call, program_words, why_no_trusted
+from support import ROOT, FolderTest, call, left_stage, program_words, why_no_trusted
 
 LAYERS = [
     [folder("./"), folder("d"), member("d/f", b"lowest"), member("d/g", b"g")],
@@ -198,8 +198,9 @@ with mock.patch("convert.common.program.find_program", return_value={self.progra
             self.require_done(call("flatten", "--out=-flat", "--keep=-kept", "--", "-image"))
             with open(self.path("in", "calls"), encoding="utf-8") as file:
                 paths = [word for line in file for word in line.split()[1:] if word != "--any-size"]
-            self.assertEqual({word.split("/")[0] for word in paths}, {".", "--blobs", "--out"})
-            self.assertIn("./-kept/stack/l0.json", paths)
+            self.assertEqual({word for word in paths if word.startswith("-")}, {"--blobs", "--out"})
+            self.assertIn("stack/l0.json", paths)
+            self.assertTrue(os.path.exists("-kept/stack/l0.json"))
             script = call("flatten", "--out=-more", "--keep=-again", "--dry-run", "--", "-image")[1]
             subprocess.run(["sh"], input=script, text=True, capture_output=True, check=True)
             self.assertEqual(sorted(os.listdir()), ["-again", "-flat", "-image", "-kept", "-more"])
@@ -273,15 +274,12 @@ with mock.patch("convert.common.program.find_program", return_value={self.progra
         self.assertEqual(sorted(os.listdir(self.hands)), ["calls", "linked", "manner", "ovl_layers", "stack"])
 
     def test_stages_of_runs_that_were_cut_off(self) -> None:
-        new, old = (self.path("all", f".layers-{name}") for name in ("new", "old"))
-        for stage in (new, old):
-            os.mkdir(stage)
-        os.utime(old, (0, 0))
+        new, old = (left_stage(self.path("all"), age) for age in (0, 90_000))
         result = self.flatten(out="flat.tar")
         self.require_done(result)
         self.assertIn(f"layers: took away {old}, which a run that was cut off left over a day ago\n", result[2])
         self.assertIn(f"layers: there is {new}, the stage of a run that was cut off\n", result[2])
-        self.left(".layers-new", "flat.tar")
+        self.left(os.path.basename(new), "flat.tar")
 
     def test_names(self) -> None:
         described = [put_manifest(self.image, [archive(layer)], None, "linux/amd64") for layer in LAYERS[:2]]
@@ -460,9 +458,8 @@ class Images(ImageTest):
         digest = hashlib.sha256(b"topmost").hexdigest()
         with open(self.program, encoding="utf-8") as file:
             real = file.read().replace("exec ", "")
-        blob = self.path("in", "kept", "stack", "blobs", digest)
         with open(self.program, "w", encoding="utf-8") as file:
-            file.write(f"{real}[ $1 != show ] || printf TOPMOST > {blob}\n")
+            file.write(f"{real}[ $1 != show ] || printf TOPMOST > stack/blobs/{digest}\n")
         for out in ("flat", "flat.tar"):
             result = self.flatten("--keep", self.path("in", "kept"), out=out)
             self.require_fault((result[0], "", result[2].splitlines()[-1]), 5, "the new layers show something else")

@@ -22,7 +22,7 @@ _SCRIPT = Path(__file__).with_name("squashfs_stacks.py")
 _STAND_IN = """#!/bin/sh
 {}
 while [ $# -gt 0 ]; do [ "$1" = --out ] && out=$2; shift; done
-[ -z "$out" ] || for n in 0 1; do cp "${{out%/*}}/stack/l0.json" "$out/layer-$n.json"; done
+[ -z "$out" ] || for n in 0 1; do cp stack/l0.json "$out/layer-$n.json"; done
 """
 _OTHER_AT_THE_END = """
 case $1 in

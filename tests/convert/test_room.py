@@ -1,5 +1,6 @@
 """Room: what is needed is asked for before anything is written, and a full disk is reported by the name of `--out`."""
 
+import contextlib
 import os
 import resource
 import shutil
@@ -60,10 +61,7 @@ class Room(FolderTest):
             system = SimpleNamespace(f_blocks=1, f_bfree=1, f_bavail=1, f_frsize=FREE)
             with self.subTest(words=words, name=name), mock.patch("os.statvfs", return_value=system), \
                     mock.patch("convert.folder.build.may_clone", return_value=False), \
-                    mock.patch("convert.common.outputs.Stage", side_effect=AssertionError) as stage:
-                if words[0] == "flatten":
-                    stage.side_effect = None
-                    stage.return_value.path = self.path("stage")
+                    self.no_stage() if words[0] != "flatten" else contextlib.nullcontext():
                 out = self.path(name) if ":" not in name else name.replace(":", f":{self.folder}/")
                 path = out.removeprefix("oci:")
                 result = call(*words, "--out", out)
@@ -71,6 +69,10 @@ class Room(FolderTest):
                 self.assertEqual((result[0], result[2].splitlines(True)[-1]), (4, f"layers: {wanted}"))
             self.require_nothing_left(*self.there)
         self.assertEqual(call("unpack", self.path("image"), "--out", self.path("new"), "--digests-only")[0], 0)
+
+    def no_stage(self) -> contextlib.AbstractContextManager[object]:
+        """Has each beginning of an output fail."""
+        return mock.patch("convert.common.outputs.Stage", side_effect=AssertionError)
 
     def test_what_is_needed(self) -> None:
         entries = read_manifest(self.path("stack", "l0.json"))

@@ -55,12 +55,13 @@ BYTES  LAYER  WHY                PATH
 """
 
 
-def plain_program(_: str, words: Sequence[str], report: str, __: object) -> str:
-    """A stand-in for the program: `show`, as the definitions have it."""
+def plain_program(_: str, words: Sequence[str], folder: str, report: str, __: object) -> str:
+    """A stand-in for the program, in a folder: `show`, as the definitions have it."""
     what, *layers = words
     data_layers = int(layers.pop(1)) if layers[0] == "--data-layers" else 0
-    stack = PlainStack([read_manifest(layer) for layer in layers if layer != "--data-layers"], data_layers)
-    with open(report, "x", encoding="ascii") as file:
+    paths = [os.path.join(folder, layer) for layer in layers if layer != "--data-layers"]
+    stack = PlainStack(list(map(read_manifest, paths)), data_layers)
+    with open(os.path.join(folder, report), "x", encoding="ascii") as file:
         file.writelines(stack.report())
     return what
 
@@ -237,20 +238,22 @@ class Telling(SizesTest):
 
     def test_another_tree_than_the_program_shows(self) -> None:
         self.write_image()
-        report = self.path("wrong")
         other, cut = "ovl_layers shows something else at ", "ovl_layers show gave no whole report: "
         for old, new, fault in (
             (" /same", " /some", other), (" 700 ", " 701 ", other), ("file 0644 0 0 0 0 -", "fifo 0644 0 0 0 - -", other),
             ("dir 0755 0 0 0 - - /bin\n", "", other), ("entries 8", "fifo 0644 0 0 0 - - /z\nentries 9", other),
             ("entries 8", "entries 9", cut), ("entries 8\n", "", cut), ("entries 8\n", "entries 8\n\n", cut),
         ):
-            def wrong(_: str, words: Sequence[str], place: str, __: object, old: str = old, new: str = new) -> str:
-                plain_program(_, words, report, __)
-                with open(report, encoding="ascii") as given, open(place, "x", encoding="ascii") as file:
-                    text = given.read()
+            def wrong(
+                _: str, words: Sequence[str], place: str, report: str, __: object, old: str = old, new: str = new
+            ) -> str:
+                plain_program(_, words, place, report, __)
+                with open(os.path.join(place, report), "r+", encoding="ascii") as file:
+                    text = file.read()
                     self.assertIn(old, text)
+                    file.seek(0)
+                    file.truncate()
                     file.write(text.replace(old, new))
-                os.unlink(report)
                 return ""
 
             self.program.side_effect = wrong
