@@ -182,8 +182,8 @@ CASES = [
          lambda size: [Layer()], (10_000, 20_000), words=ANY_SIZE, strangers=unnamed),
     Case("N files of other names among the contents, with `--any-size`", "fsck", lambda size: [Layer()], (10_000, 20_000), words=ANY_SIZE,
          strangers=other_files),
-    Case("an entry of N attributes backwards", "show", shapes.attributes_backwards, (125_000, 250_000), memory=VALUE),
-    Case("an entry of an attribute of 5 N bytes and N times another", "show", shapes.attribute_again, (125_000, 250_000), memory=VALUE),
+    Case("an entry of N attributes backwards", "show", shapes.attributes_backwards, (125_000, 250_000)),
+    Case("an entry of an attribute of 5 N bytes and N times another", "show", shapes.attribute_again, (125_000, 250_000)),
     # What anyone may hand in: the status is that of a manifest that is refused.
     Case("N files, and an entry without a size", "show", shapes.late_fault, (10_000, 20_000, 40_000), status=REFUSED, memory=VALUE),
     Case("N objects that are no entries", "show", shapes.no_entries, (125_000, 250_000), status=REFUSED, memory=VALUE),
