@@ -1,16 +1,16 @@
 """The proved program, run on manifests."""
 
-import contextlib
 import os
 import shutil
 import signal
 import subprocess
 import sys
-from collections.abc import Iterable, Iterator, Sequence
+from collections.abc import Iterable, Sequence
 from pathlib import Path
 from typing import IO
 
-from .faults import FAULTY, OTHER, Fault, ReadFault, UsageFault, reading, signals_wait, writing
+from .faults import FAULTY, OTHER, Fault, ReadFault, UsageFault, reading, writing
+from .processes import running
 
 NAME = "ovl_layers"
 _HERE = Path(__file__).resolve().parents[2]
@@ -71,7 +71,7 @@ def _launch(*words: str) -> None:
     """Has the launcher prove and build the program, or compile it; it says on standard error how long that takes."""
     command = [str(_LAUNCHER), *words, "show", str(_SMALLEST)]
     # (asked to end, it keeps what is proved)
-    with _running(command, subprocess.DEVNULL, None, end=signal.SIGTERM) as launcher:
+    with running(command, stderr=None, end=signal.SIGTERM) as launcher:
         status = launcher.wait()
     if status != 0:
         raise ReadFault(f"the program {NAME} isn't built: {_LAUNCHER} ended with status {status}")
@@ -107,7 +107,7 @@ def run_program(program: str, words: Sequence[str], folder: str, report: str, fa
     What it refuses is told as it is: its own words, or the report, among the faults, where that tells of any.
     """
     report, command = f"{folder}/{report}", [program, *words]
-    with writing(report), open(report, "xb") as file, _running(command, file, subprocess.PIPE, folder) as process:
+    with writing(report), open(report, "xb") as file, running(command, stdout=file, stderr=subprocess.PIPE, folder=folder) as process:
         told = process.communicate()[1]
     print(told.decode("utf-8", "replace"), end="", file=sys.stderr)
     status = process.returncode
@@ -118,35 +118,6 @@ def run_program(program: str, words: Sequence[str], folder: str, report: str, fa
     if status > 0:
         raise Refused(f"{NAME} {words[0]} ended with status {status}; nothing is written", status)
     return _last_line(report)
-
-
-@contextlib.contextmanager
-def _running(
-    words: Sequence[str], out: IO[bytes] | int, told: int | None, folder: str | None = None,
-    end: signal.Signals = signal.SIGKILL,
-) -> Iterator["subprocess.Popen[bytes]"]:
-    """A process that ends with this one's work: signals wait while it is started, so that none leaves it alone."""
-    with signals_wait() as mask, _start(words, out, told, folder, mask) as process:
-        try:
-            signal.pthread_sigmask(signal.SIG_SETMASK, mask)
-            yield process
-        except BaseException:
-            process.send_signal(end)
-            process.wait()
-            raise
-
-
-def _start(
-    words: Sequence[str], out: IO[bytes] | int, told: int | None, folder: str | None, mask: set[int]
-) -> "subprocess.Popen[bytes]":
-    """Starts it. No thread lives then that could hold what the new process waits for."""
-    try:
-        return subprocess.Popen(
-            words, stdin=subprocess.DEVNULL, stdout=out, stderr=told, cwd=folder,
-            preexec_fn=lambda: signal.pthread_sigmask(signal.SIG_SETMASK, mask),
-        )
-    except OSError as error:
-        raise ReadFault(f"cannot run {words[0]}: {error.strerror}") from error
 
 
 def _copy(report: str, out: IO[str]) -> None:

@@ -11,10 +11,10 @@ from dataclasses import dataclass, replace
 from pathlib import Path
 
 from ..common.contents import PIECE
-from ..common.faults import UsageFault, cannot_write, writing
+from ..common.faults import UsageFault, cannot_write
 from ..common.outputs import NEW, folder_made, new_file, note_stages_beside, passing_folder, standard_output
 from ..common.program import NAME, find_program, makes_layers, word_of_path, words_of
-from ..common.progress import counted, note, note_path
+from ..common.progress import counted, note_path
 from ..common.stages import removing
 from ..image.compression import NONE
 from ..image.images import Image, image_place, opened_image, spellings
@@ -25,7 +25,7 @@ from ..image.targets import ARCHIVE_SUFFIX, Form, Target
 from ..image.unpack import UnpackOptions, unpack
 from ..model import stacks
 from ..tar.disk_space import least_shown, require_room
-from .steps import AGAIN, BEFORE, REPORT, STACK, Doing, carry_out, new_layer, timed, work_folder
+from .steps import AGAIN, BEFORE, REPORT, STACK, Runner, carry_out, new_layer, timed, work_folder
 
 _IMAGE = "image"
 _SHOWN = f"{_IMAGE}.show"
@@ -59,16 +59,16 @@ def flatten(options: FlattenOptions) -> None:
     begun = time.monotonic()
     with _new_image(options.out) as stage:
         with work_folder(stage, options.keep) as folder:
-            before, after = carry_out(_Doing(options, folder, f"{stage}/{NEW}"), options.layers)
+            before, after = carry_out(_ImageRunner(options, folder, f"{stage}/{NEW}"), options.layers)
     seconds = time.monotonic() - begun
     note_path(options.out.told, f"{counted(after, 'layer', 'layers')} in place of {before}, {seconds:.2f} s in all")
 
 
 def flatten_commands(options: FlattenOptions) -> list[str]:
     """The commands that do the same by hand, each a line for a shell."""
-    telling = _Telling(_with_place(options))
-    carry_out(telling, options.layers)
-    return telling.lines
+    dry_run = _DryRun(_with_place(options))
+    carry_out(dry_run, options.layers)
+    return dry_run.lines
 
 
 def _with_place(options: FlattenOptions) -> FlattenOptions:
@@ -108,7 +108,7 @@ def _print_image(image: str) -> None:
             out.buffer.write(piece)
 
 
-class _Doing(Doing):
+class _ImageRunner(Runner):
     """Does the steps of an image, and reports each with its time."""
 
     def __init__(self, options: FlattenOptions, folder: str, image: str) -> None:
@@ -122,7 +122,7 @@ class _Doing(Doing):
         self._has_annotations = False
 
     def unpack(self) -> int:
-        """See `Steps`."""
+        """See `Plan`."""
         options = self._options
         with timed("unpack") as words:
             image = unpack(UnpackOptions(
@@ -135,13 +135,13 @@ class _Doing(Doing):
         return self.count
 
     def run(self, step: str, what: str, layers: Sequence[str], new: str, own: Sequence[str] = ()) -> None:
-        """See `Steps`."""
+        """See `Plan`."""
         super().run(step, what, layers, new, own)
         if new == BEFORE and self._options.compress == NONE:
             require_room(self._options.out.told, self._image, least_shown(self.path(new)))
 
     def pack(self, layers: Sequence[str]) -> None:
-        """See `Steps`."""
+        """See `Plan`."""
         blobs, config, links = (self.path(f"{STACK}/{name}") for name in _FOR_PACK)
         with contextlib.ExitStack() as beside:
 
@@ -189,7 +189,7 @@ class _InWork(str):
     """A path in the folder of the work."""
 
 
-class _Telling:
+class _DryRun:
     """Tells a command for each step, as a shell takes them."""
 
     def __init__(self, options: FlattenOptions) -> None:
@@ -208,7 +208,7 @@ class _Telling:
             self._add("mkdir", "-p", "--", _InWork(""))
 
     def unpack(self) -> int:
-        """See `Steps`."""
+        """See `Plan`."""
         options = self._options
         with opened_image(options.image, options.platform, options.tag) as image:
             count, self._name = len(image.layers), _name_of(image, options)
@@ -220,7 +220,7 @@ class _Telling:
         return count
 
     def run(self, step: str, what: str, layers: Sequence[str], new: str, own: Sequence[str] = ()) -> None:
-        """See `Steps`."""
+        """See `Plan`."""
         report = self._path(new)
         if makes_layers(what):
             self._add("mkdir", report)
@@ -230,7 +230,7 @@ class _Telling:
         self._add(self._program, *words, into=report)
 
     def vacuum(self, step: str, layers: Sequence[str], new: str) -> str:
-        """See `Steps`."""
+        """See `Plan`."""
         self.run(step, "vacuum", layers, new)
         self.lines.append("# where it takes away names that a file of links has, go on with the layer before it\n")
         return new_layer(new)
@@ -242,11 +242,11 @@ class _Telling:
         return []
 
     def compare(self, report: str) -> None:
-        """See `Steps`."""
+        """See `Plan`."""
         self._add("cmp", self._path(BEFORE), self._path(report))
 
     def pack(self, layers: Sequence[str]) -> None:
-        """See `Steps`."""
+        """See `Plan`."""
         paths, target = [self._path(layer) for layer in layers], self._options.out
         out = self._path(f"{_IMAGE}{ARCHIVE_SUFFIX}") if target.is_standard_output else word_of_path(target.word)
         blobs, config, links = (self._path(f"{STACK}/{name}") for name in _FOR_PACK)

@@ -24,7 +24,7 @@ from ..model.manifests import read_manifest
 from ..model.show_report import read_report, report_of
 from ..squashfs import programs as squashfs
 from ..squashfs.limits import fitted_lines
-from .steps import AGAIN, BEFORE, STACK, Doing, carry_out, timed, work_folder
+from .steps import AGAIN, BEFORE, STACK, Runner, carry_out, timed, work_folder
 
 _NEW = "new"
 _FITTED = "fitted.show"
@@ -70,7 +70,7 @@ def flatten_stack(options: FlattenStackOptions) -> None:
     with new_file(options.out) if is_file else folder_made(options.out, is_dressed=is_layer) as stage:
         with work_folder(stage.path, options.keep) as folder:
             made = place_of(stage.file, NEW)
-            before, after = carry_out(_DoingStack(options, folder, made), options.layers, options.data_layers)
+            before, after = carry_out(_StackRunner(options, folder, made), options.layers, options.data_layers)
     seconds = time.monotonic() - begun
     note_path(options.out, f"{counted(after, 'layer', 'layers')} in place of {before}, {seconds:.2f} s in all")
 
@@ -104,7 +104,7 @@ def _require_sound(options: FlattenStackOptions) -> None:
         require_empty(options.out)
 
 
-class _DoingStack(Doing):
+class _StackRunner(Runner):
     """Does the steps of a stack. `made` is where the new layer is made, or the folder of the new layers."""
 
     def __init__(self, options: FlattenStackOptions, folder: str, made: str) -> None:
@@ -113,7 +113,7 @@ class _DoingStack(Doing):
         self._made = made
 
     def unpack(self) -> int:
-        """See `Steps`."""
+        """See `Plan`."""
         self.count, stack = len(self._options.stack.layers), self.path(STACK)
         with timed("scan") as words:
             with writing(stack):
@@ -125,7 +125,7 @@ class _DoingStack(Doing):
         return self.count
 
     def pack(self, layers: Sequence[str]) -> None:
-        """See `Steps`."""
+        """See `Plan`."""
         with writing(self.path(_NEW)):
             os.mkdir(self.path(_NEW))
         with timed("build") as words:

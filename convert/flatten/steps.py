@@ -26,7 +26,7 @@ REPORT = "report"
 _WORK = "work"
 
 
-class Steps(Protocol):
+class Plan(Protocol):
     """The steps, by names in the folder of the work."""
 
     def unpack(self) -> int:
@@ -50,47 +50,47 @@ class Steps(Protocol):
         """Writes the image, if it shows the same when it is read again."""
 
 
-def carry_out(steps: Steps, wanted: int, data_layers: int = 0) -> tuple[int, int]:
+def carry_out(plan: Plan, wanted: int, data_layers: int = 0) -> tuple[int, int]:
     """Does it all: checks and makes the new layers, and then looks at what they show. Gives how many layers there
     were, and how many there are.
 
     The lowest layers may be data-only. They go along until no file needs their contents.
     """
-    count = steps.unpack()
+    count = plan.unpack()
     given = stacks.layer_paths(STACK, count)
     is_one = min(count - data_layers, wanted) == 1
-    new = _as_one(steps, given) if is_one else _merged_down(steps, given, wanted, data_layers)
-    steps.run("show", "show", given, BEFORE)
-    steps.run("show of the new layers", "show", new, _AFTER)
-    steps.compare(_AFTER)
-    steps.pack(new)
+    new = _as_one(plan, given) if is_one else _merged_down(plan, given, wanted, data_layers)
+    plan.run("show", "show", given, BEFORE)
+    plan.run("show of the new layers", "show", new, _AFTER)
+    plan.compare(_AFTER)
+    plan.pack(new)
     return count, len(new)
 
 
-def _as_one(steps: Steps, layers: Sequence[str]) -> list[str]:
+def _as_one(plan: Plan, layers: Sequence[str]) -> list[str]:
     """All that the layers show as one layer; the program checks them first."""
-    steps.run("flatten", "flatten", layers, "flatten")
+    plan.run("flatten", "flatten", layers, "flatten")
     return [new_layer("flatten")]
 
 
-def _merged_down(steps: Steps, given: Sequence[str], wanted: int, data_layers: int) -> list[str]:
+def _merged_down(plan: Plan, given: Sequence[str], wanted: int, data_layers: int) -> list[str]:
     """The layers without redirects, metacopy files and what changes nothing, the topmost merged so that this many are
     left."""
     layers = list(given)
-    steps.run("fsck", "fsck", layers, f"fsck.{REPORT}")
-    layers[0] = steps.vacuum("vacuum", layers, "vacuum")
+    plan.run("fsck", "fsck", layers, f"fsck.{REPORT}")
+    layers[0] = plan.vacuum("vacuum", layers, "vacuum")
     # Over layers without redirects each loses its own, and then no merge makes any.
-    for number in steps.moved(layers[:len(layers) - data_layers]):
-        steps.run(f"deref of layer {number}", "deref", layers[number:], f"deref-{number}")
+    for number in plan.moved(layers[:len(layers) - data_layers]):
+        plan.run(f"deref of layer {number}", "deref", layers[number:], f"deref-{number}")
         layers[number] = new_layer(f"deref-{number}")
     merges = max(0, len(layers) - data_layers - wanted)
     if merges:
-        steps.run(f"merge of {merges + 1} layers", "merge", layers, "merged", ("--down-to", str(wanted)))
+        plan.run(f"merge of {merges + 1} layers", "merge", layers, "merged", ("--down-to", str(wanted)))
         # The new topmost layer holds only a root, which the one below it has too.
         layers[:merges + 1] = [new_layer("merged", 1)]
     del layers[len(layers) - data_layers:]
     if merges:
-        layers[0] = steps.vacuum("vacuum of the merged layer", layers, "vacuum-merged")
+        layers[0] = plan.vacuum("vacuum of the merged layer", layers, "vacuum-merged")
     return layers
 
 
@@ -99,7 +99,7 @@ def new_layer(folder: str, number: int = 0) -> str:
     return f"{folder}/layer-{number}.json"
 
 
-class Doing:
+class Runner:
     """Does the steps, and reports each with its time. How layers come in and go out is of its kinds."""
 
     def __init__(self, folder: str, is_kept: bool, faults: IO[str], given: Iterable[str]) -> None:
@@ -115,7 +115,7 @@ class Doing:
         return f"{self._folder}/{name}"
 
     def run(self, step: str, what: str, layers: Sequence[str], new: str, own: Sequence[str] = ()) -> None:
-        """See `Steps`."""
+        """See `Plan`."""
         with timed(step) as words:
             words.append(self.run_on(what, layers, new, own))
 
@@ -139,7 +139,7 @@ class Doing:
             shutil.rmtree(self.path(name), ignore_errors=True)
 
     def vacuum(self, step: str, layers: Sequence[str], new: str) -> str:
-        """See `Steps`."""
+        """See `Plan`."""
         self.run(step, "vacuum", layers, new)
         removed = _removed_in(self.path(f"{new}/{REPORT}"))
         if removed and any(escaped_path(name) in removed for name in self._linked()):
@@ -154,14 +154,14 @@ class Doing:
             yield from names_in(links_path(layer), layer)
 
     def moved(self, layers: Sequence[str]) -> list[int]:
-        """See `Steps`."""
+        """See `Plan`."""
         return [
             number for number in reversed(range(len(layers)))
             if has_attribute(self.path(layers[number]), (REDIRECT, METACOPY))
         ]
 
     def compare(self, report: str, wanted: str = BEFORE) -> None:
-        """See `Steps`."""
+        """See `Plan`."""
         if not filecmp.cmp(self.path(wanted), self.path(report), shallow=False):
             kept = f"see {wanted} and {report} in {self._folder}"
             hint = kept if self._is_kept else "--keep DIR keeps both reports"

@@ -6,15 +6,15 @@ import io
 import os
 import resource
 import shutil
-import signal
 import struct
 import subprocess
 import tempfile
-from collections.abc import Callable, Iterator, Mapping, Sequence
+from collections.abc import Callable, Iterator
 from typing import IO
 
 from ..common.contents import Write
-from ..common.faults import ENDING, EndsEarly, ReadFault, cannot_read, cannot_write, reading
+from ..common.faults import EndsEarly, ReadFault, cannot_read, cannot_write, reading
+from ..common.processes import last_words, running
 from ..common.streams import Source
 from ..model import rules
 from ..model.workers import usual_workers
@@ -28,7 +28,6 @@ _PACKAGE = "squashfs-tools-ng"
 _MOST_MEMORY = 1 << 30  # bytes that a program may have; sqfs2tar takes some 250 for each entry
 _MOST_TOLD = 16 << 20  # bytes of what it says, a line for each socket
 _LEAST_FREE = 1 << 16  # bytes of a disk that isn't full
-_LAST_TOLD = 1_000
 _SOCKET = (b"WARNING: ./", b": cannot pack socket\nSkipping ./", b"\n")  # a path is between these
 _ENVIRONMENT = {"LC_ALL": "C"}  # without SOURCE_DATE_EPOCH, which would be in what tar2sqfs writes
 
@@ -69,7 +68,9 @@ def archive_of(file: int, path: str, tell_socket: Callable[[str], None]) -> Iter
     command = [require_program(_READER), "--root-becomes", ".", f"/dev/fd/{file}"]
     limits = {resource.RLIMIT_AS: _MOST_MEMORY, resource.RLIMIT_FSIZE: _MOST_TOLD}
     with tempfile.TemporaryFile() as told:
-        with _started(command, told, limits, stdout=subprocess.PIPE, pass_fds=(file,)) as process:
+        with running(
+            command, stdout=subprocess.PIPE, stderr=told, pass_fds=[file], environment=_ENVIRONMENT, limits=limits
+        ) as process:
             assert isinstance(process.stdout, io.BufferedReader)
             try:
                 yield process.stdout
@@ -92,7 +93,9 @@ def written(folder: str, name: str, told_as: str, compress: str | None) -> Itera
     command = [require_program(_WRITER), "--quiet", "--no-skip", "--num-jobs", str(usual_workers())]
     command += [] if compress is None else ["--compressor", compress]
     with tempfile.TemporaryFile() as told:
-        with _started([*command, name], told, {}, stdin=subprocess.PIPE, folder=folder) as process:
+        with running(
+            [*command, name], stdin=subprocess.PIPE, stderr=told, folder=folder, environment=_ENVIRONMENT
+        ) as process:
             assert process.stdin is not None
             with contextlib.suppress(BrokenPipeError):
                 yield process.stdin.write
@@ -100,7 +103,7 @@ def written(folder: str, name: str, told_as: str, compress: str | None) -> Itera
                 process.stdin.close()
             status = process.wait()
         told.seek(0)
-        words = told.read(_LAST_TOLD)
+        words = told.read()
     if status != 0:
         reason = os.strerror(errno.ENOSPC) if _is_full(folder) else _reason(words, name, _WRITER, status)
         raise cannot_write(told_as, reason)
@@ -110,44 +113,6 @@ def _is_full(folder: str) -> bool:
     """Whether nothing more can be written into a folder."""
     free = os.statvfs(folder)
     return free.f_bavail * free.f_frsize < _LEAST_FREE
-
-
-@contextlib.contextmanager
-def _started(
-    command: Sequence[str], told: IO[bytes], limits: Mapping[int, int], stdin: int = subprocess.DEVNULL,
-    stdout: int = subprocess.DEVNULL, pass_fds: tuple[int, ...] = (), folder: str | None = None,
-) -> Iterator["subprocess.Popen[bytes]"]:
-    """A process that ends with this one's work: signals wait while it is started, so that none leaves it running."""
-    mask = signal.pthread_sigmask(signal.SIG_BLOCK, ENDING)
-
-    def prepare() -> None:
-        for limit, most in {resource.RLIMIT_CORE: 0, **limits}.items():
-            hard = resource.getrlimit(limit)[1]
-            resource.setrlimit(limit, (most if hard == resource.RLIM_INFINITY else min(most, hard), hard))
-        signal.pthread_sigmask(signal.SIG_SETMASK, mask)
-
-    try:
-        process = subprocess.Popen(
-            command, stdin=stdin, stdout=stdout, stderr=told, pass_fds=pass_fds, preexec_fn=prepare, env=_ENVIRONMENT,
-            cwd=folder,
-        )
-        try:
-            signal.pthread_sigmask(signal.SIG_SETMASK, mask)
-            yield process
-        finally:
-            _end(process)
-    finally:
-        signal.pthread_sigmask(signal.SIG_SETMASK, mask)
-
-
-def _end(process: "subprocess.Popen[bytes]") -> None:
-    """Ends it, if it hasn't ended itself."""
-    process.kill()
-    for stream in (process.stdin, process.stdout):
-        if stream is not None:
-            with contextlib.suppress(BrokenPipeError):
-                stream.close()
-    process.wait()
 
 
 def _sockets_and_words(told: IO[bytes]) -> tuple[list[str], bytes]:
@@ -167,8 +132,5 @@ def _sockets_and_words(told: IO[bytes]) -> tuple[list[str], bytes]:
 
 
 def _reason(words: bytes, name: str, program: str, status: int) -> str:
-    """What the program said last, in one line, or how it ended if it said nothing."""
-    lines = words[-_LAST_TOLD:].decode("utf-8", "surrogateescape").splitlines()
-    reasons = "; ".join(line.removeprefix(f"{name}: ").strip() for line in lines if line.strip())
-    how = f"was ended by signal {-status}" if status < 0 else f"ended with status {status}"
-    return reasons or f"{program} {how}"
+    """What the program said last, without the name that it says first, or how it ended if it said nothing."""
+    return last_words(io.BytesIO(words), program, status).replace(f"{name}: ", "")

@@ -37,8 +37,8 @@ impl From<AllocError> for BoardFault {
 
 /// The parcels in the order of their pieces, where each piece to which their kids lead from `root`
 /// has one parcel and no other piece has any; else the first fault in the order of [`BoardFault`].
-/// The kids of each parcel must be lawful, see [`crate::all_lawful`]. It sorts parcels only where
-/// they don't come in order, and copies pieces only where there is a fault.
+/// The kids of each parcel must be lawful, see [`crate::all_lawful`]. It sorts parcels only if they
+/// don't come in order, and copies pieces only if there is a fault.
 pub fn assemble<T: Drop>(
     alloc: Global,
     root: &Piece,

@@ -72,8 +72,8 @@ impl<'a, W: Work> Core<'a, W> {
         })
     }
 
-    /// Does one event exactly, or refuses it: as not possible where it isn't, else where memory
-    /// runs out. A refused step changes nothing: its parcels are the same ones, outputs and all.
+    /// Does one event exactly, or refuses it: as not possible where it isn't, else if memory runs
+    /// out. A refused step changes nothing: its parcels are the same ones, outputs and all.
     pub fn step(&mut self, alloc: Global, event: Event) -> Result<(), CoreFault>
         ensures done { OnOk result
             (after (W.kids_of (work_of self.old)) (W.out_of (work_of self.old))

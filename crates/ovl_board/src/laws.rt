@@ -2,8 +2,8 @@ ghost use Rattle.ovl_board.specs.Laws.{ReachedByNames, HasReachedPieces, KeepsBa
 
 use crate::works::Work;
 
-/// With lawful kids, a piece is reached exactly where it lies under the root, in its space, and
-/// each step of its path down from the root goes to a kid.
+/// With lawful kids, a piece is reached exactly if it lies under the root, in its space, and each
+/// step of its path down from the root goes to a kid.
 pub fn reached_by_names()
     ensures { ReachedByNames }
 {}

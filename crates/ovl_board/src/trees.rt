@@ -48,7 +48,7 @@ impl Model for Tree {
 
 impl Tree {
     /// The tree of these paths, of which the first is `/`; they ascend strictly, and the parent of
-    /// each is listed. `Memory` is told of a path of 2^32 names or more alone, whose tree has as
+    /// each is listed. `Memory` is given only for a path of 2^32 names or more, whose tree has as
     /// many paths.
     pub fn of(paths: Vec<Path>) -> Result<Tree, TreeFault>
         ensures tree { IfOk result (λ tree. (tree ≡ paths.items) × HasTreeShape paths.items) }

@@ -8,7 +8,7 @@ use crate::pieces::Piece;
 use std::alloc::{AllocError, Global};
 
 /// Work that is split into pieces: a visit of a piece gives its output, and the pieces that come
-/// after it. Both depend on the piece alone.
+/// after it. Both depend only on the piece.
 pub trait Work {
     /// What a visit puts out.
     type Out: Drop;
@@ -51,7 +51,7 @@ pub struct Parcel<T> {
     pub out: T,
 }
 
-/// Whether the kids of each parcel are lawful, as [`kids_lawful`] tells of one.
+/// Whether the kids of each parcel are lawful, as [`kids_lawful`] says of one.
 pub fn all_lawful<T>(parcels: &[Parcel<T>]) -> bool
     ensures { IsTrue result ↔ AllLawful (bare parcels.now) }
 {

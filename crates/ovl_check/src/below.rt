@@ -16,7 +16,7 @@ use ovl_names::{Name, Path};
 use std::alloc::{AllocError, Global};
 
 /// The view of the layers below layer `i` where the walk of a directory of this path with these
-/// entries goes on, made only where that is open and an entry asks.
+/// entries goes on, made only if that is open and an entry asks.
 pub(crate) fn below_children<'p, 'a: 'p>(
     alloc: Global,
     stack: &'a Stack,

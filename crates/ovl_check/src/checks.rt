@@ -49,7 +49,7 @@ impl<'a> CheckWork<'a> {
         }
     }
 
-    /// The work of checking a stack with blobs of which these contents are told, whose names ascend
+    /// The work of checking a stack with blobs that have these contents, whose names ascend
     /// strictly.
     pub fn of_contents(stack: &'a Stack, contents: &'a [Content]) -> CheckWork<'a>
         requires { contents_ascend contents.now ≡ true }
@@ -188,7 +188,7 @@ fn nothing<'a>(alloc: Global) -> CheckOut<'a>
 }
 
 // Where an entry is: at a path, or under a name in the directory of a path. Its own path is made
-// where it is told.
+// where it is given.
 #[derive(Clone, Copy)]
 enum EntryPlace<'a> {
     At(&'a Path),
@@ -284,7 +284,7 @@ fn push_file(
     push_codes(alloc, work.stack, layer, place, &facts, findings)
 }
 
-// Adds a finding of each code that the facts of an entry tell.
+// Adds a finding of each code that the facts of an entry give.
 fn push_codes(
     alloc: Global,
     stack: &Stack,
@@ -305,7 +305,7 @@ fn push_codes(
     push_told(alloc, stack, layer, place, facts, &CODES, findings)
 }
 
-// Adds a finding of each of these codes that the facts of an entry tell.
+// Adds a finding of each of these codes that the facts of an entry give.
 fn push_told(
     alloc: Global,
     stack: &Stack,
@@ -328,14 +328,14 @@ fn push_told(
     Ok(())
 }
 
-// Whether a code is sought in a layer, and the facts of an entry tell it.
+// Whether a code is sought in a layer, and the facts of an entry give it.
 fn is_told(stack: &Stack, layer: u16, facts: &Facts<'_>, code: Code) -> bool
     ensures { result ≡ (sought_in stack.now layer code && tells facts.now code) }
 {
     is_sought(is_ordinary(stack, layer), code) && facts.tells(code)
 }
 
-// Whether a code is sought where all are, or those of blobs alone.
+// Whether a code is sought where all are, or only those of blobs.
 fn is_sought(all: bool, code: Code) -> bool
     ensures { result ≡ (if all then any_code else is_blob_fault) code }
 {

@@ -11,7 +11,7 @@ use crate::sources::CheckedBlobs;
 use ovl_inode::{Digest, Inode, blob_of};
 use std::alloc::{AllocError, Global};
 
-/// What is told of the blob that an inode names, sought once.
+/// The content of the blob that an inode names, looked up once.
 pub(crate) fn blob_named(held: &CheckedBlobs<'_>, inode: &Inode) -> NamedBlob
     ensures { result
         ≡ facts.blob_named (contents_of (blob_views held.now.blobs.elements.now)) inode.now }
@@ -36,7 +36,7 @@ fn is_among(names: &[Digest], name: &Digest) -> bool
     names.binary_search(name).is_ok()
 }
 
-/// What is told of a blob whose bytes needn't be held: its length, and whether its bytes are those
+/// What is known of a blob whose bytes needn't be held: its length, and whether its bytes are those
 /// that its name says.
 #[derive(Clone, Copy, Debug, PartialEq, Eq)]
 pub struct Content {
@@ -48,7 +48,7 @@ pub struct Content {
     pub is_right: bool,
 }
 
-/// The same by contents that are told.
+/// The same by contents.
 pub(crate) fn content_named(contents: &ByName<'_, Content>, inode: &Inode) -> NamedBlob
     ensures { result ≡ facts.blob_named contents.now.elements.now inode.now }
 {
@@ -64,7 +64,7 @@ pub(crate) fn content_named(contents: &ByName<'_, Content>, inode: &Inode) -> Na
     }
 }
 
-/// What is told of blobs that are held, whose names ascend strictly. `wrong` has the names of those
+/// The contents of blobs that are held, whose names ascend strictly. `wrong` has the names of those
 /// with wrong bytes, as [`crate::finish_blobs`] gives them.
 pub fn contents_held(
     alloc: Global,

@@ -83,8 +83,8 @@ pub(crate) struct Facts<'a> {
     pub(crate) holds_origin: bool,
 }
 
-/// Whether no code can be told of an entry of this inode, mark and blob that holds none with
-/// `origin`: it has no attributes, and the blob, if it names one, is right.
+/// Whether no code can hold of an entry of this inode, mark and blob that holds none with `origin`:
+/// it has no attributes, and the blob, if it names one, is right.
 pub(crate) fn is_silent(inode: &Inode, mark: &Mark, blob: &NamedBlob) -> bool
     ensures { result ≡ facts.is_silent inode.now mark.now blob.now }
 {
@@ -99,7 +99,7 @@ fn has_quiet_mark(inode: &Inode, mark: &Mark) -> bool
 }
 
 impl<'a> Facts<'a> {
-    /// Whether no code can be told but those on blobs: of an entry without attributes of which its
+    /// Whether no code can hold but those on blobs: of an entry without attributes of which its
     /// kind asks nothing.
     pub(crate) fn is_bare(&self) -> bool
         ensures { result ≡ facts.is_bare self.now }

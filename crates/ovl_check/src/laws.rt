@@ -1,7 +1,7 @@
 //! Laws of findings; the contract of each is its statement.
 ghost use Rattle.ovl_check.specs.Laws.{FindingsTellSoundness, FindingsNeedContents, FindingsNeedNamed, ShownLayersAreClean, UnmarkedLayersAreQuiet};
 
-/// A stack is sound exactly where none of its findings speaks of a redirect or of a metacopy file's
+/// A stack is sound exactly if none of its findings speaks of a redirect or of a metacopy file's
 /// data.
 pub fn findings_tell_soundness()
     ensures { FindingsTellSoundness }
@@ -18,13 +18,13 @@ pub fn findings_need_named()
     ensures { FindingsNeedNamed }
 {}
 
-/// In a layer without marks, alone, nothing is found but what is wrong with blobs.
+/// In a layer without marks, by itself, nothing is found but what is wrong with blobs.
 pub fn unmarked_layers_are_quiet()
     ensures { UnmarkedLayersAreQuiet }
 {}
 
 /// Where nothing is at fault in a stack and its blobs, nothing at all is found in the layer of what
-/// it shows, alone.
+/// it shows, by itself.
 pub fn shown_layers_are_clean()
     ensures { ShownLayersAreClean }
 {}

@@ -42,7 +42,7 @@ pub struct CheckWork<'a> {
     pub(crate) told: ToldBlobs<'a>,
 }
 
-/// What is told of the blobs.
+/// What is known of the blobs.
 #[derive(Drop)]
 pub(crate) enum ToldBlobs<'a> {
     Held(CheckedBlobs<'a>),
@@ -50,7 +50,7 @@ pub(crate) enum ToldBlobs<'a> {
 }
 
 impl ToldBlobs<'_> {
-    /// What is told of the blob that an inode names, sought once.
+    /// The content of the blob that an inode names, looked up once.
     pub(crate) fn named(&self, inode: &Inode) -> NamedBlob
         ensures { result ≡ facts.blob_named (told_contents self.now) inode.now }
     {

@@ -12,28 +12,28 @@ use thiserror::Error;
 /// How many bytes a room has that serves [`content_in`].
 pub const PART: usize = 65536;
 
-/// Why what a reader gives isn't told.
+/// Why the content of a reader isn't given.
 #[derive(Clone, Copy, Debug, PartialEq, Eq, Error)]
 pub enum PartFault {
     /// A read answered an error.
     #[error("a read failed")]
     Device,
-    /// More bytes came than a length can tell.
+    /// More bytes came than a length can count.
     #[error("too many bytes")]
     TooLong,
 }
 
-// What is told of bytes that aren't held: how many they are, and their SHA-256 digest.
+// What is known of bytes that aren't held: how many they are, and their SHA-256 digest.
 #[derive(Clone, Copy, Debug)]
 struct Measured {
     length: u64,
     digest: [u8; 32],
 }
 
-/// What is told of the blob of a name whose bytes are all that a reader gives up to its end, read
-/// in parts that fill this room at most; rooms of [`PART`] bytes serve. No read is tried again, and
-/// the first fault that is met is told. Where more than 2^64 - 1 bytes come, that is a fault. Takes
-/// no memory. FIPS 180-4.
+/// The content of the blob of a name whose bytes are all that a reader gives up to its end, read in
+/// parts that fill this room at most; rooms of [`PART`] bytes serve. No read is tried again, and
+/// the first fault that is met is given. Where more than 2^64 - 1 bytes come, that is a fault.
+/// Takes no memory. FIPS 180-4.
 pub fn content_in<R: Read>(
     name: Digest,
     reader: &mut R,
@@ -101,7 +101,7 @@ impl Reading {
         }
     }
 
-    // One read; how many bytes it gave, none at the end alone.
+    // One read; how many bytes it gave, none only at the end.
     fn read_part<R: Read>(&mut self, reader: &mut R, room: &mut [u8]) -> Result<usize, PartFault>
         requires { 0 < length room.old }
         ensures room { length room.new ≡ length room.old }

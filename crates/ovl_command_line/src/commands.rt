@@ -229,7 +229,7 @@ fn with_layers<'a>(alloc: Global, command: Command<'a>) -> Result<Command<'a>, A
         .arg(layers(alloc))
 }
 
-// A command that checks, with the options for its blobs alone.
+// A command that checks, with only the options for its blobs.
 fn with_blobs<'a>(
     alloc: Global,
     name: &'a str,

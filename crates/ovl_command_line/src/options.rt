@@ -20,7 +20,7 @@ pub struct Line {
     pub blobs: Option<String>,
     /// Whether the contents are read in parts, whatever their size; never for `show`.
     pub any_size: bool,
-    /// How many layers merges are to leave, of those that aren't data-only, for `merge` alone: at
+    /// How many layers merges are to leave, of those that aren't data-only, only for `merge`: at
     /// least one, and fewer than [`LAYER_LIMIT`](ovl_lookup::LAYER_LIMIT).
     pub down_to: Option<usize>,
     /// The folder for new layers, for the commands that make some.
@@ -35,7 +35,7 @@ pub enum LineFault {
     /// They ask for help or the version, which is this text.
     #[error("{0}")]
     Help(String),
-    /// No command takes them, for the reason that this text tells.
+    /// No command takes them, for the reason that this text has.
     #[error("{0}")]
     Usage(String),
     /// Out of memory.

@@ -11,7 +11,7 @@ pub enum Command {
     /// The new layer is the topmost without redirects and metacopy files, and the report lists what
     /// it has.
     Deref,
-    /// The new layers are a topmost one that has its root alone, and under it the two topmost ones
+    /// The new layers are a topmost one that has only its root, and under it the two topmost ones
     /// as one; the report lists what that has.
     Merge,
     /// The new layer is what the stack shows, as one layer for the whole stack, and the report
@@ -22,7 +22,7 @@ pub enum Command {
 /// What a command gives.
 #[derive(Debug, PartialEq, Eq, Drop)]
 pub struct Answer {
-    /// The report, as `docs/FORMATS.md` tells it for each command.
+    /// The report, as `docs/FORMATS.md` has it for each command.
     pub report: Vec<u8>,
     /// The manifests of the new layers, the topmost first; none where the command makes none.
     pub layers: Vec<Vec<u8>>,

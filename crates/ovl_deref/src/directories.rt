@@ -107,7 +107,7 @@ fn push_own<'a>(
     // Each layer of a stack is one.
     let _layers = stack.ordinary();
     let sheet = stack.top();
-    // The root alone has no name.
+    // Only the root has no name.
     let Some(name) = sheet.name(number) else {
         return Ok(());
     };

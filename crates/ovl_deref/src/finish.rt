@@ -17,8 +17,8 @@ use ovl_rewrite::{RewriteFault, layer_within};
 use std::alloc::Global;
 
 /// The topmost layer without redirects and metacopy files. The parcels are the plain walk of the
-/// work from `/` of space 0. Over a sound stack it is refused, unless memory runs out, exactly
-/// where it passes a limit of manifests.
+/// work from `/` of space 0. Over a sound stack it is refused, unless memory runs out, exactly if
+/// it passes a limit of manifests.
 ///
 /// By one thread:
 ///

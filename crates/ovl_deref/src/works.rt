@@ -29,7 +29,7 @@ impl<'a> Model for DerefWork<'a> {
 }
 
 impl<'a> DerefWork<'a> {
-    /// The work of this stack; its visits tell the new topmost layer.
+    /// The work of this stack; its visits give the new topmost layer.
     pub fn new(stack: &'a Stack) -> DerefWork<'a>
         ensures value { result ≡ stack.now }
         ensures tells { TellsLayer (new_at stack.now) (deref_kids stack.now) (deref_out stack.now) }

@@ -47,7 +47,7 @@ pub(crate) fn findings_of<G: Gate + Sync, R: Threads + Wait + Sync>(
     Ok(found)
 }
 
-/// The same by contents that are told of the blobs, whose names ascend strictly.
+/// The same by contents of the blobs, whose names ascend strictly.
 pub(crate) fn findings_by<G: Gate + Sync, R: Threads + Wait + Sync>(
     team: &Team<'_, G, R>,
     stack: &Stack,

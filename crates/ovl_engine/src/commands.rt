@@ -42,20 +42,20 @@ use std::thread::Threads;
 /// `&[Vec<u8>]`, stay as they are; of a list of its own, `Vec<Vec<u8>>`, it lets each go once its
 /// layer is read, so that the command's work has their memory.
 ///
-/// Refused before any worker starts where the workers are outside 1 to [`WORKER_LIMIT`], else where
-/// the manifests are outside 1 to [`LAYER_LIMIT`], else where all layers would be data-only, else
-/// where a manifest states no layer, the first of them, with its fault, else where the names of the
-/// blobs don't ascend strictly, else where the blobs have more than [`BLOB_LIMIT`] bytes in all,
-/// else where a merge has fewer than two layers that aren't data-only. A command that makes new
-/// layers first checks as [`Command::Fsck`] does, and is refused with that report where it tells a
-/// fault, else with `LimitOut` where a new layer passes a limit of manifests. Else the manifests
-/// with the new ones in place of the topmost, as many of them data-only as before, show the same
-/// merged tree, and after vacuum and deref have no fault of a layer; after flatten so does the new
-/// one in place of all, none data-only. `Run` comes only where the gate refuses a piece that the
-/// command reaches; `Memory` can come at any time but before the first three refusals. It waits for
-/// its workers, and returns only where each question to the gate does. The merged tree, what is
-/// checked and the new layers are those of `docs/PROFILE.md`, the reports those of
-/// `docs/FORMATS.md`. overlayfs.rst: "Data-only lower layers".
+/// Refused before any worker starts if the workers are outside 1 to [`WORKER_LIMIT`], else if the
+/// manifests are outside 1 to [`LAYER_LIMIT`], else if all layers would be data-only, else if a
+/// manifest states no layer, the first of them, with its fault, else if the names of the blobs
+/// don't ascend strictly, else if the blobs have more than [`BLOB_LIMIT`] bytes in all, else if a
+/// merge has fewer than two layers that aren't data-only. A command that makes new layers first
+/// checks as [`Command::Fsck`] does, and is refused with that report if it has a fault, else with
+/// `LimitOut` where a new layer passes a limit of manifests. Else the manifests with the new ones
+/// in place of the topmost, as many of them data-only as before, show the same merged tree, and
+/// after vacuum and deref have no fault of a layer; after flatten so does the new one in place of
+/// all, none data-only. `Run` comes only if the gate refuses a piece that the command reaches;
+/// `Memory` can come at any time but before the first three refusals. It waits for its workers, and
+/// returns only if each question to the gate does. The merged tree, what is checked and the new
+/// layers are those of `docs/PROFILE.md`, the reports those of `docs/FORMATS.md`. overlayfs.rst:
+/// "Data-only lower layers".
 ///
 /// All layers as one, by four workers, with these contents of files; no layer is data-only:
 ///

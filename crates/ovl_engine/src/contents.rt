@@ -30,7 +30,7 @@ use thiserror::Error;
 /// }
 /// ```
 pub trait Contents {
-    /// Why contents can't be told.
+    /// Why contents can't be given.
     type Fault: Drop;
 
     /// What may be under a name: these bytes, or nothing. Where that isn't known, as of files, it
@@ -40,8 +40,7 @@ pub trait Contents {
     /// The faults that may come.
     ghost may_fail: { Self → Self.Fault → Type 0 };
 
-    /// What is told of the contents under each of these names, which ascend strictly: nothing where
-    /// there are none.
+    /// The contents under each of these names, which ascend strictly: nothing where there are none.
     fn tell(&self, alloc: Global, names: &[Digest]) -> Result<Vec<Content>, Self::Fault>
         requires { ascends digest_cmp names.now ≡ true }
         ensures told { IfOk result (λ told. AreTold (may_be self.now) names.now told.items) }
@@ -55,7 +54,7 @@ pub enum CommandFault<F> {
     /// As of a command over blobs.
     #[error(transparent)]
     Engine(EngineFault),
-    /// The contents can't be told.
+    /// The contents can't be given.
     #[error("contents: {0}")]
     Contents(F),
 }

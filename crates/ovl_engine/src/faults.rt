@@ -14,7 +14,7 @@ use thiserror::Error;
 
 /// Why a command gives no answer. The first of `Workers`, `Layers`, `DataLayers`, `Layer`,
 /// `BlobOrder`, `BlobSize` and `NoLower` that holds is given before any work is done; `Faulty`
-/// comes where a command is refused for what [`Command::Fsck`](crate::Command::Fsck) tells, and
+/// comes where a command is refused for what [`Command::Fsck`](crate::Command::Fsck) reports, and
 /// `LimitOut` after that check. Layers are counted from 0, the topmost first.
 #[derive(Debug, PartialEq, Eq, Drop, Error)]
 pub enum EngineFault {
@@ -36,7 +36,7 @@ pub enum EngineFault {
     /// A command that wants a layer under the topmost one has none that isn't data-only.
     #[error("no lower layer")]
     NoLower,
-    /// The layers or the blobs have faults, which this report of `fsck` tells.
+    /// The layers or the blobs have faults, which this report of `fsck` has.
     #[error("the layers or the blobs have faults")]
     Faulty(Vec<u8>),
     /// A new layer has more entries than a manifest may have, or a path with more names or a longer
@@ -54,7 +54,7 @@ pub enum EngineFault {
     DataLayers,
 }
 
-// What is told of a run that gave no walk.
+// What is printed of a run that gave no walk.
 fn run_word(fault: &RunFault) -> &'static str {
     match fault {
         RunFault::Workers => "workers",
@@ -65,7 +65,7 @@ fn run_word(fault: &RunFault) -> &'static str {
 }
 
 impl EngineFault {
-    /// The fault where the manifest of this index states no layer. Out of memory is told as such.
+    /// The fault where the manifest of this index states no layer. Out of memory stays that.
     pub(crate) fn unread(index: usize, fault: LayerFault) -> EngineFault
         ensures { result ≡ unread_layer index fault }
     {

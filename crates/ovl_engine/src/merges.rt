@@ -31,7 +31,7 @@ use ovl_pool::Gate;
 use std::sync::Wait;
 use std::thread::Threads;
 
-/// The two topmost layers of a stack as one, under a new topmost layer that has its root alone,
+/// The two topmost layers of a stack as one, under a new topmost layer that has only its root,
 /// where no fault is found in the stack, and the report of what that one has. The new layers keep
 /// the merged tree.
 pub(crate) fn merge<G: Gate + Sync, R: Threads + Wait + Sync>(

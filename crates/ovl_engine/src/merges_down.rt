@@ -1,4 +1,4 @@
-//! Merges one after the other, until so many layers are left.
+//! Merges one after the other, until a given number of layers is left.
 ghost use Rattle.std.specs.Prelude.{◌≡◌, ◌⊎◌, ◌+◌, ◌<◌, ◌≤◌, true, List, IfOk, IfErr, OnOk, [], ◌∷◌, length};
 ghost use Rattle.ovl_names.specs.Paths.{PathNames};
 ghost use Rattle.ovl_layer.specs.Layers.{IsLayer};
@@ -39,11 +39,11 @@ use std::sync::Wait;
 use std::thread::Threads;
 
 /// What merges one after the other give of the layers that the manifests state, until `left` of
-/// them that aren't data-only are left, a root alone over these not counted: the answer of the last
-/// merge. Each is [`Command::Merge`] over the stack that the one before left, without its root
-/// alone; one that is refused, as where its check finds a fault, ends all. Refused as a merge is
-/// before any work; else with `NoLower` where `left` is none, or not fewer than there are. The
-/// manifests with the new ones in place of all that were merged show the same merged tree.
+/// them that aren't data-only are left, the root over these not counted: the answer of the last
+/// merge. Each is [`Command::Merge`] over the stack that the one before left, without its root; one
+/// that is refused, as where its check finds a fault, ends all. Refused as a merge is before any
+/// work; else with `NoLower` where `left` is none, or not fewer than there are. The manifests with
+/// the new ones in place of all that were merged show the same merged tree.
 ///
 /// All layers but the lowest as one, by four workers, with these contents of files; no layer is
 /// data-only:
@@ -105,8 +105,8 @@ pub fn question_down<R: Threads + Sync>(
     Ok(question)
 }
 
-/// The second part: what the merges give of their question and of what is told, see
-/// [`answer_told`](crate::answer_told). Contents are told once for all merges: no blob is named by
+/// The second part: what the merges give of their question and of contents, see
+/// [`answer_told`](crate::answer_told). Contents are given once for all merges: no blob is named by
 /// a new layer that the given ones don't name.
 pub fn merge_down_told<G: Gate + Sync, R: Threads + Wait + Sync>(
     rt: &R,
@@ -153,7 +153,7 @@ fn expect_lower(stack: &Stack, left: usize) -> Result<(), EngineFault>
     Ok(())
 }
 
-// What is told of these blobs, each digested once.
+// The contents of these blobs, each digested once.
 fn contents_by<G: Gate + Sync, R: Threads + Wait + Sync>(
     team: &Team<'_, G, R>,
     blobs: &[Blob],
@@ -169,7 +169,7 @@ fn contents_by<G: Gate + Sync, R: Threads + Wait + Sync>(
     Ok(contents_held(team.alloc, blobs, &wrong)?)
 }
 
-// What merges of a stack give until so many layers are left.
+// What merges of a stack give until a given number of layers is left.
 fn merged_down<G: Gate + Sync, R: Threads + Wait + Sync>(
     team: &Team<'_, G, R>,
     stack: Stack,

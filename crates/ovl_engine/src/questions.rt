@@ -1,4 +1,4 @@
-//! Commands over contents that needn't be held: what has to be told for one, and what it gives of
+//! Commands over contents that needn't be held: what has to be known for one, and what it gives of
 //! that.
 ghost use Rattle.std.specs.Prelude.{◌≡◌, ◌↔◌, ◌<◌, ◌≤◌, true, false, Err, IfOk, IfErr, OnOk, [], List, length, nat_le};
 ghost use Rattle.ovl_lookup.specs.Stacks.{layer_limit};
@@ -33,7 +33,7 @@ use std::alloc::{AllocError, Global};
 use std::sync::Wait;
 use std::thread::Threads;
 
-/// What a command wants to be told before it answers, of manifests that nothing refuses.
+/// What a command asks before it answers, of manifests that nothing refuses.
 #[derive(Drop)]
 pub struct Question {
     /// The command.
@@ -48,10 +48,11 @@ pub struct Question {
 /// What [`command`](crate::command) gives, with contents that needn't be held in memory in place of
 /// blobs: where the command checks the layers, [`Contents::tell`] is asked once, for the names of
 /// blobs that they state, each once, after all that is refused before any work. There is no limit
-/// of their bytes. The answer is that with blobs that may be what `tell` told of, whatever is under
-/// names that no layer states, see [`findings_need_named`](ovl_check::laws::findings_need_named);
-/// the gate is asked for directories alone. Where contents can't be told, that fault is told. It is
-/// [`question_of`] and [`answer_told`], one after the other.
+/// of their bytes. The answer is that with blobs that may be those that `tell` gave, whatever is
+/// under names that no layer states, see
+/// [`findings_need_named`](ovl_check::laws::findings_need_named); the gate is asked for directories
+/// only. If contents can't be given, that fault is. It is [`question_of`] and [`answer_told`], one
+/// after the other.
 ///
 /// Whether a report ends so, with none of the contents, as [`Contents`] shows them:
 ///
@@ -118,10 +119,10 @@ pub fn question_of<R: Threads + Sync>(
     Ok(Question { what, stack, names })
 }
 
-/// The second part of a command over contents: what it gives of its question and of what is told,
-/// by 1 to [`WORKER_LIMIT`](ovl_board::WORKER_LIMIT) workers: the contents of blobs, their names
+/// The second part of a command over contents: what it gives of its question and of contents, by 1
+/// to [`WORKER_LIMIT`](ovl_board::WORKER_LIMIT) workers: the contents of blobs, their names
 /// ascending, of each name that was asked for and is there. The answer is that with any blobs that
-/// have these contents; a name that isn't told has none. The gate is asked for directories alone.
+/// have these contents; a name without content has none. The gate is asked for directories only.
 /// Fails as [`command`](crate::command) does in its work.
 pub fn answer_told<G: Gate + Sync, R: Threads + Wait + Sync>(
     rt: &R,
@@ -171,7 +172,7 @@ fn names_for(alloc: Global, what: Command, stack: &Stack) -> Result<Vec<Digest>,
     }
 }
 
-// What contents tell of the names that a question asks for, where its command checks the layers.
+// What contents give of the names that a question asks for, where its command checks the layers.
 fn told_by<C: Contents>(
     alloc: Global,
     question: &Question,
@@ -192,7 +193,7 @@ fn told_by<C: Contents>(
     }
 }
 
-// What is found in a stack with contents that are told, where the command checks it.
+// What is found in a stack with given contents, if the command checks it.
 fn found_by<G: Gate + Sync, R: Threads + Wait + Sync>(
     team: &Team<'_, G, R>,
     what: Command,

@@ -42,8 +42,8 @@ pub(crate) fn read_stack<R: Threads + Sync, M: AsSlice<u8> + Send + Drop>(
     }
 }
 
-// The layers that the manifests state, of which the first has this index. Each share of so many of
-// them is read by a thread of its own, the last by this one.
+// The layers that the manifests state, of which the first has this index. Each share of this many
+// of them is read by a thread of its own, the last by this one.
 #[cycle(shares)]
 fn read_layers<R: Threads + Sync, M: AsSlice<u8> + Send + Drop>(
     rt: &R,
@@ -106,7 +106,7 @@ fn read_share<M: AsSlice<u8> + Drop>(
 }
 
 /// Lets a stack go, its layers shared by at most as many threads as there are workers. When out of
-/// memory for that, this thread does it alone.
+/// memory for that, this thread does it by itself.
 pub(crate) fn let_go<R: Threads + Sync>(rt: &R, alloc: Global, stack: Stack, workers: usize)
     requires { 0 < workers }
 {

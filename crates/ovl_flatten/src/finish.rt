@@ -39,7 +39,7 @@ impl FlattenWork<'_> {
 impl FlattenEnd {
     /// What is shown, as one layer, of each stack whose flatten ends so. The parcels are the plain
     /// walk of its work from `/` of space 0. Over a sound stack it is refused, unless memory runs
-    /// out, exactly where that layer passes a limit of manifests.
+    /// out, exactly if that layer passes a limit of manifests.
     pub fn finish(
         self,
         alloc: Global,
@@ -62,7 +62,7 @@ impl FlattenEnd {
 }
 
 /// What the stack shows, as one layer. The parcels are the plain walk of the work from `/` of space
-/// 0. Over a sound stack it is refused, unless memory runs out, exactly where that layer passes a
+/// 0. Over a sound stack it is refused, unless memory runs out, exactly if that layer passes a
 /// limit of manifests.
 ///
 /// By one thread:

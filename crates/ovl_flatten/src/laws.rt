@@ -6,12 +6,12 @@ pub fn flatten_gives_a_layer()
     ensures { FlattenGivesLayer }
 {}
 
-/// The layer that flatten makes of a sound stack shows alone what the stack shows.
+/// The layer that flatten makes of a sound stack shows by itself what the stack shows.
 pub fn flatten_keeps_the_tree()
     ensures { FlattenKeepsTree }
 {}
 
-/// It is sound alone.
+/// It is sound by itself.
 pub fn flatten_is_sound()
     ensures { FlattenIsSound }
 {}
@@ -21,7 +21,7 @@ pub fn flatten_has_no_marks()
     ensures { FlattenHasNoMarks }
 {}
 
-/// It is the one layer without marks that shows alone what the stack shows.
+/// It is the one layer without marks that shows by itself what the stack shows.
 pub fn flatten_is_the_one()
     ensures { FlattenIsTheOne }
 {}

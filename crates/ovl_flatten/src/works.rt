@@ -29,7 +29,7 @@ impl<'a> Model for FlattenWork<'a> {
 }
 
 impl<'a> FlattenWork<'a> {
-    /// The work of this stack; its visits tell the flattened layer.
+    /// The work of this stack; its visits give the flattened layer.
     pub fn new(stack: &'a Stack) -> FlattenWork<'a>
         ensures value { result ≡ stack.now }
         ensures tells { TellsLayer (flattened_at stack.now) (flatten_kids stack.now)

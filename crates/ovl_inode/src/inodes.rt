@@ -293,9 +293,9 @@ pub fn visible(alloc: Global, inode: &Inode) -> Result<Inode, AllocError>
 }
 
 /// Whether a manifest can state the inode: a mode of at most 4,095; at most 999,999,999
-/// nanoseconds; a file of at most 2^63 - 1 bytes, with a blob exactly where it has a size over 0
-/// and no attribute `metacopy`; a symlink's target of 1 to 4,095 bytes without NUL. The types keep
-/// the other limits.
+/// nanoseconds; a file of at most 2^63 - 1 bytes, with a blob exactly if it has a size over 0 and
+/// no attribute `metacopy`; a symlink's target of 1 to 4,095 bytes without NUL. The types keep the
+/// other limits.
 pub fn sound(inode: &Inode) -> bool
     ensures { result ≡ is_sound_inode inode.now }
 {
@@ -324,7 +324,7 @@ fn is_kind_sound(kind: &Kind, has_metacopy: bool) -> bool
     }
 }
 
-// Whether a file of this size has a blob exactly where it has a size over 0 and no `metacopy`.
+// Whether a file of this size has a blob exactly if it has a size over 0 and no `metacopy`.
 fn is_blob_sound(size: u64, blob: Option<Digest>, has_metacopy: bool) -> bool
     ensures { result ≡ has_sound_blob size blob has_metacopy }
 {

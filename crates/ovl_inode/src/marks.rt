@@ -114,7 +114,7 @@ pub fn read_redirect(alloc: Global, value: &[u8]) -> Result<Redirect, RedirectFa
     }
 }
 
-// The path that an absolute value spells, by what stands behind its first separator.
+// The path that an absolute value spells, by what comes after its first separator.
 fn path_to(alloc: Global, rest: &str) -> Result<Path, RedirectFault>
     requires utf8 { is_utf8 (slash ∷ rest.now) ≡ true }
     requires no_nul { list_any (λ byte. byte == 0) (slash ∷ rest.now) ≡ false }

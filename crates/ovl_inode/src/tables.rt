@@ -19,7 +19,7 @@ pub(crate) struct Part {
 }
 
 impl Part {
-    // The part of so many bytes behind others; none where it ends past the greatest number.
+    // The part of this many bytes after others; none where it ends past the greatest number.
     fn behind(before: usize, count: usize) -> Result<Part, AllocError>
         requires { before + count < 2 ^ 64 }
         ensures { IfOk result (λ part. (part.start ≡ before) × (part.end ≡ before + count)) }
@@ -194,7 +194,7 @@ impl Table {
     }
 
     /// Where the attribute `name` is, or where it belongs. The last name is asked first: ascending
-    /// names are put behind it.
+    /// names are put after it.
     pub(crate) fn search(&self, name: &str) -> Result<usize, usize>
         requires { IsTrue (are_attributes self.now) }
         ensures { MatchResult result

@@ -94,8 +94,7 @@ impl Lane {
     }
 
     /// Takes the first piece of the lane, one that was pushed and wasn't taken before; `None` where
-    /// it was empty at one moment. With no pass out, it gives a piece exactly where there is one
-    /// left.
+    /// it was empty at one moment. With no pass out, it gives a piece exactly if there is one left.
     pub fn pop(&mut self) -> Option<Piece>
         ensures same { IsSameLane self.old self.new }
         ensures counted { MatchOption result

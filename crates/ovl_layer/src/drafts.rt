@@ -28,7 +28,7 @@ pub struct Draft {
 }
 
 impl Draft {
-    /// The layer of a root alone.
+    /// The layer of only a root.
     pub(crate) fn start(alloc: Global, inode: Inode) -> Draft
         requires directory { IsTrue (is_directory inode) }
         requires sound { IsTrue (is_sound_inode inode) }

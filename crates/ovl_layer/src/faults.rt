@@ -6,7 +6,7 @@ use std::alloc::{AllocError, AllocFailed};
 use thiserror::Error;
 
 /// Why bytes are no manifest, or entries no layer; the first fault in the order of tests is given,
-/// which `docs/FORMATS.md` tells. An entry is named by its number, counted from 0.
+/// which `docs/FORMATS.md` has. An entry is named by its number, counted from 0.
 #[derive(Clone, Copy, Debug, PartialEq, Eq, Error)]
 pub enum LayerFault {
     /// The bytes are no JSON text in UTF-8.

@@ -28,7 +28,7 @@ impl Model for MarkList {
 }
 
 impl MarkList {
-    /// The empty one, with room for the numbers of so many rows.
+    /// The empty one, with room for the numbers of this many rows.
     pub(crate) fn with_capacity(alloc: Global, count: usize) -> Result<MarkList, AllocError>
         ensures { IfOk result (λ marks. marks ≡ []) }
     {

@@ -148,7 +148,7 @@ impl Sheet {
         self.rows[number as usize].name.as_ref()
     }
 
-    /// The mark of the row of a number, as its inode alone says it; the number is below that of
+    /// The mark of the row of a number, as only its inode says it; the number is below that of
     /// rows. Takes no memory.
     pub fn mark(&self, number: u32) -> &Mark
         requires { number < length self.now }
@@ -247,7 +247,7 @@ impl<'a> SheetPlace<'a> {
         &sheet.rows[self.number as usize].inode
     }
 
-    /// The mark of the place, as its inode alone says it; takes no memory.
+    /// The mark of the place, as only its inode says it; takes no memory.
     pub fn mark(&self) -> &'a Mark
         ensures { option_map mark_of (entry_at self.now []) ≡ Some result.now }
     {

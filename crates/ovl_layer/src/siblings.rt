@@ -60,7 +60,7 @@ impl Siblings {
         }
     }
 
-    /// None, with room for so many in the directory; fails only when out of memory.
+    /// None, with room for this many in the directory; fails only when out of memory.
     pub fn with_room(alloc: Global, siblings: usize) -> Result<Siblings, AllocError>
         ensures { IfOk result (λ none. none ≡ []) }
     {
@@ -70,8 +70,8 @@ impl Siblings {
         })
     }
 
-    /// Adds the entry `name` with what lies below it. It is refused with `NoLayer` only where no
-    /// layer has it after those so far; a refusal leaves these as they are.
+    /// Adds the entry `name` with what lies below it. It is refused with `NoLayer` only if no layer
+    /// has it after those so far; a refusal leaves these as they are.
     pub fn add(&mut self, name: Name, inode: Inode, below: Siblings) -> Result<(), SiblingFault>
         requires { is_directory inode ≡ false → below ≡ [] }
         ensures entries { IfOk result
@@ -112,7 +112,7 @@ impl Siblings {
         }
     }
 
-    /// The layer of these entries under a root. It is refused with `None` only where they are no
+    /// The layer of these entries under a root. It is refused with `None` only if they are no
     /// layer.
     pub fn under(self, root: Inode) -> Option<Layer>
         ensures { MatchOption result
@@ -150,7 +150,7 @@ impl Extent {
         }
     }
 
-    // Whether a layer can have as much behind its root.
+    // Whether a layer can have as much below its root.
     fn fits(self) -> bool
         ensures { IsTrue result ↔ Fits self }
     {

@@ -15,7 +15,7 @@ pub fn merged_tree_is_within_depth()
     ensures { ShowsWithinDepth }
 {}
 
-/// A directory is shown exactly where its view isn't empty.
+/// A directory is shown exactly if its view isn't empty.
 pub fn views_show()
     ensures { ViewsShow }
 {}
@@ -65,7 +65,7 @@ pub fn files_close()
     ensures { FilesClose }
 {}
 
-/// Where a walk goes on there are names alone.
+/// Where a walk goes on there are only names.
 pub fn walks_keep_names()
     ensures { WalksKeepNames }
 {}

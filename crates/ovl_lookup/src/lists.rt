@@ -12,7 +12,7 @@ impl Stack {
     /// order; none where no directory is shown. `from` is at most the number of layers that aren't
     /// data-only. Fails only when out of memory. overlayfs.rst: "Directories", "readdir".
     ///
-    /// The names that all layers show in a directory, each with a space behind it:
+    /// The names that all layers show in a directory, each with a space after it:
     ///
     /// ```
     /// for name in &stack.names(alloc, 0, path)? {
@@ -35,7 +35,7 @@ impl Stack {
     /// The whole merged tree in path order: each path at which something is shown once, with what
     /// is shown there. Fails only when out of memory.
     ///
-    /// The directories that a stack shows, each with a space behind it:
+    /// The directories that a stack shows, each with a space after it:
     ///
     /// ```
     /// for (path, look) in &stack.list(alloc)? {

@@ -271,8 +271,8 @@ impl Stack {
         Ok(self.data_at(origin))
     }
 
-    /// Where data-only layers have the data of what is found at a path, if that is metacopy files
-    /// alone: where the last of them says. Fails only when out of memory. overlayfs.rst: "Data-only
+    /// Where data-only layers have the data of what is found at a path, if that is only metacopy
+    /// files: where the last of them says. Fails only when out of memory. overlayfs.rst: "Data-only
     /// lower layers".
     pub fn data_place(&self, alloc: Global, path: &Path) -> Result<Option<Path>, AllocError>
         ensures { IfOk result

@@ -66,8 +66,8 @@ impl Model for Stack {
 }
 
 impl Stack {
-    /// The stack of these layers, the topmost first; refused exactly where they are none or more
-    /// than [`LAYER_LIMIT`]. When out of memory, the layers are dropped.
+    /// The stack of these layers, the topmost first; refused exactly if they are none or more than
+    /// [`LAYER_LIMIT`]. When out of memory, the layers are dropped.
     pub fn of(alloc: Global, layers: Vec<Layer>) -> Result<Stack, StackFault>
         ensures value { IfOk result (λ stack. stack.layers ≡ layers.items) }
         ensures bare { IfOk result (λ stack. stack.data_only ≡ []) }
@@ -83,8 +83,8 @@ impl Stack {
     }
 
     /// The stack of these layers, the topmost first, of which the last `bottom` are data-only;
-    /// refused exactly where they are none or more than [`LAYER_LIMIT`], and where no other is
-    /// left. When out of memory, the layers are dropped. overlayfs.rst: "Data-only lower layers".
+    /// refused exactly if they are none or more than [`LAYER_LIMIT`], and where no other is left.
+    /// When out of memory, the layers are dropped. overlayfs.rst: "Data-only lower layers".
     ///
     /// The stack of these manifests, the last `bottom` of them data-only:
     ///
@@ -116,8 +116,8 @@ impl Stack {
     }
 
     /// The stack of layers that are sheets already, the topmost first, over data-only ones; refused
-    /// exactly where there is none but those or they are more than [`LAYER_LIMIT`] together. Takes
-    /// no memory.
+    /// exactly if there is none but those or they are more than [`LAYER_LIMIT`] together. Takes no
+    /// memory.
     pub fn of_sheets(layers: Vec<Sheet>, data_only: Vec<Sheet>) -> Result<Stack, StackFault>
         ensures { MatchResult result
             (λ stack. (stack.layers ≡ layers.items) × (stack.data_only ≡ data_only.items))
@@ -231,7 +231,7 @@ impl Stack {
         follow(alloc, self.any_sheet(i), trail)
     }
 
-    /// The same, with the path for the layer below only where marks turn it, see [`OwnStep::at`].
+    /// The same, with the path for the layer below only if marks turn it, see [`OwnStep::at`].
     pub fn own_step<'a>(
         &'a self,
         alloc: Global,
@@ -265,7 +265,7 @@ impl Stack {
     }
 }
 
-// Whether so many layers are no stack.
+// Whether this many layers are no stack.
 fn is_outside(number: usize) -> bool
     ensures { IsTrue result ↔ ((number ≡ 0) ⊎ (layer_limit < number)) }
 {

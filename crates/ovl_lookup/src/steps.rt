@@ -167,8 +167,8 @@ impl<'a> OwnStep<'a> {
     }
 }
 
-// The path that goes on past so many names of the trail, which lead to a directory that is known by
-// another path, if marks turn it.
+// The path that goes on past this many names of the trail, which lead to a directory that is known
+// by another path, if marks turn it.
 fn past<'a>(
     turned: Option<Trail<'a>>,
     trail: &Trail<'a>,
@@ -218,7 +218,7 @@ impl<'a> OwnDirectory<'a> {
         }
     }
 
-    // A walk of a trail that finds nothing past so many names of it, which lead here.
+    // A walk of a trail that finds nothing past this many names of it, which lead here.
     fn step_past(
         self,
         trail: &Trail<'a>,
@@ -258,7 +258,7 @@ impl<'a> OwnDirectory<'a> {
         // Each sheet is a layer.
         let _root = sheet.root_number();
         let Some(name) = sheet.name(number) else {
-            // The root alone has no name.
+            // Only the root has no name.
             return Ok(self);
         };
         let (turned, closed) = self.turned_by(alloc, sheet, sheet.mark(number), name, depth)?;
@@ -360,7 +360,7 @@ fn trail_of_row<'a>(
         return Ok(Trail::root(alloc));
     };
     let Some(name) = name else {
-        // The root alone has no name.
+        // Only the root has no name.
         return Ok(Trail::root(alloc));
     };
     trail_of_row(alloc, sheet, *parent, depth - 1)?.child(name.as_str())

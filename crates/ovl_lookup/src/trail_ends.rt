@@ -5,7 +5,7 @@ ghost use Rattle.ovl_lookup.specs.Trails.{names_of_parts};
 use ovl_names::Names;
 use std::slice;
 
-/// The names of a trail that are left of it from its end: those of whole parts, and behind them of
+/// The names of a trail that are left of it from its end: those of whole parts, and after them of
 /// one that has begun.
 #[derive(Drop)]
 pub(crate) struct TrailEnd<'t, 'a> {

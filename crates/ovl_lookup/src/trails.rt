@@ -101,7 +101,7 @@ impl<'a> Trail<'a> {
         TrailNames::of(&self.parts)
     }
 
-    /// The trail that goes on at `next` in place of so many names.
+    /// The trail that goes on at `next` in place of this many names.
     pub(crate) fn onward(&self, next: Trail<'a>, walked: usize) -> Result<Trail<'a>, AllocError>
         ensures { IfOk result (λ trail. trail ≡ next.entry ++ drop walked self.now) }
     {

@@ -9,7 +9,7 @@ use thiserror::Error;
 /// Why layers aren't merged.
 #[derive(Clone, Copy, Debug, PartialEq, Eq, Error)]
 pub enum MergeFault {
-    /// One layer of the stack alone isn't data-only, so there is none to put it into.
+    /// Only one layer of the stack isn't data-only, so there is none to put it into.
     #[error("no lower layer")]
     NoLower,
     /// The new lower layer has more entries than a manifest may have, or a path with more names or

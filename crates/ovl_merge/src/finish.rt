@@ -21,7 +21,7 @@ use std::alloc::{AllocError, Global};
 /// The layers that a merge makes of the two topmost ones of a stack.
 #[derive(Drop)]
 pub struct MergeDone {
-    /// The new topmost layer, which has the visible root of the old one alone.
+    /// The new topmost layer, which has only the visible root of the old one.
     pub top: Layer,
     /// The new layer below it: what both old ones have over the rest of the stack.
     pub lower: Layer,
@@ -46,10 +46,10 @@ impl MergeWork<'_> {
 }
 
 impl MergeEnd {
-    /// The two topmost layers as one, below a topmost layer that has its root alone, of each stack
+    /// The two topmost layers as one, below a topmost layer that has only its root, of each stack
     /// whose merge ends so. The parcels are the plain walk of its work from `/` of space 0. Over a
-    /// sound stack it is refused, unless memory runs out, exactly where the new lower layer passes
-    /// a limit of manifests.
+    /// sound stack it is refused, unless memory runs out, exactly if the new lower layer passes a
+    /// limit of manifests.
     pub fn finish(
         self,
         alloc: Global,
@@ -77,9 +77,9 @@ impl MergeEnd {
     }
 }
 
-/// The two topmost layers as one, below a topmost layer that has its root alone. The parcels are
-/// the plain walk of the work from `/` of space 0. Over a sound stack it is refused, unless memory
-/// runs out, exactly where the new lower layer passes a limit of manifests.
+/// The two topmost layers as one, below a topmost layer that has only its root. The parcels are the
+/// plain walk of the work from `/` of space 0. Over a sound stack it is refused, unless memory runs
+/// out, exactly if the new lower layer passes a limit of manifests.
 ///
 /// By one thread:
 ///
@@ -104,7 +104,7 @@ pub fn finish_merge(
     work.end(alloc)?.finish(alloc, parcels)
 }
 
-// The entries of a layer that has this root alone.
+// The entries of a layer that has only this root.
 fn root_alone(alloc: Global, root: Inode) -> Result<Vec<(Path, Inode)>, AllocError>
     ensures { IfOk result (λ entries. entries.items ≡ ([], root) ∷ []) }
 {

@@ -11,8 +11,8 @@ pub fn merge_keeps_the_tree()
     ensures { MergeKeepsTree }
 {}
 
-/// Over a sound stack the new lower layer keeps it by itself: the new topmost one, a root alone,
-/// may be left out.
+/// Over a sound stack the new lower layer keeps it by itself: the new topmost one, only a root, may
+/// be left out.
 pub fn merged_layer_keeps_the_tree()
     ensures { MergedLayerKeepsTree }
 {}

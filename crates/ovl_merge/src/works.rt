@@ -39,8 +39,8 @@ impl<'a> Model for MergeWork<'a> {
 }
 
 impl<'a> MergeWork<'a> {
-    /// The work of this stack, whose visits tell the new lower layer; refused exactly where it has
-    /// one layer beside data-only ones.
+    /// The work of this stack, whose visits give the new lower layer; refused exactly if it has one
+    /// layer beside data-only ones.
     pub fn new(stack: &'a Stack) -> Result<MergeWork<'a>, MergeFault>
         ensures value { IfOk result (λ work. work ≡ stack.now) }
         ensures refused { (result ≡ Err NoLower) ↔ (length stack.now.layers ≡ 1) }

@@ -25,7 +25,7 @@ pub(crate) fn compare_from_ends<'a, 'b>(text: &'a str, other: &'b str) -> Ends<'
     requires other { IsTrue (has_names (text_names other.now)) }
     ensures { IsEnds (text_names text.now) (text_names other.now) result }
 {
-    // Texts of one name are told at once where they are equal.
+    // Texts of one name are known at once if they are equal.
     if text.len() <= NAME_LIMIT && text.as_bytes() == other.as_bytes() {
         return Ends::Left("", "");
     }

@@ -33,7 +33,7 @@ impl<'a> Model for Names<'a> {
 }
 
 impl<'a> Names<'a> {
-    /// The names of a text that has `/` between them, which are so many.
+    /// The names of a text that has `/` between them, of which this is the number.
     pub(crate) fn of_text(text: &'a str, len: usize) -> Names<'a>
         requires names { IsTrue (has_names (text_names text.now)) }
         requires len { len ≡ length (text_names text.now) }
@@ -57,7 +57,7 @@ impl<'a> Names<'a> {
         Names { text: "", len: 0 }
     }
 
-    /// One name alone, by its text.
+    /// One name, by its text.
     pub fn one(name: &'a str) -> Names<'a>
         requires { IsTrue (is_name name.now) }
         ensures { result ≡ name.now ∷ [] }
@@ -90,7 +90,7 @@ impl<'a> Names<'a> {
         }
     }
 
-    /// Those behind the first `count` names.
+    /// Those after the first `count` names.
     pub fn after(&self, count: usize) -> Names<'a>
         ensures { result ≡ drop count self.now }
     {

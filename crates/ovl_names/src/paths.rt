@@ -30,7 +30,7 @@ pub enum PathFault {
     /// It does not begin with `/`.
     #[error("the path does not begin with `/`")]
     NotAbsolute,
-    /// Nothing stands between two separators, or behind the last.
+    /// Nothing stands between two separators, or after the last.
     #[error("the path has an empty part")]
     EmptyPart,
     /// A part is no name, see [`NameFault`](crate::NameFault).
@@ -259,7 +259,7 @@ impl Path {
     }
 }
 
-// The bytes of two texts of names, one behind the other.
+// The bytes of two texts of names, one after the other.
 fn joined_len(above: &str, below: &str) -> usize
     ensures { result ≡ length (joined_text above.now below.now) }
 {
@@ -312,7 +312,7 @@ fn parts_fault(rest: &str) -> Option<PathFault>
     }
 }
 
-/// Whether nothing stands before, behind or between separators `/` of a text; the empty text has
+/// Whether nothing stands before, after or between separators `/` of a text; the empty text has
 /// such a part.
 pub fn has_empty_part(text: &str) -> bool
     ensures { result ≡ list_any (λ part. length part == 0) (parts_between text.now) }

@@ -54,8 +54,8 @@ impl<'a, R: Wait, K: Ledger, D: Ledger> Notes<'a, R, K, D> {
         }
     }
 
-    /// Notes that a piece with so many kids was delivered, at once or later. Fails where the tally
-    /// is at its end.
+    /// Notes that a piece with this many kids was delivered, at once or later. Fails where the
+    /// tally is at its end.
     pub(crate) fn deliver(&mut self, kids: u64) -> Result<Prospect, AllocError>
         ensures known { MatchResult result
             (λ _. self.new.shares.known.amount ≡ self.old.shares.known.amount + kids)
@@ -112,7 +112,7 @@ impl<'a, R: Wait, K: Ledger, D: Ledger> Notes<'a, R, K, D> {
         self.tally.lock(self.rt).fail()
     }
 
-    /// The shares, with what was noted, where the tally told that there is nothing more to do.
+    /// The shares, with what was noted, if the tally said that there is nothing more to do.
     pub(crate) fn into_shares(self, _over: Over) -> Shares<K, D>
         ensures { result ≡ self.entry.shares }
     {

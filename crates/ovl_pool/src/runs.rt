@@ -91,10 +91,10 @@ impl From<AllocError> for RunFault {
 ///
 /// At Ok the parcels are the plain walk, whatever the workers did: each of its pieces was known,
 /// delivered and taken once, and none is left. `Workers` is for every other number of them; `Gate`
-/// where the gate refused a piece that is reached from the root; `Board` only where memory to
-/// assemble the parcels is wanted. A run that wants memory otherwise gives `Memory`, or `Gate` if
-/// that came as well. It waits for locks, and returns only where each visit and each question to
-/// the gate does.
+/// where the gate refused a piece that is reached from the root; `Board` only if memory to assemble
+/// the parcels is refused. A run that is refused memory otherwise gives `Memory`, or `Gate` if that
+/// came as well. It waits for locks, and returns only if each visit and each question to the gate
+/// does.
 ///
 /// What holds of a work of 200 pieces, whatever the number of workers, and nothing is refused:
 ///
@@ -223,7 +223,7 @@ fn run_count<K: Ledger, D: Ledger>(
 }
 
 // What came of a run: `Gate` where it refused a piece, else `Memory` where a worker was out of
-// memory, and else what is told of the parcels.
+// memory, and else what assembly says of the parcels.
 fn outcome<T: Drop>(
     alloc: Global,
     root: &Piece,
@@ -256,7 +256,7 @@ fn outcome<T: Drop>(
 
 // What came of a run that met no fault: the parcels in order, with the numbers of the run. Where
 // fewer pieces were delivered than are known the workers ended too early, which no run has shown;
-// it is told as out of memory.
+// it is given as out of memory.
 fn walk_of<T: Drop>(
     alloc: Global,
     root: &Piece,

@@ -11,7 +11,7 @@ pub(crate) struct Shares<K: Ledger, D: Ledger> {
 }
 
 impl<K: Ledger, D: Ledger> Shares<K, D> {
-    /// Cuts shares for so many of the workers off, which count nothing yet.
+    /// Cuts shares for this many of the workers off, which count nothing yet.
     pub(crate) fn split_off(&mut self, workers: u64) -> Shares<K, D>
         requires workers { (workers ≤ self.old.known.parts) × (workers ≤ self.old.delivered.parts) }
         requires fresh { (self.old.known.amount ≡ 0) × (self.old.delivered.amount ≡ 0) }

@@ -21,14 +21,14 @@ pub struct Tally<K: Ledger, D: Ledger> {
     ghost delivered_noted: { delivered ≡ parcels.total },
 }
 
-/// That there is nothing more to do. Only a tally tells it, and only by it a worker ends.
+/// That there is nothing more to do. Only a tally says it, and only by it a worker ends.
 #[derive(Drop)]
 pub(crate) struct Over {
     told: (),
 }
 
 impl<K: Ledger, D: Ledger> Tally<K, D> {
-    /// The tally before any visit: the root alone is known. It keeps the empty books of the ledgers
+    /// The tally before any visit: only the root is known. It keeps the empty books of the ledgers
     /// of which workers note kids and parcels.
     pub fn start(kids: Book<K>, parcels: Book<D>) -> Tally<K, D>
         requires { (kids.total ≡ 0) × (parcels.total ≡ 0) }
@@ -44,8 +44,8 @@ impl<K: Ledger, D: Ledger> Tally<K, D> {
     }
 
     /// Notes that one of the known pieces was delivered, and that its kids are known now, in the
-    /// tally and in a worker's shares. Refuses, with nothing changed, exactly where more than 2^64
-    /// - 1 pieces would be known or none is undelivered.
+    /// tally and in a worker's shares. Refuses, with nothing changed, exactly if more than 2^64 - 1
+    /// pieces would be known or none is undelivered.
     pub fn deliver(&mut self, kids: u64, known: &mut Share<K>, delivered: &mut Share<D>) -> bool
         requires { (0 < known.old.parts) × (0 < delivered.old.parts) }
         ensures possible { IsTrue result
@@ -68,8 +68,8 @@ impl<K: Ledger, D: Ledger> Tally<K, D> {
         self.deliver_many(1, kids, known, delivered)
     }
 
-    /// Notes that so many of the known pieces were delivered, and that the kids of all of them are
-    /// known now. Refuses, with nothing changed, exactly where more than 2^64 - 1 pieces would be
+    /// Notes that this many of the known pieces were delivered, and that the kids of all of them
+    /// are known now. Refuses, with nothing changed, exactly if more than 2^64 - 1 pieces would be
     /// known or fewer are undelivered.
     pub(crate) fn deliver_many(
         &mut self,
@@ -119,8 +119,8 @@ impl<K: Ledger, D: Ledger> Tally<K, D> {
         Over { told: () }
     }
 
-    /// Tells exactly where there is nothing more to do: all that is known was delivered, or a
-    /// worker met a fault.
+    /// Whether there is nothing more to do, exactly: all that is known was delivered, or a worker
+    /// met a fault.
     pub(crate) fn over(&self) -> Option<Over>
         ensures { IsSome result
             ↔ ((self.now.failed ≡ true) ⊎ (self.now.delivered ≡ self.now.known)) }

@@ -13,7 +13,7 @@ use thiserror::Error;
 /// Why the program ends without having printed its report.
 #[derive(Debug, PartialEq, Eq, Drop, Error)]
 pub enum ProgramFault {
-    /// The words are none of the program's; the text tells how they should be, and ends its last
+    /// The words are none of the program's; the text says how they should be, and ends its last
     /// line itself.
     #[error("{0}")]
     Usage(String),

@@ -83,7 +83,7 @@ fn joined_beside<R: Threads>(
     lines
 }
 
-// The report of these lines, with the number of all paths behind them.
+// The report of these lines, with the number of all paths after them.
 fn with_count(mut lines: String, entries: usize) -> Result<Vec<u8>, AllocError>
     ensures { IfOk result
         (λ report. report.items
@@ -106,7 +106,7 @@ fn entries_of(parcels: &[Parcel<Vec<(Name, Look)>>]) -> Result<usize, AllocError
     Ok(entries)
 }
 
-// The lines of the first paths, in so many shares of `share` lines at most; each is written by a
+// The lines of the first paths, in this many shares of `share` lines at most; each is written by a
 // thread of its own.
 fn parts_by<R: Threads + Sync>(
     rt: &R,
@@ -202,7 +202,7 @@ fn push_lines(
 }
 
 // Tells the next entry of an open directory, which is one itself: appends its line, where it is
-// wanted, and opens it, inside the other. Gives the parcels behind its own.
+// wanted, and opens it, inside the other. Gives the parcels after its own.
 fn push_entered<'a>(
     alloc: Global,
     lines: &mut String,
@@ -233,8 +233,8 @@ fn push_entered<'a>(
     enter(opened, parcels, text)
 }
 
-// A directory whose entries are being told: its parcel, how many of them are told, and what stands
-// before each of their names in a report.
+// A directory whose entries are being written: its parcel, how many of them are written, and what
+// comes before each of their names in a report.
 #[derive(Drop)]
 struct Open<'a> {
     parcel: &'a Parcel<Vec<(Name, Look)>>,
@@ -267,7 +267,8 @@ fn enter<'a>(
 }
 
 // Tells what isn't a directory in an open directory, up to what is one: appends the lines from
-// number `first` on. So many paths are told before; gives how many are told then, `end` at most.
+// number `first` on. This many paths are written before; gives how many are written then, `end` at
+// most.
 fn push_leaves(
     alloc: Global,
     lines: &mut String,

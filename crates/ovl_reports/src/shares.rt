@@ -7,13 +7,13 @@ ghost use Rattle.ovl_reports.specs.Shares.{AreJoined, least_share};
 use std::alloc::{AllocError, Global};
 use std::thread::{Threads, join};
 
-// The fewest lines for which a thread is started, and the room that is kept for the line behind all
+// The fewest lines for which a thread is started, and the room that is kept for the line after all
 // shares.
 const LEAST_SHARE: usize = 1024;
 
 const LAST_LINE: usize = 64;
 
-/// How many lines a thread writes, where so many lines are shared by so many workers: no more
+/// How many lines a thread writes, if this many lines are shared by that many workers: no more
 /// threads are needed than there are workers, and none for few lines or one worker.
 pub fn share_of(lines: usize, workers: usize) -> usize
     requires { 0 < workers }
@@ -55,7 +55,7 @@ pub fn joined(alloc: Global, parts: Vec<Result<String, AllocError>>) -> Result<S
     with_others(first, texts)
 }
 
-// A text and the others behind it. It grows by all of them at once, in place where it can, and each
+// A text and the others after it. It grows by all of them at once, in place where it can, and each
 // is let go once it is appended.
 fn with_others(mut text: String, others: Vec<String>) -> Result<String, AllocError>
     ensures { IfOk result
@@ -81,7 +81,7 @@ fn texts_of(
     Ok(texts)
 }
 
-// Puts the text of a share behind those before it, or gives its fault.
+// Puts the text of a share after those before it, or gives its fault.
 fn push_text(texts: &mut Vec<String>, part: Result<String, AllocError>) -> Result<(), AllocError>
     ensures { OnOk result (map Ok texts.new.items ≡ map Ok texts.old.items ++ part ∷ []) }
 {

@@ -17,9 +17,9 @@ use ovl_layer::Layer;
 use ovl_names::Name;
 use std::alloc::Global;
 
-/// The layer with this root that the parcels tell, which are the plain walk from `/` of space 0
-/// over those of its directories that a manifest can hold. `LimitOut` comes only where its entries
-/// are no layer, at once where a directory was left out.
+/// The layer with this root that the parcels give, which are the plain walk from `/` of space 0
+/// over those of its directories that a manifest can hold. `LimitOut` comes only if its entries are
+/// no layer, at once where a directory was left out.
 pub fn layer_within(
     alloc: Global,
     root: Inode,

@@ -17,8 +17,8 @@ use ovl_names::{Name, Path};
 use std::alloc::Global;
 use std::vec::IntoIter;
 
-/// The layer with this root that the parcels tell, which are the plain walk over its directories
-/// from `/` of space 0. `LimitOut` comes only where its entries are no layer.
+/// The layer with this root that the parcels give, which are the plain walk over its directories
+/// from `/` of space 0. `LimitOut` comes only if its entries are no layer.
 pub(crate) fn layer_told(
     alloc: Global,
     root: Inode,
@@ -43,7 +43,7 @@ pub(crate) fn layer_told(
     Ok(layer)
 }
 
-/// The layer of these entries; `LimitOut` comes only where they are none.
+/// The layer of these entries; `LimitOut` comes only if they are none.
 pub fn layer_of(alloc: Global, entries: Vec<(Path, Inode)>) -> Result<Layer, RewriteFault>
     ensures layer { IfOk result (λ layer. (layer ≡ entries.items) × IsLayer layer) }
     ensures limit { result ≡ Err LimitOut → IsLayer entries.items → ⊥ }
@@ -70,7 +70,7 @@ fn refusal(fault: LayerFault) -> RewriteFault
 }
 
 // The entries under the directory of the next parcel; its parcel and those of what lies under it
-// are taken. `LimitOut` comes only where no layer has these entries.
+// are taken. `LimitOut` comes only if no layer has these entries.
 fn next_below(
     alloc: Global,
     rest: &mut IntoIter<Parcel<Vec<(Name, Inode)>>>,

@@ -1,4 +1,4 @@
-//! A new layer told directory by directory, put together from the parcels of a run.
+//! A new layer, built from the outputs of a run.
 #![tactic(auto)]
 
 mod faults;

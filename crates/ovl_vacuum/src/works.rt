@@ -26,7 +26,7 @@ impl<'a> Model for VacuumWork<'a> {
 }
 
 impl<'a> VacuumWork<'a> {
-    /// The work of this stack; its visits tell what is idle in the topmost layer.
+    /// The work of this stack; its visits give what is idle in the topmost layer.
     pub fn new(stack: &'a Stack) -> VacuumWork<'a>
         ensures value { result ≡ stack.now }
         ensures tells { TellsIdle stack.now }

@@ -59,7 +59,7 @@ pub fn read_blobs<R: Files + SharedFiles + AllocGlobal + Clone + Drop + Threads 
     Ok(held.into_blobs())
 }
 
-// The blobs of these files of a folder, in their order, read by at most so many threads, each a
+// The blobs of these files of a folder, in their order, read by at most this many threads, each a
 // share of them.
 fn blobs_of<R: SharedFiles + Threads + Sync>(
     rt: &R,
@@ -117,8 +117,7 @@ fn in_order(alloc: Global, lengths: BTreeMap<Digest, u64>) -> Result<Vec<BlobFil
     Ok(files)
 }
 
-// The length that is told of each blob of a folder, under its name, and how many bytes they come
-// to.
+// The length of each blob of a folder, under its name, and how many bytes they come to.
 #[derive(Drop)]
 struct Listing {
     lengths: BTreeMap<Digest, u64>,
@@ -144,7 +143,7 @@ fn list_blobs<R: Files + AllocGlobal + Clone + Drop>(
     Ok(Listing { lengths, bytes })
 }
 
-// A regular file whose name is a digest, and the length that is told of it.
+// A regular file whose name is a digest, and its length.
 #[derive(Drop)]
 struct BlobFile {
     name: Digest,

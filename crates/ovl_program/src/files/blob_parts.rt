@@ -15,11 +15,10 @@ use std::rt::Files;
 // The least room that a part is read into. A file may have more bytes than are said to be in it.
 const LEAST_PART: usize = 4096;
 
-/// What is told of the blob of a name by the regular file of this path, if there is one: its
-/// length, and whether its bytes are those that the name says. It is read to its end whatever its
-/// length, in parts of at most [`PART`] bytes; no read is tried again. Nothing is told where there
-/// is nothing at the path, or something else, a link too. While a file changes it is what the reads
-/// give.
+/// The content of the blob of a name by the regular file of this path, if there is one: its length,
+/// and whether its bytes are those that the name says. It is read to its end whatever its length,
+/// in parts of at most [`PART`] bytes; no read is tried again. Nothing is given if there is nothing
+/// at the path, or something else, a link too. While a file changes it is what the reads give.
 pub fn tell_file<R: Files + AllocGlobal>(
     rt: &R,
     path: &str,
@@ -35,8 +34,8 @@ pub fn tell_file<R: Files + AllocGlobal>(
     Ok(Some(content_in(name, &mut file, &mut room)?))
 }
 
-// The length that is told of the regular file of a path, if there is one. It is asked before the
-// file is opened, since a pipe that is opened waits for whoever writes to it.
+// The length of the regular file of a path, if there is one. It is asked before the file is opened,
+// since a pipe that is opened waits for whoever writes to it.
 fn file_length(files: &impl Files, path: &str) -> Result<Option<u64>, ReadFault> {
     match fs::symlink_metadata(files, path) {
         Ok(metadata) => Ok(regular_length(&metadata)),
@@ -45,7 +44,8 @@ fn file_length(files: &impl Files, path: &str) -> Result<Option<u64>, ReadFault>
     }
 }
 
-// Room for a part of a file that is said to have so many bytes: for all of a short one and its end.
+// Room for a part of a file that is said to have this many bytes: for all of a short one and its
+// end.
 fn room_for_part(alloc: Global, length: u64) -> Result<Vec<u8>, AllocError>
     ensures { IfOk result (λ room. 0 < vec_len room) }
 {

@@ -26,7 +26,7 @@ use std::thread::{Threads, map_indices};
 /// is its blob where it is a regular file itself, and is read in parts to its end; where it isn't,
 /// a link too, or nothing is there, the name has none. Other names of the folder aren't looked at.
 /// At most as many threads read as there are workers, each the file of the next name that none has
-/// taken. The first blob, in the order of names, that can't be read is told.
+/// taken. The first blob, in the order of names, that can't be read is given.
 pub fn tell_blobs<R: Files + SharedFiles + AllocGlobal + Threads + Sync>(
     rt: &R,
     folder: &str,
@@ -55,7 +55,7 @@ fn find_folder(files: &impl Files, path: &str) -> Result<(), ReadFault> {
     }
 }
 
-// What the workers tell of these names, each of those that it takes; no more of them than there are
+// What the workers give of these names, each of those that it takes; no more of them than there are
 // names. Each has a share, in a thread of its own where it isn't the last.
 fn shares_of<R: SharedFiles + Threads + Sync>(
     rt: &R,
@@ -75,7 +75,7 @@ fn shares_of<R: SharedFiles + Threads + Sync>(
     map_indices(rt, alloc, workers.min(names.len()), &share)
 }
 
-// What one worker tells: again and again of the next name that none has taken. Where it stops, no
+// What one worker gives: again and again of the next name that none has taken. Where it stops, no
 // further name is taken; all before that one are by then.
 fn tell_share<R: SharedFiles>(
     rt: &R,
@@ -100,7 +100,7 @@ fn tell_share<R: SharedFiles>(
     Ok(told)
 }
 
-// Tells of the name of this number, behind the others.
+// Gives the content of the name of this number, after the others.
 fn tell_next<R: SharedFiles>(
     rt: &R,
     alloc: Global,
@@ -119,7 +119,7 @@ fn tell_next<R: SharedFiles>(
     Ok(())
 }
 
-// The contents of these names by what is told of them.
+// The contents of these names by what is given of them.
 fn contents_of<R: SharedFiles>(
     rt: &R,
     alloc: Global,
@@ -141,7 +141,7 @@ fn contents_of<R: SharedFiles>(
     Ok(contents)
 }
 
-// What is told of a name: by a worker, or where none did, now.
+// What is given of a name: by a worker, or where none did, now.
 fn told_or_now<R: SharedFiles>(
     rt: &R,
     alloc: Global,

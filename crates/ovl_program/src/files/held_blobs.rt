@@ -35,7 +35,7 @@ impl HeldBlobs {
         }
     }
 
-    /// Adds a blob behind the others; without its bytes where theirs are over [`BLOB_LIMIT`]
+    /// Adds a blob after the others; without its bytes where theirs are over [`BLOB_LIMIT`]
     /// already. Where memory runs out nothing changes.
     pub fn push(&mut self, name: Digest, bytes: Vec<u8>) -> Result<(), AllocError>
         requires within { vec_len bytes ≤ INPUT_LIMIT }
@@ -54,7 +54,7 @@ impl HeldBlobs {
         Ok(())
     }
 
-    /// Adds other blobs behind these, each as [`HeldBlobs::push`] does. Where memory runs out
+    /// Adds other blobs after these, each as [`HeldBlobs::push`] does. Where memory runs out
     /// nothing changes.
     pub fn append(&mut self, others: HeldBlobs) -> Result<(), AllocError>
         ensures added { OnOk result (map (λ blob. blob.name) self.new.blobs.items
@@ -82,8 +82,8 @@ impl HeldBlobs {
     }
 }
 
-// What is kept of a blob's bytes behind blobs of so many: nothing where those are over the limit of
-// all blobs already.
+// What is kept of a blob's bytes after blobs of this many: nothing where those are over the limit
+// of all blobs already.
 fn kept(alloc: Global, held: usize, bytes: Vec<u8>) -> Vec<u8>
     ensures { result.items ≡ (if nat_lt blob_limit held then [] else bytes.items) }
 {

@@ -11,8 +11,8 @@ use std::io::{self, ErrorKind, Read};
 use thiserror::Error;
 
 /// The most bytes that are held of one input, be it a manifest or a blob. A command takes no blob
-/// of more, since all its blobs together have at most so many; blobs that are read in parts aren't
-/// held.
+/// of more, since all its blobs together have at most this many; blobs that are read in parts
+/// aren't held.
 pub const INPUT_LIMIT: usize = BLOB_LIMIT;
 
 // How many bytes one read may give, and where so few are expected that a small room does. Each room
@@ -27,7 +27,7 @@ pub enum ReadFault {
     /// It can't be opened, or a read answered an error.
     #[error("a read failed")]
     Device,
-    /// More bytes than the limit came, or than a length can tell.
+    /// More bytes than the limit came, or than a length can count.
     #[error("too many bytes")]
     TooLong,
     /// Out of memory.
@@ -37,7 +37,7 @@ pub enum ReadFault {
 
 /// All that a reader gives up to its end, where that is no more than `limit` bytes. No read is
 /// tried again, not even one that was interrupted, so there are at most `limit + 1` of them. The
-/// first fault that is met is told.
+/// first fault that is met is given.
 pub fn read_all<R: Read>(alloc: Global, reader: &mut R, limit: usize) -> Result<Vec<u8>, ReadFault>
     ensures within { IfOk result (λ bytes. vec_len bytes ≤ limit) }
     ensures whole { IfOk result
@@ -96,7 +96,7 @@ fn read_through<R: Read>(
     }
 }
 
-// One read, whose bytes go behind the others; how many they are, none at the end alone.
+// One read, whose bytes go after the others; how many they are, none only at the end.
 fn read_more<R: Read>(
     reader: &mut R,
     room: &mut [u8],
@@ -124,7 +124,7 @@ fn read_more<R: Read>(
     Ok(count)
 }
 
-// No bytes yet, with room for so many. When out of memory for it, room comes as they do.
+// No bytes yet, with room for this many. When out of memory for it, room comes as they do.
 fn room_for(alloc: Global, expected: usize) -> Vec<u8>
     ensures { result.items ≡ [] }
 {

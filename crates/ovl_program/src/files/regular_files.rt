@@ -4,8 +4,7 @@ ghost use Rattle.std.specs.Fs.{IsFile, file_type, metadata_len};
 
 use std::fs::Metadata;
 
-/// The length that is told of a regular file, also of one without bytes; nothing of anything else,
-/// a link too.
+/// The length of a regular file, also of one without bytes; nothing of anything else, a link too.
 pub fn regular_length(metadata: &Metadata) -> Option<u64>
     ensures file { IsFile (file_type metadata.now) → result ≡ Some (metadata_len metadata.now) }
     ensures other { (IsFile (file_type metadata.now) → ⊥) → result ≡ None }

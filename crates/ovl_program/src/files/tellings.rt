@@ -1,4 +1,4 @@
-//! What several workers tell of the blobs of a list of names, each name by one of them, and how
+//! What several workers give of the blobs of a list of names, each name by one of them, and how
 //! that is put in order.
 ghost use Rattle.std.specs.Prelude.{◌≡◌, ◌≤◌, ◌⊎◌, ℕ, List, IfOk, IfSome, MatchResult, All, Some, None, length, slice_get, unwrap_or};
 ghost use Rattle.ovl_engine.specs.declared.faults.EngineFault.TheVariants.{Memory};
@@ -33,7 +33,7 @@ impl Held {
     }
 }
 
-/// What the file of a blob holds, by the content that is told of its name, if it has one.
+/// What the file of a blob holds, by the content of its name, if it has one.
 pub fn held_by(content: Option<Content>) -> Option<Held>
     ensures { (name : List ℕ) → IsToldOf name content → IsHeldUnder name result }
 {
@@ -46,7 +46,7 @@ pub fn held_by(content: Option<Content>) -> Option<Held>
     }
 }
 
-/// What a worker tells of the name of this number: what its file holds, if it has one.
+/// What a worker gives of the name of this number: what its file holds, if it has one.
 #[derive(Clone, Copy, Debug)]
 pub struct Told {
     pub number: usize,
@@ -61,8 +61,8 @@ pub struct Stop {
     pub fault: ProgramFault,
 }
 
-/// What is told of names, each in the slot of its number. The slot of a name that nobody told of is
-/// empty.
+/// What is given of names, each in the slot of its number. The slot of a name of which nothing is
+/// given is empty.
 #[derive(Drop)]
 pub struct Slots {
     held: Vec<Option<Option<Held>>>,
@@ -79,7 +79,7 @@ impl Slots {
         })
     }
 
-    /// Puts what is told of some of these names into their slots.
+    /// Puts what is given of some of these names into their slots.
     fn put(&mut self, names: &[Digest], told: &[Told])
         requires count { length self.old.held.items ≡ length names.now }
         requires slots { AreSlotsOf names.now self.old }
@@ -92,7 +92,7 @@ impl Slots {
         }
     }
 
-    /// What is in the slot of this number, if anything is told there.
+    /// What is in the slot of this number, if anything is there.
     pub fn get(&self, number: usize) -> Option<Option<Held>>
         ensures { result ≡ unwrap_or (slice_get self.now.held.items number) None }
     {
@@ -103,7 +103,7 @@ impl Slots {
     }
 }
 
-/// What workers tell of these names, each its share of them, put in order; or where any stopped,
+/// What workers give of these names, each its share of them, put in order; or where any stopped,
 /// the fault at the least number.
 pub fn joined(
     alloc: Global,

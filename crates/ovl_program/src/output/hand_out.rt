@@ -22,7 +22,7 @@ pub struct OutFault {
 
 /// Writes an answer's layers in their order, each to the writer in its place, and then the report,
 /// and gives the status that the program ends with. The first part that isn't written whole is
-/// told, and nothing is written behind it. No memory is taken.
+/// given, and nothing is written after it. No memory is taken.
 pub fn hand_out<W: Write, O: Write>(
     answer: &Answer,
     files: &mut [W],

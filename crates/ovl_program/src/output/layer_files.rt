@@ -44,7 +44,7 @@ pub fn write_answer<R: Files + AllocGlobal, W: Write>(
     }
 }
 
-// The paths of so many new layers in a folder.
+// The paths of this many new layers in a folder.
 fn layer_paths(alloc: Global, folder: &str, count: usize) -> Result<Vec<String>, AllocError>
     ensures each { IfOk result (λ paths. vec_len paths ≡ count) }
     ensures named { IfOk result

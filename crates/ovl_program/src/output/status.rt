@@ -6,7 +6,7 @@ ghost use Rattle.ovl_program.specs.Status.{ending_of, ending_status};
 pub enum Ending {
     /// There was no fault to be found, or none was looked for.
     Clean,
-    /// The report tells faults of the layers or the blobs.
+    /// The report has faults of the layers or the blobs.
     Faulty,
 }
 

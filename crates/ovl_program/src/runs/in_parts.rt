@@ -63,7 +63,7 @@ fn answer_in_parts<R: Files + SharedFiles + AllocGlobal + Threads + Wait + Sync>
     }
 }
 
-// The same of merges until so many layers are left.
+// The same of merges until a given number of layers is left.
 fn merged_in_parts<R: Files + SharedFiles + AllocGlobal + Threads + Wait + Sync>(
     rt: &R,
     line: &Line,

@@ -12,7 +12,7 @@ use std::sync::Wait;
 use std::thread::Threads;
 
 /// Does what the words ask for, or without any word what standard input asks for, and gives the
-/// status that the program ends with. A fault is told on standard error; where that can't be
+/// status that the program ends with. A fault is printed on standard error; where that can't be
 /// written either, the status says it.
 pub fn run<
     R: Env
