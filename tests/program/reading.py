@@ -5,7 +5,7 @@ Python 3.11, standard library, and `rt`, whose compiler builds refuse.c. A manif
 it is read piece by piece, with no value of JSON in between; a program that made a value of it would give the same bytes, at
 several times the cost. So requests for memory are counted: of a manifest of 10,000 entries, and of the same with white space
 in it, with the members of the manifest and of its entries in the other order, and with an escape that needn't be, of which
-a value is made: the report must be the same, with at least ten times the requests; and of manifests that have one thing each
+a value is made: the report must be the same, with at least five times the requests; and of manifests that have one thing each
 that might be left to the other way, up to the second layer, which is none.
 
 Then come the requests of commands that make a layer and of lines, the bytes that are held at once, threads that start
@@ -31,7 +31,7 @@ from entries import REDIRECT, Entry, entry
 from refusals import build
 from small_layers import Layer, manifest_of
 
-ENTRIES, MOST = 10_000, 0.1
+ENTRIES, MOST = 10_000, 0.2
 OPAQUE = "trusted.overlay.opaque"
 GENERATE = str(Path(__file__).resolve().parents[1] / "makers" / "generate.py")
 # The most bytes that one read may give: of a file that is held, and of a part.
