@@ -229,7 +229,7 @@ def folder_made(path: str, told_path: str | None = None, is_dressed: bool = Fals
         with writing(told):
             place, folder = opened.enter_context(opened_place(path)), None
             if place.found is None:
-                tidy(place.folder, os.path.dirname(path))
+                _note_stages(place, path)
             else:
                 folder = opened.enter_context(_closed(_opened_empty(place, path)))
                 opened.enter_context(_as_it_was(folder))
@@ -352,5 +352,9 @@ def _opened_empty(place: Place, path: str) -> int:
 def note_stages_beside(path: str) -> None:
     """Says which stages of other runs are beside a path."""
     with writing(path), opened_place(path) as place:
-        for found in tidy(place.folder, os.path.dirname(path)):
-            note(f"there is {found}")
+        _note_stages(place, path)
+
+
+def _note_stages(place: Place, path: str) -> None:
+    for stage in tidy(place.folder, os.path.dirname(path)):
+        note(f"there is {stage}")

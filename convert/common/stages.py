@@ -73,7 +73,7 @@ class Stage:
                 # A file system that has no owners gives both the same.
                 if os.fstat(mark).st_uid != os.fstat(file).st_uid:
                     raise _replaced()
-                os.write(mark, _marked(self.name) + b"process %d\n" % os.getpid())
+                os.write(mark, _marked(self.name) + _process())
             except BaseException:
                 os.unlink(_MARK, dir_fd=file)
                 raise
@@ -104,6 +104,11 @@ def _marked(name: str) -> bytes:
     return f"{name} is the stage of a run of layers, ".encode()
 
 
+def _process() -> bytes:
+    """How the mark of a stage of this process ends."""
+    return b"process %d\n" % os.getpid()
+
+
 @contextlib.contextmanager
 def removing(folder: str, *names: str) -> Iterator[None]:
     """Takes away what is in a folder beside other work, which it would hold up at its end.
@@ -129,7 +134,7 @@ def removing(folder: str, *names: str) -> Iterator[None]:
 
 
 def tidy(folder: int, path: str) -> list[str]:
-    """Takes away this user's stages whose processes ended a day ago or before, and says so; tells of the others.
+    """Takes away this user's stages whose processes ended a day ago or before, and says so; gives those of other runs.
 
     A stage has a name as they are given here, and its own mark: nothing else is touched.
     """
@@ -158,12 +163,13 @@ def _opened(name: str, parent: int) -> Iterator[int]:
 
 
 def _begun(stage: int, name: str) -> float:
-    """When a stage of this user was made; fails where it is none."""
+    """When a stage of this user was made by another run; fails if it is none."""
     mark = os.open(_MARK, READ, dir_fd=stage)
     try:
         found = os.fstat(mark)
         is_ours = os.geteuid() == os.fstat(stage).st_uid == found.st_uid and stat.S_ISREG(found.st_mode)
-        if not is_ours or not os.read(mark, _MOST_MARKED).startswith(_marked(name)):
+        text = os.read(mark, _MOST_MARKED)
+        if not is_ours or not text.startswith(_marked(name)) or text == _marked(name) + _process():
             raise FileNotFoundError
         return found.st_mtime
     finally:

@@ -97,7 +97,8 @@ def _new_image(out: Target) -> Iterator[str]:
             yield folder
             _print_image(f"{folder}/{NEW}")
         return
-    note_stages_beside(out.path)
+    if out.form is Form.ARCHIVE:
+        note_stages_beside(out.path)
     with new_file(out.path) if out.form is Form.ARCHIVE else folder_made(out.path) as stage:
         yield stage.path
 

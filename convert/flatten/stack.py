@@ -65,8 +65,9 @@ def flatten_stack(options: FlattenStackOptions) -> None:
     """
     _require_sound(options)
     begun = time.monotonic()
-    note_stages_beside(options.out)
     is_file, is_layer = options.is_squashfs() and options.layers == 1, options.layers == 1
+    if is_file:
+        note_stages_beside(options.out)
     with new_file(options.out) if is_file else folder_made(options.out, is_dressed=is_layer) as stage:
         with work_folder(stage.path, options.keep) as folder:
             made = place_of(stage.file, NEW)

@@ -166,9 +166,10 @@ class _LayersAhead:
                 fault = OTHER, "out of memory"
             except OSError as problem:
                 fault = OTHER, str(problem)
+            if number == worker.layers[-1]:
+                writer.close()  # before the parent knows that it is done, and may end it
             worker.tell(number, _Read(place, fault, is_again))
             worker.require_parent()
-        writer.close()
 
     def _read(self, number: int, keeping: Keeping, worker: "_Worker", writer: Writer) -> bool:
         """Reads a layer quickly, if that can be done, and if it isn't sound so, again by zlib, which tells why.

@@ -220,7 +220,9 @@ class Ended(AheadTest):
         while any(map(_runs, pids)):
             self.assertLess(time.monotonic(), end)
             time.sleep(0.01)
-        self.require_fault(call("unpack", self.path("image"), "--out", self.path("out")), 4, "was cut off")
+        result = call("unpack", self.path("image"), "--out", self.path("out"))
+        self.require_done(result)
+        self.assertIn("the stage of a run that was cut off", result[2])
 
     def _started(self) -> list[str]:
         """The processes that read, once all three do."""
