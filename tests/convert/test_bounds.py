@@ -50,7 +50,7 @@ class Bounds(FolderTest):
     def test_many_empty_gzip_members(self) -> None:
         layer = archive([folder("./")])
         write_layout(self.path("image"), [gzip.compress(layer, mtime=0) + gzip.compress(b"", mtime=0) * 400_000])
-        self.require_bounded("image", 8, 0, "")
+        self.require_bounded("image", 8, 3, "members, which unpack to")
 
     def test_many_names_of_one_image(self) -> None:
         os.mkdir(self.path("image"))

@@ -124,8 +124,15 @@ class Values(HostileTest):
     """Values that no manifest has."""
 
     def test_attributes(self) -> None:
+        """An attribute that can't be stated is left out by itself, too many with their entry."""
         pax = {"SCHILY.xattr.trusted.overlay.overlay.opaque": "y"}
-        self.refuse(member("f", pax=pax), because="trusted.overlay.overlay.opaque", words=("--overlay-marks",))
+        write_layout(self.path("image"), [archive([member("f", pax=pax)])])
+        self.require_refused("trusted.overlay.overlay.opaque", words=("--overlay-marks",))
+        result = call("unpack", self.path("image"), "--out", self.path("out"), "--skip-unsupported", "--overlay-marks")
+        self.require_done(result)
+        self.assertIn("left out", result[2])
+        self.assertIn(b'"path":"/f","size":0,"uid":0,"xattrs":{}', self._manifest())
+        self.empty()
         pax = {f"SCHILY.xattr.user.{number:0200}": "" for number in range(320)}
         self.refuse(member("f", pax=pax), because="the names of its attributes have over 65536 bytes")
 
