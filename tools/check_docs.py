@@ -4,8 +4,8 @@
 - HEADLINE.md has every definition that is reached from the contracts of `command` and `merge_down`, beside its file.
 - PROVED.md is as proved.py makes it, and has every public call of the crates.
 - Each of these definitions has a text.
-- MADE_FAULTS.md has every function that names out of memory, or a fault of reading or writing, in its code,
-  with how often, and no other.
+- Every function that names, in its code, a fault for being out of memory, or of reading or writing, has a comment that says
+  how often, and why it is made by hand.
 - Links of all documents lead somewhere. Files of crates that ARCHITECTURE.md and DEVELOPING.md name are there, each with its
   crate if several crates have one of that name.
 - No name of a type, or of a fact or record of specs/, is there twice.
@@ -29,11 +29,12 @@ import prose
 TOP = Path(__file__).resolve().parent.parent
 CLAUSES = ["IsOutcome", "is_outside", "request_of", "makes_layers", "KeepsTree", "after", "stays_sound", "HasSoundStack", "stands_alone",
            "IsQuiet", "IsOutcomeDown", "after_down"]
-# What is made by hand, and the words of code that make it, chapter by chapter of MADE_FAULTS.md.
-MADE = {
-    "want of memory": r"\bAllocError\b(?!\s*[>{;])|\bAllocFailed\b(?!\s*[<>{;])|Fault::Memory\b|\bOutOfMemory\b|\bUnread\b(?!\s*[>{;(])|\bstarved (?:=|: true)|\.fail\(\)",
-    "a fault of reading or writing": r"\bReadFault::(?:Device|TooLong)\b|\bProgramFault::(?:Input|Unread|Unwritten|Output)\b|\bErr\(\w*PartFault::",
-}
+# The words of code that make by hand, or are matched by, a fault for being out of memory, or of reading or writing.
+MADE = (
+    r"\bAllocError\b(?!\s*[>{;])|\bAllocFailed\b(?!\s*[<>{;])|Fault::Memory\b|\bOutOfMemory\b|\bUnread\b(?!\s*[>{;(])"
+    r"|\bstarved (?:=|: true)|\.fail\(\)"
+    r"|\bReadFault::(?:Device|TooLong)\b|\bProgramFault::(?:Input|Unread|Unwritten|Output)\b|\bErr\(\w*PartFault::"
+)
 TESTS = {"ovl_test_rows", "ovl_pool_tests", "ovl_engine_tests", "ovl_program_tests", "ovl_refusal_tests"}
 
 
@@ -193,7 +194,7 @@ def public_items():
 
 
 def code_lines(path):
-    """The function that each line of code is in, methods as TYPE::NAME, and the line without comments and clauses."""
+    """The function that each line stands in, methods as TYPE::NAME, its code without comments and clauses, and the line."""
     owner, function = None, None
     for line in path.read_text(encoding="utf-8").splitlines():
         code = line.split("//")[0]
@@ -206,33 +207,24 @@ def code_lines(path):
         if head:
             function = f"{owner}::{head[1]}" if owner and code.startswith(" ") else head[1]
             code = code.partition("->")[0].partition("(_:")[0]
-        if not re.match(r"\s*(ghost|pub use|use|impl|type|ensures|requires)\b|.*[\u2261\u03bb\u2192]", code):
-            yield function, code
-
-
-def made(pattern):
-    """The functions of the crates that have such words in their code, and how many."""
-    counts = collections.Counter()
-    for crate in crates():
-        for path in sorted((crate / "src").rglob("*.rt")):
-            for function, code in code_lines(path):
-                counts[f"{crate.name}/{path.relative_to(crate / 'src')}", function] += len(re.findall(pattern, code))
-    return {(*place, count) for place, count in counts.items() if count}
+        if re.match(r"\s*(ghost|pub use|use|impl|type|ensures|requires)\b|.*[\u2261\u03bb\u2192]", code):
+            code = ""
+        yield function, code, line
 
 
 def made_faults():
-    text = (TOP / "docs/MADE_FAULTS.md").read_text(encoding="utf-8")
-    chapters = re.split(r"^## ", text, flags=re.M)[1:]
-    for (name, pattern), chapter in zip(MADE.items(), chapters):
-        told, file = set(), ""
-        for first, function, count in re.findall(r"^\| (.*?) \| `([\w: ]+)` \| (\d+) \| \S.* \|$", chapter, flags=re.M):
-            file = first.strip("`") or file
-            told.add((file, function, int(count)))
-        found = made(pattern)
-        for file, function, count in sorted(found - told):
-            yield f"MADE_FAULTS.md lacks {function} of {file}, whose code has a word of {name} {count} times"
-        for file, function, count in sorted(told - found):
-            yield f"MADE_FAULTS.md says {count} times of {function} of {file}, which isn't so of {name}"
+    """Functions that make faults by hand as often as no comment of theirs says. Conversions have the clause `from_gives`."""
+    for crate in crates():
+        for path in sorted((crate / "src").rglob("*.rt")):
+            made, told = collections.Counter(), collections.Counter()
+            for function, code, line in code_lines(path):
+                made[function] += len(re.findall(MADE, code))
+                said = re.match(r"\s*// Made by hand \((\d+)\): \S", line)
+                told[function] += int(said[1]) if said else 0
+            for function in made:
+                if " from From" not in str(function) and made[function] != told[function]:
+                    yield (f"{path.relative_to(TOP)}: {function} has {made[function]} words of faults that are made by hand, "
+                           f"and a comment `// Made by hand ({told[function]}): WHY.`")
 
 
 def anchor(heading):

@@ -56,6 +56,7 @@ impl Tree {
         ensures taken { IsOk result
             ↔ (HasTreeShape paths.items × (deepest_path paths.items < 2 ^ 32)) }
     {
+        // Made by hand (1): a path of 2^32 names, whose tree has as many paths: no memory holds it.
         if !has_tree_shape(&paths) {
             return Err(TreeFault::Shape);
         }

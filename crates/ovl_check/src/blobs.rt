@@ -242,6 +242,7 @@ fn first_digits(name: &Digest) -> [u8; 2]
 fn digits_name(alloc: Global, name: &Digest) -> Result<Name, AllocError>
     ensures { IfOk result (λ digits. digits ≡ the_blobs.first_digits name.now) }
 {
+    // Made by hand (1): two digits are a name, so no other fault of `Name::of` comes.
     let text = hex::encode(alloc, &name.as_bytes()[..1])?;
     match Name::of(alloc, text.as_str()) {
         Ok(digits) => Ok(digits),

@@ -116,6 +116,7 @@ impl Reading {
         ensures too_long { result ≡ Err TooLong
             → IfSome (R.remaining reader.old) (λ left. 2 ^ 64 - 1 < self.old.length + length left) }
     {
+        // Made by hand (2): a read answered an error; more bytes than a length can count.
         let Ok(count) = reader.read(room) else {
             return Err(PartFault::Device);
         };

@@ -86,6 +86,7 @@ fn copies(alloc: Global, texts: &[&str]) -> Result<Vec<String>, AllocError>
 fn fault_of(alloc: Global, error: &clap::Error) -> LineFault
     ensures { IsFaultOfKind (kind_of error.now) result }
 {
+    // Made by hand (2): `clap` ran out of memory.
     match (error.kind(), error.to_string(alloc)) {
         (ErrorKind::OutOfMemory, _) | (_, Err(_)) => LineFault::Memory,
         (ErrorKind::DisplayHelp | ErrorKind::DisplayVersion, Ok(text)) => LineFault::Help(text),

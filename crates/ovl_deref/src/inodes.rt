@@ -13,6 +13,7 @@ use std::alloc::{AllocError, Global};
 pub(crate) fn unfolded(alloc: Global, inode: &Inode) -> Result<Inode, AllocError>
     ensures { IfOk result (λ new. new ≡ deref.unfolded inode.now) }
 {
+    // Made by hand (1): `opaque` is an attribute's name, so no other fault of `Attrs::put` comes.
     let mut shown = visible(alloc, inode)?;
     match shown.attrs.put(overlay::OPAQUE, b"y") {
         Ok(()) => Ok(shown),
@@ -38,6 +39,7 @@ pub(crate) fn filled(alloc: Global, inode: &Inode, look: &Look) -> Result<Inode,
 fn full_attrs(alloc: Global, attrs: &Attrs) -> Result<Attrs, AllocError>
     ensures { IfOk result (λ full. full ≡ full_attributes attrs.now) }
 {
+    // Made by hand (1): a name of given attributes is one, so no other fault of `Attrs::put` comes.
     let mut full = Attrs::new(alloc);
     for (name, value) in attrs.pairs() {
         if ties_to_data(name) {

@@ -56,6 +56,7 @@ pub enum EngineFault {
 
 // What is printed of a run that gave no walk.
 fn run_word(fault: &RunFault) -> &'static str {
+    // Made by hand (1): the text of the fault, which isn't made here.
     match fault {
         RunFault::Workers => "workers",
         RunFault::Gate => "gate",
@@ -69,6 +70,7 @@ impl EngineFault {
     pub(crate) fn unread(index: usize, fault: LayerFault) -> EngineFault
         ensures { result ≡ unread_layer index fault }
     {
+        // Made by hand (2): out of memory while a manifest is read.
         match fault {
             LayerFault::Memory => EngineFault::Memory,
             _ => EngineFault::Layer(index, fault),

@@ -257,6 +257,7 @@ fn laid_over(
     ensures is_layer { IfOk result (λ _. IsLayer layer) }
     ensures fault { IfErr result (λ fault. fault ≡ Memory) }
 {
+    // Made by hand (1): `Sheet::of` gives a layer back only when out of memory.
     let Ok(sheet) = Sheet::of(alloc, layer) else {
         return Err(EngineFault::Memory);
     };

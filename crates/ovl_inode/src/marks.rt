@@ -147,6 +147,8 @@ fn name_beside(alloc: Global, text: &str) -> Result<Name, RedirectFault>
         (λ name. (name ≡ text.now) × (redirect_fault text.now ≡ None))
         (λ fault. redirect_fault text.now ≡ redirect_refusal fault) }
 {
+    // Made by hand (1): all that makes a text no name was tested, so no other fault of `Name::of`
+    // comes.
     if text.as_bytes().contains(&b'/') {
         return Err(RedirectFault::Slash);
     }
@@ -258,6 +260,8 @@ enum RedirectReading {
 fn redirect_reading(alloc: Global, inode: &Inode) -> Result<RedirectReading, AllocError>
     ensures { IfOk result (λ reading. reading ≡ marks.redirect_reading inode.now) }
 {
+    // Made by hand (2): out of memory while a redirect is read; every other fault is a malformed
+    // one.
     let Some(value) = inode.attrs.get(overlay::REDIRECT) else {
         return Ok(RedirectReading::Absent);
     };

@@ -24,6 +24,7 @@ impl Part {
         requires { before + count < 2 ^ 64 }
         ensures { IfOk result (λ part. (part.start ≡ before) × (part.end ≡ before + count)) }
     {
+        // Made by hand (1): the texts of one inode's attributes, over 2^32 bytes in sum.
         match (u32::try_from(before), u32::try_from(before + count)) {
             (Ok(start), Ok(end)) => Ok(Part { start, end }),
             _ => Err(AllocError),

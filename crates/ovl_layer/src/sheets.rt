@@ -81,6 +81,7 @@ impl Sheet {
         ensures value { IfOk result (λ sheet. sheet ≡ layer) }
         ensures back { IfErr result (λ back. back ≡ layer) }
     {
+        // Made by hand (1): a refused growth: the layer comes back.
         match Room::of(alloc, &layer) {
             Ok(room) => Ok(Sheet::filled(layer, room)),
             Err(AllocError) => Err(layer),

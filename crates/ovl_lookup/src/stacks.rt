@@ -276,6 +276,7 @@ fn is_outside(number: usize) -> bool
 fn sheets_of(alloc: Global, layers: Vec<Layer>) -> Result<Vec<Sheet>, AllocError>
     ensures { IfOk result (λ sheets. sheets.items ≡ layers.items) }
 {
+    // Made by hand (1): `Sheet::of` gives a layer back only when out of memory.
     let mut sheets = Vec::with_capacity(alloc, layers.len())?;
     for layer in layers {
         let Ok(sheet) = Sheet::of(alloc, layer) else {

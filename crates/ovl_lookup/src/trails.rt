@@ -58,6 +58,7 @@ impl<'a> Trail<'a> {
     pub(crate) fn with(self, names: &Names<'a>) -> Result<Trail<'a>, AllocError>
         ensures { IfOk result (λ trail. trail ≡ self.entry ++ names.now) }
     {
+        // Made by hand (1): a number of names that are in memory.
         let Trail { parts, len } = self;
         let Some(len) = len.checked_add(names.len()) else {
             // More names than memory has room for.

@@ -16,7 +16,7 @@ use ovl_inode::{Attrs, Digest, Inode, Kind, MODE_LIMIT, NSEC_LIMIT, SIZE_LIMIT, 
 use std::alloc::Global;
 use std::borrow::CowStr;
 
-/// The word of a kind, with the two numbers behind that of a device.
+/// The word of a kind, with the two numbers after that of a device.
 #[derive(Clone, Copy)]
 pub(crate) enum Word {
     Dir,
@@ -223,7 +223,7 @@ fn read_attributes(alloc: Global, rest: &mut Rest<'_>) -> Option<Attrs>
     Some(attrs)
 }
 
-// Puts the attribute that comes next behind the others, if its name comes after theirs.
+// Puts the attribute that comes next after the others, if its name comes after theirs.
 fn read_attribute(alloc: Global, rest: &mut Rest<'_>, attrs: &mut Attrs) -> Option<()>
     ensures { IfSome result (λ _. TakesAttribute rest.old attrs.old rest.new attrs.new) }
 {

@@ -20,7 +20,7 @@ use ovl_names::{DEPTH_LIMIT, Name, TEXT_LIMIT};
 use std::alloc::Global;
 use std::borrow::CowStr;
 
-// Fewer bytes than most entries have in a manifest, so that a list with room for one in so many
+// Fewer bytes than most entries have in a manifest, so that a list with room for one in this many
 // bytes of the text seldom grows. Room that no entry takes is never touched.
 const ENTRY_TEXT: usize = 96;
 
@@ -95,7 +95,7 @@ fn read_entries(alloc: Global, rest: &mut Rest<'_>) -> Option<Sheet>
 }
 
 // The draft of the entry of a sound inode, whose path a text spells, if it can be a layer's first;
-// it has room for so many.
+// it has room for this many.
 fn start(alloc: Global, text: &str, inode: Inode, room: usize) -> Option<SheetDraft>
     requires { is_sound_inode inode ≡ true }
     ensures root { IfSome result (λ _. text.now ≡ path_text []) }

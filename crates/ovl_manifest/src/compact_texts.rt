@@ -67,7 +67,7 @@ impl<'a> Rest<'a> {
         Some(())
     }
 
-    // Takes so many bytes.
+    // Takes this many bytes.
     fn take_front(&mut self, count: usize) -> Option<&'a str>
         ensures count { IfSome result (λ front. front.now ≡ take count self.old) }
         ensures text { IfSome result (λ front. self.old ≡ front.now ++ self.new) }
@@ -161,7 +161,7 @@ fn is_same(own: &[u8], other: &[u8]) -> bool
     same
 }
 
-// How long the string is that begins here, up to the first quotation mark behind its own that no
+// How long the string is that begins here, up to the first quotation mark after its own that no
 // backslash escapes.
 fn string_length(bytes: &[u8]) -> usize
     ensures { result ≤ length bytes.now }
@@ -199,7 +199,7 @@ fn string_written(alloc: Global, own: &str) -> Option<String>
     }
 }
 
-// The number that the digits at the front write, and how many they are; of those behind a zero at
+// The number that the digits at the front write, and how many they are; of those after a zero at
 // the very front none counts.
 fn leading_number(bytes: &[u8]) -> Option<(u64, usize)>
     ensures { IfSome result (λ read. decimal read.0 ≡ take read.1 bytes.now) }
@@ -222,7 +222,7 @@ fn leading_number(bytes: &[u8]) -> Option<(u64, usize)>
     Some((number, count))
 }
 
-// The number of the digits at the front, at most so many, and how many they are.
+// The number of the digits at the front, at most this many, and how many they are.
 #[inline(always)]
 fn digits_within(bytes: &[u8], limit: usize) -> (u64, usize)
     requires inside { limit ≤ length bytes.now }

@@ -43,6 +43,7 @@ pub(crate) fn read_entry(
 fn read_path(alloc: Global, version: Version, value: &Value) -> Result<Option<Path>, AllocError>
     ensures { IfOk result (λ path. path ≡ path_field version (view value.now)) }
 {
+    // Made by hand (2): out of memory while a path is read; every other fault is a wrong member.
     let Some(text) = text(value, "path") else {
         return Ok(None);
     };
@@ -251,6 +252,8 @@ pub(crate) fn put_digits(
         (attribute_after attrs.old name.now (string digits.now) ≡ Some attrs.new)
         (attribute_after attrs.old name.now (string digits.now) ≡ None)) }
 {
+    // Made by hand (4): out of memory while an attribute is put, or its value decoded; every other
+    // fault is a wrong member.
     if !are_lower_digits(digits.as_bytes()) {
         return Ok(false);
     }

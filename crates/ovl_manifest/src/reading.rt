@@ -10,7 +10,7 @@ use simdutf8::compat::from_utf8;
 use std::alloc::Global;
 
 /// The layer that the bytes of a manifest state. It is refused with the first fault in the order of
-/// tests that `docs/FORMATS.md` tells, each entry tested before the next; `Memory` can come at any
+/// tests that `docs/FORMATS.md` has, each entry tested before the next; `Memory` can come at any
 /// time. The text is JSON (RFC 8259) in UTF-8, nested at most 127 deep; of members with the same
 /// name the last counts. Memory is taken in proportion to the bytes: for their value, as
 /// `serde_json` reads it, and for the layer.
@@ -42,6 +42,7 @@ fn read_text(alloc: Global, text: &str) -> Result<Layer, LayerFault>
         (λ layer. manifest.read_layer text.now ≡ Ok layer)
         (λ fault. IsFaultOf (manifest.read_layer text.now) fault) }
 {
+    // Made by hand (1): out of memory while the value is read, as `serde_json` says.
     match Value::from_str(alloc, text) {
         Ok(value) => layer_of(alloc, &value),
         Err(error) if error.is_memory() => Err(LayerFault::Memory),
@@ -67,6 +68,7 @@ pub fn read_sheet(alloc: Global, bytes: &[u8]) -> Result<Sheet, LayerFault>
         (λ sheet. manifest.read_layer bytes.now ≡ Ok sheet)
         (λ fault. IsFaultOf (manifest.read_layer bytes.now) fault) }
 {
+    // Made by hand (1): `Sheet::of` gives a layer back only when out of memory.
     let Ok(text) = from_utf8(bytes) else {
         return Err(LayerFault::NotJson);
     };

@@ -20,7 +20,7 @@ pub(crate) fn place_beside<'a>(
         × (text.now ≡ slashed (child_path (take place.0 path) place.1.now))) }
 {
     let bytes = text.as_bytes();
-    // A name has no separator, so of the ends with one behind them the deepest is the directory's.
+    // A name has no separator, so of the ends with one after them the deepest is the directory's.
     let depth = ends.iter().rposition(|end| bytes.get(*end) == Some(&b'/'))?;
     let end = ends[depth];
     let (directory, rest) = text.split_at_checked(end)?;

@@ -16,7 +16,7 @@ use std::alloc::{AllocError, Global};
 
 /// The manifest of a layer: compact JSON whose objects have their members in the byte order of
 /// their names, and a newline. Reading it gives the layer back. Fails only when out of memory. The
-/// format is told in `docs/FORMATS.md`.
+/// format is that of `docs/FORMATS.md`.
 ///
 /// A manifest of any version as one of the last version:
 ///
@@ -93,7 +93,7 @@ fn push_entries(alloc: Global, text: &mut Vec<u8>, layer: &Layer) -> Result<(), 
     Ok(())
 }
 
-// The entries at and under a node, each behind a comma. The path is the text of its directory's,
+// The entries at and under a node, each after a comma. The path is the text of its directory's,
 // where that of the root is empty, and is left so.
 fn push_under(
     alloc: Global,

@@ -177,7 +177,7 @@ fn push_attributes(alloc: Global, text: &mut Vec<u8>, attrs: &Attrs) -> Result<(
     text.extend_from_slice("}}".as_bytes())
 }
 
-// Appends an attribute, behind what is put between it and the one before.
+// Appends an attribute, after what is put between it and the one before.
 fn push_attribute(
     alloc: Global,
     text: &mut Vec<u8>,

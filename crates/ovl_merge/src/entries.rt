@@ -277,6 +277,8 @@ fn renamed(inode: Inode, name: &Name, own: &str) -> Result<Inode, AllocError>
 fn with_value(inode: Inode, name: &str, value: &[u8]) -> Result<Inode, AllocError>
     ensures { IfOk result (λ new. new ≡ merge_down.with_value inode name.now value.now) }
 {
+    // Made by hand (1): an attribute of the overlay's own has a name, so no other fault of
+    // `Attrs::put` comes.
     let mut inode = inode;
     match inode.attrs.put(name, value) {
         Ok(()) => Ok(inode),

@@ -35,6 +35,7 @@ impl<T: Drop> Haul<T> {
         ensures starved { result.starved ≡ false
             → (self.starved ≡ false) × AreInPieceOrder result.parcels.items }
     {
+        // Made by hand (2): a refused growth: the haul says so.
         match sort_parcels(&mut self.parcels) {
             Ok(()) => self,
             Err(AllocError) => {

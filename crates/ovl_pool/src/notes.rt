@@ -67,6 +67,7 @@ impl<'a, R: Wait, K: Ledger, D: Ledger> Notes<'a, R, K, D> {
         ensures parts { (self.new.shares.known.parts ≡ self.old.shares.known.parts)
             × (self.new.shares.delivered.parts ≡ self.old.shares.delivered.parts) }
     {
+        // Made by hand (1): the tally would pass 2^64 - 1 pieces.
         let pieces = self.unnoted + 1;
         if kids == 0 && pieces < UNNOTED_LIMIT {
             self.unnoted = pieces;
@@ -93,6 +94,7 @@ impl<'a, R: Wait, K: Ledger, D: Ledger> Notes<'a, R, K, D> {
         ensures parts { (self.new.shares.known.parts ≡ self.old.shares.known.parts)
             × (self.new.shares.delivered.parts ≡ self.old.shares.delivered.parts) }
     {
+        // Made by hand (1): the tally would pass 2^64 - 1 pieces.
         let mut tally = self.tally.lock(self.rt);
         let Shares { known, delivered } = &mut self.shares;
         if !tally.deliver_many(self.unnoted, 0, known, delivered) {
@@ -109,6 +111,7 @@ impl<'a, R: Wait, K: Ledger, D: Ledger> Notes<'a, R, K, D> {
     pub(crate) fn fail(&mut self) -> Over
         ensures { (self.new.shares ≡ self.old.shares) × (self.new.unnoted ≡ self.old.unnoted) }
     {
+        // Made by hand (1): lets the others know that a worker met a fault, which its haul says.
         self.tally.lock(self.rt).fail()
     }
 

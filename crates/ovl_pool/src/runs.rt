@@ -240,6 +240,7 @@ fn outcome<T: Drop>(
     ensures counted { IfOk result (λ done. CountsAll (vec_len done.0) done.1) }
     ensures fault { IfErr result (IsRunFault haul.refused haul.starved count) }
 {
+    // Made by hand (1): a growth was refused to a worker.
     let Haul {
         parcels,
         refused,
@@ -272,6 +273,8 @@ fn walk_of<T: Drop>(
     ensures counted { IfOk result (λ done. CountsAll (vec_len done.0) done.1) }
     ensures fault { IfErr result (IsEndFault count) }
 {
+    // Made by hand (1): workers that end before all that is known was delivered, which no run has
+    // shown.
     if count.known != count.delivered {
         return Err(RunFault::Memory);
     }

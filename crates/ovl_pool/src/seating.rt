@@ -24,6 +24,8 @@ pub(crate) fn seat_workers(
     ensures one_each { IfOk result (λ r. vec_len r.0 ≡ vec_len seats) }
     ensures root { IfOk result (λ r. HaveRoot root r.0.items) }
 {
+    // Made by hand (1): a new lane is below its end, so it gives a piece back only when out of
+    // memory.
     let (mut workers, thieves) = apart(alloc, seats)?;
     let count = workers.len();
     for number in 0..count {

@@ -118,6 +118,7 @@ impl<W: Work, G: Gate, R: Wait, K: Ledger, D: Ledger> Workshop<'_, W, G, R, K, D
         ensures ended { IsWorkerEnd W.seen W.kids_of W.out_of G.may_refuse self.now
             worker shares result.0 result.1 result.2 }
     {
+        // Made by hand (3): a refused growth: the worker's haul says so, and the others know.
         let mut haul = Haul::empty(self.alloc);
         let mut notes = Notes::of(self.rt, self.tally, shares);
         let idle = Backoff::new();
@@ -174,6 +175,7 @@ impl<W: Work, G: Gate, R: Wait, K: Ledger, D: Ledger> Workshop<'_, W, G, R, K, D
             → IsCleanServed (W.kids_of self.now.work.now piece)
             piece lane.old lane.new notes.old notes.new haul.old haul.new next) }
     {
+        // Made by hand (1): the gate refused the piece: the haul says so, and the others know.
         if !self.gate.pass(&piece) {
             haul.refused = Some(piece);
             return Ok(Prospect::End(notes.fail()));
@@ -195,6 +197,7 @@ fn push_all(lane: &mut Lane, pieces: Vec<Piece>) -> Result<(), AllocError>
     ensures pushed { OnOk result (IsPushed lane.old lane.new pieces.items) }
     ensures within { IsPushedOf lane.old lane.new pieces.items }
 {
+    // Made by hand (1): a lane gives a piece back when out of memory, or at 2^64 - 1 pieces.
     let mut pieces = VecDeque::from(pieces);
     while let Some(piece) = pieces.pop_front() {
         if lane.push(piece).is_err() {

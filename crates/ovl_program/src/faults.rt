@@ -44,6 +44,8 @@ impl ProgramFault {
         ensures told { IsUnread (λ told. told ≡ path.now) result }
         ensures memory { fault ≡ ReadMemory → result ≡ Engine Memory }
     {
+        // Made by hand (4): out of memory while a file is read, or for the path of the fault; makes
+        // the fault of a path of what refused it.
         if fault == ReadFault::Memory {
             return ProgramFault::Engine(EngineFault::Memory);
         }
@@ -57,6 +59,7 @@ impl ProgramFault {
     pub fn status(&self) -> u8
         ensures { result ≡ program_status self.now }
     {
+        // Made by hand (4): the status of the fault, which isn't made here.
         match self {
             ProgramFault::Usage(_) | ProgramFault::Words => 2,
             ProgramFault::Input | ProgramFault::Unread(_) => 3,
@@ -70,6 +73,7 @@ impl ProgramFault {
 fn engine_status(fault: &EngineFault) -> u8
     ensures { result ≡ faults.engine_status fault.now }
 {
+    // Made by hand (1): the status of the fault, which isn't made here.
     match fault {
         EngineFault::Faulty(_) => 1,
         EngineFault::Layers

@@ -99,6 +99,7 @@ fn entries_of(parcels: &[Parcel<Vec<(Name, Look)>>]) -> Result<usize, AllocError
     ensures { IfOk result
         (λ entries. entries ≡ 1 + sum_by (λ parcel. length parcel.out.items) parcels.now) }
 {
+    // Made by hand (1): a sum of lengths of lists in memory, which has fewer bytes than that.
     let mut entries: usize = 1;
     for parcel in parcels {
         entries = entries.checked_add(parcel.out.len()).ok_or(AllocError)?;
@@ -123,6 +124,7 @@ fn parts_by<R: Threads + Sync>(
         → (whole : List ℕ) → AreJoined string_bytes parts.items whole
         → whole ≡ flat_map show_line (take (shares * share) (merged_tree stack))) }
 {
+    // Made by hand (1): the number of a line, of lines that are in memory.
     let write = |index: usize| -> Result<String, AllocError>
         requires { 0 < share }
         ensures { IfOk result
@@ -153,6 +155,7 @@ fn lines_from(
         → IsTreeOf stack root.now (parcel_views (λ looks. looks.items) parcels.now)
         → string_bytes lines ≡ flat_map show_line (take share (drop first (merged_tree stack)))) }
 {
+    // Made by hand (1): the number of a line, of lines that are in memory.
     let end = first.checked_add(share).ok_or(AllocError)?;
     let mut lines = String::with_capacity(alloc, share.saturating_mul(LINE_ROOM))?;
     push_lines(alloc, &mut lines, root, parcels, first, end)?;
@@ -313,6 +316,7 @@ fn push_leaves(
 pub(crate) fn one_more(entries: u64) -> Result<u64, AllocError>
     ensures { IfOk result (λ more. more ≡ entries + 1) }
 {
+    // Made by hand (1): a number of paths that are in memory.
     entries.checked_add(1).ok_or(AllocError)
 }
 

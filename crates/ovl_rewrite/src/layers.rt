@@ -63,6 +63,7 @@ fn refusal(fault: LayerFault) -> RewriteFault
     ensures limit { result ≡ LimitOut → fault ≡ NoMemory → ⊥ }
     ensures memory { result ≡ Memory → fault ≡ NoMemory }
 {
+    // Made by hand (2): out of memory while a layer is made of entries.
     match fault {
         LayerFault::Memory => RewriteFault::Memory,
         _ => RewriteFault::LimitOut,

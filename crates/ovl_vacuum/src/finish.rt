@@ -193,6 +193,7 @@ fn begun(alloc: Global, root: Inode) -> Result<Draft, AllocError>
         (λ draft. (entry_after [] (stated_pair ([], root)) ≡ Ok (draft_entries draft))
         × IsDraft draft) }
 {
+    // Made by hand (1): entries of a layer are one, so no other fault of the draft comes.
     match start_root(alloc, root) {
         Ok(draft) => Ok(draft),
         Err(_) => Err(AllocError),
@@ -218,6 +219,7 @@ fn enter(
         ≡ Ok (draft_entries draft.new))
         × IsDraft draft.new) }
 {
+    // Made by hand (1): entries of a layer are one, so no other fault of the draft comes.
     match add_child(alloc, draft, count, directory, name, inode) {
         Ok(()) => Ok(()),
         Err(_) => Err(AllocError),

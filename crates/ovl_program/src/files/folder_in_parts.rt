@@ -48,6 +48,7 @@ pub fn tell_blobs<R: Files + SharedFiles + AllocGlobal + Threads + Sync>(
 
 // That the path leads to a folder.
 fn find_folder(files: &impl Files, path: &str) -> Result<(), ReadFault> {
+    // Made by hand (1): what leads to no folder isn't one.
     if fs::metadata(files, path)?.is_dir() {
         Ok(())
     } else {

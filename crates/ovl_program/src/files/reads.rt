@@ -114,6 +114,7 @@ fn read_more<R: Read>(
     ensures too_long { result ≡ Err TooLong
         → IfSome (R.remaining reader.old) (λ left. limit < vec_len bytes.old + length left) }
 {
+    // Made by hand (2): a read answered an error; more bytes came than the limit.
     let Ok(count) = reader.read(room) else {
         return Err(ReadFault::Device);
     };

@@ -163,6 +163,7 @@ fn unwritten(mut paths: Vec<String>, fault: OutFault) -> ProgramFault
         → (path : String Global) × ((result ≡ Unwritten path) × Contains paths.items path) }
     ensures report { vec_len paths ≤ fault.part → result ≡ Output }
 {
+    // Made by hand (2): makes the fault of a path of the part that wasn't written.
     let part = usize::from(fault.part);
     if part < paths.len() {
         ProgramFault::Unwritten(paths.swap_remove(part))

@@ -41,6 +41,7 @@ fn write<W: Write>(writer: &mut W, report: &[u8], ending: Ending) -> Result<Endi
         (λ fault. (fault ≡ Output) × ((count : ℕ) × ((count < length report.now)
         × Appends (W.contents writer.old) (W.contents writer.new) (take count report.now)))) }
 {
+    // Made by hand (1): a write failed or took nothing.
     match emit(writer, report) {
         Ok(()) => Ok(ending),
         Err(_) => Err(ProgramFault::Output),

@@ -26,6 +26,7 @@ fn is_there(word: Result<usize, FillError>) -> bool
 pub fn read<R: Env + AllocGlobal>(rt: &R) -> Result<Vec<String>, ProgramFault>
     ensures { IfErr result (λ fault. (fault ≡ Words) ⊎ (fault ≡ Engine Memory)) }
 {
+    // Made by hand (2): the call that gives the words ran out of memory.
     match env::args(rt) {
         Ok(words) => Ok(words.skip(1).collect(rt.alloc())?),
         Err(error) if error.kind() == ErrorKind::OutOfMemory => {

@@ -50,6 +50,7 @@ fn obey<
         + Wait
         + Sync,
 >(rt: &R) -> Result<Ending, ProgramFault> {
+    // Made by hand (3): out of memory while the words are read; the help can't be written.
     let alloc = rt.alloc();
     let mut writer = io::writer(rt);
     if !arguments::are_there(rt) {
