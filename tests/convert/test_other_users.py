@@ -193,6 +193,7 @@ class AnotherUser(OthersTest):
             self.assertEqual(os.lstat(str(path)).st_mode & 0o077, 0, path)
 
 
+@unittest.skipIf(os.geteuid() != 0, "needs root, for owners")
 class AnotherRun(OthersTest):
     """Two runs into one place, and files that come meanwhile."""
 
