@@ -1,9 +1,7 @@
 """The words of the command line, and its help."""
 
 import argparse
-import re
 from collections.abc import Callable, Mapping
-from fractions import Fraction
 
 from . import VERSION
 from .flatten.stack import OutForm
@@ -12,6 +10,7 @@ from .image.compression import COMPRESSIONS, NONE
 from .image.configuration import USUAL_PLATFORM
 from .model.rules import MAX_LAYERS
 from .model.workers import MOST_WORKERS, usual_workers
+from .sizes.limits import Limit, limit_of
 from .squashfs import programs as squashfs
 
 NAME = "layers"
@@ -33,7 +32,7 @@ examples:
 
 exit status:
   0  done
-  1  flatten: the layers have faults, which are on standard output; sizes: --fail-over is exceeded
+  1  flatten: the layers have faults, which are on standard output; sizes: --max-waste is exceeded
   2  the words don't fit
   3  something can't be read, or can't be stated in a manifest or an image
   4  something can't be written
@@ -126,10 +125,10 @@ in .squashfs, else a folder; with --layers over 1, a folder of layers l0, the to
 steps and comparisons are the same, but a squashfs has no sockets, and only times in whole seconds."""
 
 _SIZES = """\
-Print where the bytes of an image's layers go, the topmost layer first: what each layer holds, what of it the
-layers together still show, what layers above hide (deleted or replaced, and shipped all the same), and what
-repeats the contents of a lower layer. Then the sums, what one layer would take, and the largest contents that
-aren't shown, with the layer that hides them. convert/README.md defines each number.
+Print where the bytes of an image's layers go, the topmost layer first: the step of the Dockerfile, the bytes,
+and what of them is wasted: deleted but shipped (layers above remove or replace it), or a duplicate of a lower
+layer. Then the places and the commands that waste most, and the verdict. The table is as wide as the
+terminal, or COLUMNS says, else 80. convert/README.md defines each number.
 
 Contents are copied nowhere. What the layers show comes from the proved program ovl_layers, as in `flatten`.
 
@@ -329,8 +328,16 @@ def _add_sizes(parser: argparse.ArgumentParser) -> None:
     parser.add_argument("--bytes", action="store_true", help="prints exact numbers of bytes")
     parser.add_argument("--html", metavar="FILE", help="page to write besides; - is standard output, in its place")
     parser.add_argument(
-        "--fail-over", metavar="PERCENT", type=_percent,
-        help="ends with status 1 if more than this share of the bytes isn't shown",
+        "--base", metavar="N|IMAGE",
+        help="the lowest N layers, or those of this image, are a base, which doesn't count as waste",
+    )
+    limits = parser.add_mutually_exclusive_group()
+    limits.add_argument(
+        "--max-waste", metavar="PERCENT|BYTES", type=_limit,
+        help="ends with status 1 if more is wasted, such as 10%%, 50MB or 50MiB",
+    )
+    limits.add_argument(
+        "--fail-over", metavar="PERCENT", type=_percent, dest="max_waste", help="the same as --max-waste PERCENT%%"
     )
 
 
@@ -378,11 +385,18 @@ def _data_layers(text: str) -> int:
     return number
 
 
-def _percent(text: str) -> Fraction:
-    share = Fraction(text) if re.fullmatch(r"\d{1,3}(\.\d{1,9})?", text) else Fraction(-1)
-    if not 0 <= share <= 100:
+def _limit(text: str) -> Limit:
+    limit = limit_of(text)
+    if limit is None:
+        raise argparse.ArgumentTypeError("a limit is a share from 0% to 100%, or bytes, such as 50MB or 50MiB")
+    return limit
+
+
+def _percent(text: str) -> Limit:
+    limit = limit_of(f"{text}%")
+    if limit is None:
         raise argparse.ArgumentTypeError("a share is a number from 0 to 100")
-    return share
+    return limit
 
 
 def _platform(text: str) -> str:

@@ -3,30 +3,33 @@
 import os
 import sys
 import tempfile
-from collections.abc import Callable, Iterable, Mapping
+from collections.abc import Callable, Iterable
 from dataclasses import dataclass
-from fractions import Fraction
-from typing import Any
 
-from ..common.faults import FAULTY, Fault, writing
+from ..common.faults import FAULTY, Fault, UsageFault, writing
 from ..common.outputs import STANDARD_OUTPUT, passing_folder
 from ..common.program import require_program, run_program, words_of
 from ..folder.stack_layers import StackOptions, read_stack, require_ordinary
-from ..image.configuration import Document
-from ..image.images import image_place, opened_image
+from ..image.images import Image, image_place, opened_image
 from ..image.members import STANDARD_INPUT
 from ..image.unpack import UnpackOptions, unpack_opened
 from ..model import stacks
-from .layer_sizes import Sizes, sizes_of
+from .base import base_layers
+from .history import steps_of
+from .layer_sizes import sizes_of
+from .limits import Limit
 from .page import write_page
-from .texts import Origin, json_text, per_cent, table
+from .table import screen_width, table
+from .texts import Origin, json_text
+from .waste import Waste, waste_of
 
 _SHOWN = "show"
 _STACK = "stack"
+_MOST_DIGITS = 9
 
 
-class TooMuchHidden(Fault):
-    """More isn't shown than may be."""
+class TooMuchWaste(Fault):
+    """More is wasted than may be."""
 
     status = FAULTY
 
@@ -45,24 +48,29 @@ class SizesOptions:
     as_json: bool = False
     exact: bool = False
     page: str | None = None
-    fail_over: Fraction | None = None
+    max_waste: Limit | None = None
+    base: str | None = None  # an image, or how many of the layers, the lowest ones
 
 
 def sizes(options: SizesOptions, tell: Callable[[Iterable[str]], None]) -> None:
-    """Prints the sizes, and fails if more than may be isn't shown."""
+    """Prints the sizes, and fails if more than may be is wasted."""
     if options.stack is not None:
         require_ordinary(len(options.stack.layers), options.data_layers)
     program = require_program(_given_paths(options))
     with passing_folder(tempfile.gettempdir()) as folder:
-        given = _given_image(options, folder) if options.stack is None else _given_stack(options.stack, folder)
+        given = _given_image(options, folder) if options.stack is None else _given_stack(options, options.stack, folder)
         words = words_of("show", stacks.layer_paths(_STACK, len(given.layers)), "", "", options.data_layers)
         run_program(program, words, folder, _SHOWN, sys.stderr)
         found = sizes_of(given.layers, options.data_layers, f"{folder}/{_SHOWN}")
+    waste = waste_of(found, given.base)
     if options.page is not None:
         write_page(options.page, found, given.origins, given.name)
     if options.page != STANDARD_OUTPUT:
-        tell(json_text(found, given.origins) if options.as_json else table(found, given.origins, options.exact))
-    _require_shown(found, options.fail_over)
+        tell(
+            json_text(found, given.origins) if options.as_json
+            else table(found, given.origins, waste, options.exact, screen_width())
+        )
+    _require_little_waste(waste, options.max_waste)
 
 
 def _given_paths(options: SizesOptions) -> list[str]:
@@ -73,53 +81,62 @@ def _given_paths(options: SizesOptions) -> list[str]:
 
 @dataclass(frozen=True)
 class _Given:
-    """What is measured: its name, its manifests, the topmost first, and how each layer came."""
+    """What is measured: its name, its manifests, the topmost first, how each came, and how many are a base's."""
 
     name: str
     layers: list[str]
     origins: list[Origin]
+    base: int
 
 
 def _given_image(options: SizesOptions, folder: str) -> _Given:
     word = str(options.image)
+    if options.base == word == STANDARD_INPUT:
+        raise UsageFault("the image and its base can't both be standard input")
     path, tag = image_place(word, options.tag)
     out = f"{folder}/{_STACK}"
     with opened_image(path, options.platform, tag) as image:
+        base = _base_of_image(options.base, image, word)
         unpack_opened(UnpackOptions(
             image=path, out=out, skip_unsupported=options.skip_unsupported, overlay_marks=options.overlay_marks,
             digests_only=True,
         ), image)
-        made = made_by(image.configuration, len(image.layers))
-        origins = [Origin(layer.packed_size(), text) for layer, text in zip(image.layers, made)]
+        steps = steps_of(image.configuration, len(image.layers))
+        origins = [
+            Origin(layer.packed_size(), step.made_by if step else None, step) for layer, step in zip(image.layers, steps)
+        ]
     name = next(iter(image.names), word)
-    return _Given(tag or name, stacks.layer_paths(out, len(origins)), origins[::-1])
+    return _Given(tag or name, stacks.layer_paths(out, len(origins)), origins[::-1], base)
 
 
-def _given_stack(options: StackOptions, folder: str) -> _Given:
+def _given_stack(options: SizesOptions, stack: StackOptions, folder: str) -> _Given:
+    count = len(stack.layers)
+    if options.base is not None and not options.base.isdecimal():
+        raise UsageFault("--base IMAGE is for images; with --stack say how many layers")
+    base = 0 if options.base is None else _base_of_number(options.base, count)
     out = f"{folder}/{_STACK}"
     with writing(out):
         os.mkdir(out)
-    read_stack(options, out)
-    count = len(options.layers)
-    origins = [Origin(made_by=layer) for layer in options.layers]
-    return _Given(f"a stack of {count}", stacks.layer_paths(out, count), origins)
+    read_stack(stack, out)
+    origins = [Origin(made_by=layer) for layer in stack.layers]
+    return _Given(f"a stack of {count}", stacks.layer_paths(out, count), origins, base)
 
 
-def made_by(configuration: Document, count: int) -> list[str | None]:
-    """What made each layer, by the image's history, if that has as many layers; the lowest first."""
-    history = configuration.get("history")
-    entries: list[Mapping[str, Any]] = [
-        entry for entry in (history if isinstance(history, list) else [])
-        if isinstance(entry, Mapping) and not entry.get("empty_layer")
-    ]
-    if len(entries) != count:
-        return [None] * count
-    texts = [entry.get("created_by") or entry.get("comment") for entry in entries]
-    return [text if isinstance(text, str) else None for text in texts]
+def _base_of_image(base: str | None, image: Image, word: str) -> int:
+    """How many layers are the base's."""
+    if base is None:
+        return 0
+    if base.isdecimal():
+        return _base_of_number(base, len(image.layers))
+    return base_layers(base, image, word)
 
 
-def _require_shown(found: Sizes, most: Fraction | None) -> None:
-    not_shown = found.sums.bytes - found.sums.shown
-    if most is not None and not_shown * 100 > most * found.sums.bytes:
-        shown = per_cent(found.sums.shown, found.sums.bytes)
-        raise TooMuchHidden(f"{shown} of the bytes are shown, and more than {float(most):g} % aren't")
+def _base_of_number(text: str, count: int) -> int:
+    if len(text) > _MOST_DIGITS or int(text) > count:
+        raise UsageFault(f"--base is {text}, and there are {count} layers")
+    return int(text)
+
+
+def _require_little_waste(waste: Waste, limit: Limit | None) -> None:
+    if limit is not None and limit.is_exceeded(waste.bytes, waste.total):
+        raise TooMuchWaste(f"{waste.bytes} of {waste.total} bytes are wasted, more than {limit.text}")

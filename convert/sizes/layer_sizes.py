@@ -38,6 +38,7 @@ class NotShown:
     file: LayerFile
     is_repeated: bool
     by: int | None  # the layer that hides it, or the one whose contents it repeats
+    is_replaced: bool = False  # whether the layer that hides it has a file in its place
 
 
 @dataclass(slots=True)
@@ -49,6 +50,7 @@ class Sizes:
     merged: LayerSizes = field(default_factory=LayerSizes)  # of the merged tree: entries, files and bytes
     not_shown: list[NotShown] = field(default_factory=list)  # the largest first
     tree: MergedTree = field(default_factory=MergedTree)
+    lowest: dict[bytes, int] = field(default_factory=dict)  # the layer that pays for some contents
 
 
 class _Stack:
@@ -124,12 +126,13 @@ def sizes_of(layers: Sequence[str], data_layers: int, report: str) -> Sizes:
     stack = _Stack(len(layers), data_layers)
     for number in reversed(range(len(layers))):
         stack.take(number, layers[number])
-    sizes = Sizes(stack.layers, tree=stack.tree)
+    sizes = Sizes(stack.layers, tree=stack.tree, lowest=stack.lowest)
     _take_merged(sizes, report)
     paying = _Paying(stack.files, stack.lowest)
+    replacing = _replacing(stack.files)
     for own, files in zip(stack.layers, stack.files):
         for file in files:
-            _classify(sizes, own, file, paying)
+            _classify(sizes, own, file, paying, replacing)
         sizes.sums.add(own)
     sizes.not_shown.sort(key=lambda one: (-one.file.size, one.file.layer))
     return sizes
@@ -156,7 +159,15 @@ class _Paying:
         return file.uses > 0
 
 
-def _classify(sizes: Sizes, own: LayerSizes, file: LayerFile, paying: _Paying) -> None:
+def _replacing(files: Sequence[Sequence[LayerFile]]) -> set[tuple[int | None, str]]:
+    """The files that are in the place of one that they hide: their layers and paths."""
+    hidden = {(file.hidden_by, file.path) for layer in files for file in layer}
+    return hidden & {(file.layer, file.path) for layer in files for file in layer if (file.layer, file.path) in hidden}
+
+
+def _classify(
+    sizes: Sizes, own: LayerSizes, file: LayerFile, paying: _Paying, replacing: set[tuple[int | None, str]],
+) -> None:
     lowest = paying.lowest[file.blob]
     if lowest != file.layer:
         own.repeated += file.size
@@ -165,7 +176,8 @@ def _classify(sizes: Sizes, own: LayerSizes, file: LayerFile, paying: _Paying) -
         own.shown += file.size
     else:
         own.hidden += file.size
-        sizes.not_shown.append(NotShown(file, False, file.hidden_by))
+        is_replaced = (file.hidden_by, file.path) in replacing
+        sizes.not_shown.append(NotShown(file, False, file.hidden_by, is_replaced))
 
 
 def _take_merged(sizes: Sizes, report: str) -> None:

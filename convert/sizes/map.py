@@ -2,6 +2,7 @@
 
 import json
 from collections import Counter
+from collections.abc import Mapping
 from dataclasses import dataclass, field
 from typing import Any
 
@@ -22,7 +23,7 @@ class Place:
     parent: int
     is_folder: bool
     bytes: int = 0
-    layer: int = 0  # where its contents come from; of a directory, most of them
+    layer: int = 0  # which pays for its contents, the lowest that has them; of a directory, for most of them
     files: int = 0
 
 
@@ -73,7 +74,7 @@ def places_of(sizes: Sizes) -> list[Place]:
             layers.append(Counter())
         elif isinstance(node, LayerFile) and id(node) not in seen:
             seen.add(id(node))
-            place = _file_place(path, way[-1], node)
+            place = _file_place(path, way[-1], node, sizes.lowest)
             places.append(place)
             places[way[-1]].bytes += place.bytes
             places[way[-1]].files += 1
@@ -82,9 +83,9 @@ def places_of(sizes: Sizes) -> list[Place]:
     return places
 
 
-def _file_place(path: str, parent: int, file: LayerFile) -> Place:
+def _file_place(path: str, parent: int, file: LayerFile, lowest: Mapping[bytes, int]) -> Place:
     contents = file.contents()
-    layer = file.layer if contents is None else contents.layer
+    layer = file.layer if contents is None else lowest.get(contents.blob, contents.layer)
     return Place(path, parent, False, shown_size(file), layer, 1)
 
 

@@ -65,7 +65,7 @@ def page(sizes: Sizes, origins: Sequence[Origin], of: str) -> Iterator[str]:
 _MAP = """\
 <section id="map" hidden>
 <h2>The merged tree</h2>
-<p class="faint">Area by bytes, colour by the layer that the contents come from. A click goes into a directory; by
+<p class="faint">Area by bytes, colour by the layer that pays for the contents, the lowest with them. A click goes into a directory; by
 keyboard arrows and Enter, and Escape back.</p>
 <nav aria-label="way to the directory"></nav>
 <div class="map"></div>

@@ -1,30 +1,24 @@
-"""What `sizes` prints: a table for a person, or JSON for a program."""
+"""Sizes and shares as texts, and what `sizes` prints for a program."""
 
 import json
-import shutil
 from collections.abc import Iterator, Sequence
 from dataclasses import asdict, dataclass
 from typing import Any
 
-from ..common.escaping import printable
-from .layer_sizes import LayerSizes, NotShown, Sizes
+from .history import Step
+from .layer_sizes import NotShown, Sizes
 
-MOST_LISTED = 20
 _VERSION = 1
 _UNITS = "KMGTPE"
-_NONE = "-"
-_HEADS = (
-    "LAYER", "ENTRIES", "FILES", "BYTES", "SHOWN", "HIDDEN", "REPEATED", "WHITEOUTS", "OPAQUE", "PACKED", "MADE BY",
-)
-_UNCUT = 1 << 20  # columns, if no terminal is there
 
 
 @dataclass(frozen=True)
 class Origin:
-    """How a layer came: its compressed size in the image, and what made it."""
+    """How a layer came: its compressed size in the image, what made it, and which step of the image's history."""
 
     packed: int | None = None
     made_by: str | None = None
+    step: Step | None = None
 
 
 def size_text(size: int, exact: bool = False) -> str:
@@ -42,6 +36,14 @@ def size_text(size: int, exact: bool = False) -> str:
     return f"{whole}{_UNITS[power - 1]}"
 
 
+def amount_text(size: int, exact: bool = False) -> str:
+    """The same in a sentence, with its unit."""
+    if exact or size < 1_024:
+        return f"{size} bytes"
+    text = size_text(size)
+    return f"{text[:-1]} {text[-1]}iB"
+
+
 def per_cent(part: int, whole: int) -> str:
     """A share with one digit after the point, rounded down; of nothing all is there."""
     tenths = 1_000 * part // whole if whole else 1_000
@@ -55,56 +57,10 @@ def not_shown_text(one: NotShown) -> str:
     return "never led to" if one.by is None else f"hidden by layer {one.by}"
 
 
-def table(sizes: Sizes, origins: Sequence[Origin], exact: bool) -> Iterator[str]:
-    """The lines for a person."""
-
-    def told(size: int) -> str:
-        return size_text(size, exact)
-
-    rows = [list(_HEADS)]
-    for number, (own, origin) in enumerate(zip(sizes.layers, origins)):
-        rows.append([str(number), *_numbers(own, exact), *_packed(origin.packed, exact), origin.made_by or _NONE])
-    rows.append(["sum", *_numbers(sizes.sums, exact), *_packed(packed_sum(origins), exact), ""])
-    width = shutil.get_terminal_size((_UNCUT, 0)).columns
-    yield from (line[:width].rstrip() + "\n" for line in _columns(rows, 1))
-    total, shown, merged = sizes.sums.bytes, sizes.sums.shown, sizes.merged.bytes
-    yield f"\n{per_cent(shown, total)} of {told(total)} are shown; {told(sizes.sums.hidden)} are hidden, "
-    yield f"{told(sizes.sums.repeated)} repeated. One layer would take {told(merged)}.\n"
-    if sizes.not_shown:
-        yield "\nThe largest contents that aren't shown:\n"
-        listed = [["BYTES", "LAYER", "WHY", "PATH"]]
-        for one in sizes.not_shown[:MOST_LISTED]:
-            listed.append([told(one.file.size), str(one.file.layer), not_shown_text(one), one.file.path])
-        yield from (line + "\n" for line in _columns(listed, 2))
-
-
-def _numbers(own: LayerSizes, exact: bool) -> list[str]:
-    counts = [f"{own.entries:,}", f"{own.files:,}"]
-    counts += [size_text(size, exact) for size in (own.bytes, own.shown, own.hidden, own.repeated)]
-    return [*counts, f"{own.whiteouts:,}", f"{own.opaque:,}"]
-
-
-def _packed(size: int | None, exact: bool) -> list[str]:
-    return [_NONE if size is None else size_text(size, exact)]
-
-
 def packed_sum(origins: Sequence[Origin]) -> int | None:
     """The bytes of all layers that are compressed; nothing if none is."""
     sizes = [origin.packed for origin in origins if origin.packed is not None]
     return sum(sizes) if sizes else None
-
-
-def _columns(rows: Sequence[Sequence[str]], texts: int) -> Iterator[str]:
-    """Lines of columns, of which the last ones are texts."""
-    rows = [[printable(field) for field in row] for row in rows]
-    widths = [max(map(len, column)) for column in zip(*rows)]
-    first = len(widths) - texts
-    for row in rows:
-        fields = [
-            field.ljust(size) if place >= first else field.rjust(size)
-            for place, (field, size) in enumerate(zip(row, widths))
-        ]
-        yield "  ".join(fields).rstrip()
 
 
 def json_text(sizes: Sizes, origins: Sequence[Origin]) -> Iterator[str]:

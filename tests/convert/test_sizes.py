@@ -37,21 +37,27 @@ _HISTORY = [
     {"created_by": "RUN \x1b[1m remove"}, {"comment": "cleaned"},
 ]
 _TABLE = """\
-LAYER  ENTRIES  FILES  BYTES  SHOWN  HIDDEN  REPEATED  WHITEOUTS  OPAQUE  PACKED  MADE BY
-    0        3      1      3      3       0         0          0       1       -  cleaned
-    1        5      2   5.6K      0       0      5.6K          1       0       -  RUN \\x1b[1m remove
-    2        4      2    21K      0     21K         0          0       0    GZIP  RUN install
-    3        5      3   5.6K   5.6K       0         0          0       0       -  ADD base
-  sum       17      8    33K   5.6K     21K      5.6K          1       1    GZIP
+LAYER  STEP  BYTES  PACKED  WASTED    SHARE  COMMAND
+    0   5/5      3       -       0        -  cleaned
+    1   4/5   5.6K       -    5.6K  100.0 %  RUN \\x1b[1m remove
+    2   3/5    21K    GZIP     21K  100.0 %  RUN install
+    3   1/5   5.6K       -       0        -  ADD base
+  sum          33K    GZIP     27K   82.6 %
 
-17.3 % of 33K are shown; 21K are hidden, 5.6K repeated. One layer would take 6.3K.
+Wasted, by place:
+BYTES  FILES  WHY               PATH
+  20K      1  removed in 5/5    /cache/package
+ 4.9K      1  duplicate in 4/5  /bin/tool
+ 2.2K      2  all others
 
-The largest contents that aren't shown:
-BYTES  LAYER  WHY                PATH
-  20K      2  hidden by layer 0  /cache/package
- 4.9K      1  as in layer 3      /bin/tool
- 1.5K      2  hidden by layer 1  /lib
-  700      1  as in layer 3      /copy
+Wasted, by command:
+BYTES  FILES  WHY               COMMAND
+  20K      1  removed in 5/5    cleaned
+ 5.6K      2  duplicate in 4/5  RUN \\x1b[1m remove
+ 1.5K      1  removed in 4/5    RUN \\x1b[1m remove
+
+5.6K shown, 21K deleted but shipped, 5.6K duplicate; one layer would take 6.3K
+27 KiB of 33 KiB (82.6 %) are wasted; 20 KiB by /cache/package, removed in step 5
 """
 
 
@@ -92,8 +98,8 @@ class SizesTest(FolderTest):
         return len(small)
 
 
-class Definitions(FolderTest):
-    """Random stacks of small layers with every mark, equal contents, and names of one file."""
+class StacksTest(FolderTest):
+    """A test with stacks of small layers."""
 
     def write(self, layers: Sequence[Sequence[Entry]]) -> list[str]:
         """Writes manifests, and which names are one file."""
@@ -103,6 +109,10 @@ class Definitions(FolderTest):
                 file.writelines(written(named(layer)))
             count_links(named(layer)).write(links_path(path), partial(named, layer), path)
         return paths
+
+
+class Definitions(StacksTest):
+    """Random stacks with every mark, equal contents, and names of one file."""
 
     def test_numbers(self) -> None:
         met = set[str]()
@@ -160,8 +170,8 @@ class Telling(SizesTest):
         self.assertEqual((status, told), (0, ""))
         self.assertEqual(printed, _TABLE.replace("GZIP", f"{small:4}"))
         exact = call("sizes", self.path("image"), "--bytes")[1]
-        self.assertIn("17.3 % of 32903 are shown; 21500 are hidden, 5700 repeated. One layer would take 6403.", exact)
-        self.assertIn("20000      2  hidden by layer 0  /cache/package\n", exact)
+        self.assertIn("\n5703 shown, 21500 deleted but shipped, 5700 duplicate; one layer would take 6403\n", exact)
+        self.assertIn("27200 bytes of 32903 bytes (82.6 %) are wasted; 20000 bytes by /cache/package, removed", exact)
 
     def test_progress(self) -> None:
         """On a terminal the bytes of each layer are counted as they are read, to their end."""
@@ -194,14 +204,21 @@ class Telling(SizesTest):
             value["not-shown"][1], {"bytes": 5_000, "layer": 1, "path": "/bin/tool", "why": "repeated", "by": 3}
         )
 
-    def test_a_share_that_must_be_shown(self) -> None:
-        # 27,200 of 32,903 bytes aren't shown: 82.667 %.
+    def test_limits(self) -> None:
+        """27,200 of 32,903 bytes are wasted: 82.667 %."""
         self.write_image()
-        for share, status in (("82.66", 1), ("82.67", 0), ("0", 1), ("100", 0)):
-            result = call("sizes", self.path("image"), "--fail-over", share)
-            self.assertEqual((result[0], result[1][:5]), (status, "LAYER"), share)
-            told = f"layers: 17.3 % of the bytes are shown, and more than {share} % aren't\n" if status else ""
-            self.assertEqual(result[2], told)
+        for words, told in (
+            (("--fail-over", "82.66"), "82.66 %"), (("--fail-over", "82.67"), ""), (("--fail-over", "0"), "0 %"),
+            (("--fail-over", "100"), ""), (("--max-waste", "82.66%"), "82.66 %"), (("--max-waste", "82.67%"), ""),
+            (("--max-waste", "27199"), "27199"), (("--max-waste", "27200"), ""), (("--max-waste", "27KB"), "27KB"),
+            (("--max-waste", "27KiB"), ""), (("--max-waste", "27K"), ""),
+        ):
+            with self.subTest(words=words):
+                status, printed, fault = call("sizes", self.path("image"), *words)
+                self.assertEqual((status, printed[:5]), (1 if told else 0, "LAYER"))
+                self.assertEqual(
+                    fault, f"layers: 27200 of 32903 bytes are wasted, more than {told}\n" if told else ""
+                )
 
     def test_stacks(self) -> None:
         """Manifests, and folders if their marks can be read, in one stack."""
@@ -226,6 +243,13 @@ class Telling(SizesTest):
             (2, (image, "--stack", lone), "name an IMAGE, or layers by --stack LAYER.."),
             (2, (image, "--fail-over", "101"), "a share is a number from 0 to 100"),
             (2, (image, "--fail-over", "1/2"), "a share is a number from 0 to 100"),
+            (2, (image, "--max-waste", "101%"), "a limit is a share from 0% to 100%, or bytes, such as 50MB or 50MiB"),
+            (2, (image, "--max-waste", "5i"), "a limit is"),
+            (2, (image, "--max-waste", "1%", "--fail-over", "1"), "not allowed with"),
+            (2, (image, "--base", "5"), "--base is 5, and there are 4 layers"),
+            (2, ("--base", image, "--stack", lone), "--base IMAGE is for images"),
+            (2, ("-", "--base", "-"), "can't both be standard input"),
+            (3, (image, "--base", self.path("none")), "none"),
             (2, (image, "--data-layers", "1"), "--data-layers is for --stack alone"),
             (2, ("--tag", "x", "--stack", lone), "--tag is for images alone"),
             (2, ("--data-layers", "1", "--stack", lone), "of 1 layer 1 can't be data-only"),

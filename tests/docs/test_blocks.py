@@ -172,7 +172,7 @@ class Jobs(DocumentTest):
 
     def test_images(self) -> None:
         for command in self.commands(r"^layers .*\bshop\b", 7):
-            self.require_done(command, status=1 if "--fail-over" in command else 0)
+            self.require_done(command, status=1 if "--max-waste" in command else 0)
 
     def test_stacks(self) -> None:
         reason = why_not(["root", "sqfs2tar", "tar2sqfs"])

@@ -1,0 +1,208 @@
+"""The table of `sizes`, as wide as the terminal: layers, then the largest wastes, and the verdict last."""
+
+import os
+import re
+import sys
+from collections.abc import Iterable, Iterator, Sequence
+from dataclasses import dataclass
+
+from ..common.escaping import printable
+from .history import short_command
+from .layer_sizes import LayerSizes, Sizes
+from .texts import Origin, amount_text, packed_sum, per_cent, size_text
+from .waste import Cause, Kind, Place, Waste
+
+_USUAL_WIDTH = 80
+_LEAST_TEXT = 10  # columns of a command or a path
+_WIDE_TEXT = 40  # that a command keeps if further columns are added
+_MOST_PLACES = 7
+_MOST_CAUSES = 5
+_VERDICT_LINES = 2
+_GAP = "  "
+_CUT = ".."
+_NONE = "-"
+_MORE = (("SHOWN", "DELETED", "DUPLICATE"), ("FILES", "ENTRIES"), ("WHITEOUTS", "OPAQUE"))
+
+
+@dataclass(frozen=True)
+class _Column:
+    """A head and a field for each row."""
+
+    head: str
+    fields: Sequence[str]
+    is_text: bool = False
+
+    def width(self) -> int:
+        """The columns that it takes of a line."""
+        return max(map(len, [self.head, *self.fields]))
+
+    def lines(self) -> list[str]:
+        """Its lines, numbers to the right."""
+        align = str.ljust if self.is_text else str.rjust
+        return [align(text, self.width()) for text in [self.head, *self.fields]]
+
+
+def screen_width() -> int:
+    """The columns of the terminal that standard output is, or the usual number; COLUMNS goes before both."""
+    if re.fullmatch(r"[1-9]\d{0,5}", stated := os.environ.get("COLUMNS", ""), re.ASCII):
+        return int(stated)
+    if sys.stdout.isatty():
+        return os.get_terminal_size(sys.stdout.fileno()).columns or _USUAL_WIDTH
+    return _USUAL_WIDTH
+
+
+def table(sizes: Sizes, origins: Sequence[Origin], waste: Waste, exact: bool, width: int) -> Iterator[str]:
+    """The lines for a person."""
+    drawn = _Table(sizes, origins, waste, exact, width)
+    yield from drawn.layers()
+    if waste.bytes:
+        yield from drawn.wastes("Wasted, by place:", waste.places, _MOST_PLACES)
+        yield from drawn.wastes("Wasted, by command:", waste.causes, _MOST_CAUSES)
+    yield from drawn.end()
+
+
+def _command(origin: Origin) -> str:
+    """What made a layer, in short."""
+    if origin.made_by is None:
+        return _NONE
+    return printable(short_command(origin.made_by) if origin.step else origin.made_by)
+
+
+def _cut(text: str, width: int) -> str:
+    """The beginning of a text, or the end of a path, if there is no room for all."""
+    if len(text) <= width:
+        return text
+    room = width - len(_CUT)
+    is_path = "/" in text and " " not in text
+    return _CUT + text[-room:] if is_path else text[:room].rstrip() + _CUT
+
+
+class _Table:
+    """What is printed of the same sizes."""
+
+    def __init__(self, sizes: Sizes, origins: Sequence[Origin], waste: Waste, exact: bool, width: int) -> None:
+        self._sizes = sizes
+        self._origins = origins
+        self._waste = waste
+        self._exact = exact
+        self._width = width
+
+    def _size(self, size: int | None) -> str:
+        return _NONE if size is None else size_text(size, self._exact)
+
+    def layers(self) -> Iterator[str]:
+        """A line for each layer, and the sums."""
+        rows = [*self._sizes.layers, self._sizes.sums]
+        commands = [*map(_command, self._origins), ""]
+        columns = self._columns(rows)
+        room = self._room(columns)
+        for heads in _MORE:
+            more = [self._more(head, rows) for head in heads]
+            if self._room(columns + more) < min(_WIDE_TEXT, max(map(len, commands))):
+                break
+            columns, room = columns + more, self._room(columns + more)
+        return _lines(columns, "COMMAND", [_cut(command, room) for command in commands])
+
+    def _columns(self, rows: Sequence[LayerSizes]) -> list[_Column]:
+        """Those of any width; of steps and packed sizes if there are any."""
+        packed = [*(origin.packed for origin in self._origins), packed_sum(self._origins)]
+        columns = [
+            _Column("LAYER", [*map(str, range(len(self._origins))), "sum"]),
+            _Column("STEP", [*(str(origin.step) for origin in self._origins), ""]),
+            _Column("BYTES", [self._size(own.bytes) for own in rows]),
+            _Column("PACKED", list(map(self._size, packed))),
+            _Column("WASTED", [self._size(size) for size in self._wasted(rows)]),
+            _Column("SHARE", [self._share(size, own) for size, own in zip(self._wasted(rows), rows)]),
+        ]
+        left_out = {"STEP": not all(origin.step for origin in self._origins), "PACKED": packed[-1] is None}
+        return [column for column in columns if not left_out.get(column.head)]
+
+    def _wasted(self, rows: Sequence[LayerSizes]) -> list[int | None]:
+        """What each layer wastes, none for those of a base, and the sum."""
+        count = self._waste.layers
+        own: list[int | None] = [layer.hidden + layer.repeated for layer in rows[:count]]
+        return [*own, *[None] * (len(rows) - 1 - count), self._waste.bytes]
+
+    def _share(self, wasted: int | None, own: LayerSizes) -> str:
+        if wasted is None:
+            return "base"
+        whole = self._waste.total if own is self._sizes.sums else own.bytes
+        return per_cent(wasted, whole) if wasted else _NONE
+
+    def _more(self, head: str, rows: Sequence[LayerSizes]) -> _Column:
+        names = {"DELETED": "hidden", "DUPLICATE": "repeated"}
+        numbers: list[int] = [getattr(own, names.get(head, head.lower())) for own in rows]
+        is_size = head in _MORE[0]
+        return _Column(head, [self._size(number) if is_size else f"{number:,}" for number in numbers])
+
+    def _room(self, columns: Iterable[_Column]) -> int:
+        """The columns that are left for a text after these."""
+        return max(_LEAST_TEXT, self._width - sum(column.width() + len(_GAP) for column in columns))
+
+    def wastes(self, title: str, places: Sequence[Place], most: int) -> Iterator[str]:
+        """The largest places, or causes, and a line for the rest."""
+        total = sum(place.bytes for place in self._waste.causes)
+        files = sum(place.files for place in self._waste.causes)
+        listed = places[:most]
+        if sum(place.bytes for place in listed) < total:
+            listed = places[:most - 1]
+        sizes, counts = [place.bytes for place in listed], [place.files for place in listed]
+        whys = [self._cause(place.cause) for place in listed]
+        is_command = places is self._waste.causes
+        texts = [_command(self._origins[it.cause.layer]) if is_command else _path_text(it) for it in listed]
+        if sum(sizes) < total:
+            sizes.append(total - sum(sizes))
+            counts.append(files - sum(counts))
+            whys.append("all others")
+            texts.append("")
+        columns = [
+            _Column("BYTES", list(map(self._size, sizes))), _Column("FILES", [f"{count:,}" for count in counts]),
+            _Column("WHY", whys, is_text=True),
+        ]
+        room = self._room(columns)
+        yield f"\n{title}\n"
+        yield from _lines(columns, "COMMAND" if is_command else "PATH", [_cut(text, room) for text in texts])
+
+    def _cause(self, cause: Cause) -> str:
+        if cause.kind is Kind.UNUSED:
+            return str(cause.kind.value)
+        step = self._origins[cause.layer].step
+        return f"{cause.kind.value} in {step or f'layer {cause.layer}'}"
+
+    def end(self) -> Iterator[str]:
+        """The sums, and the verdict."""
+        waste = self._waste
+        shown = waste.total - waste.bytes
+        yield f"\n{self._size(shown)} shown, {self._size(waste.deleted)} deleted but shipped, "
+        yield f"{self._size(waste.duplicate)} duplicate; one layer would take {self._size(self._sizes.merged.bytes)}\n"
+        yield f"{verdict(waste, self._origins, self._exact, _VERDICT_LINES * self._width)}\n"
+
+
+def _path_text(place: Place) -> str:
+    return printable(place.path + "/" if place.is_folder and place.path != "/" else place.path)
+
+
+def verdict(waste: Waste, origins: Sequence[Origin], exact: bool, width: int) -> str:
+    """What of all is wasted, and what wastes most, in so many columns if its path can be shortened to that."""
+    over = " over the base" if waste.has_base else ""
+    if not waste.bytes:
+        return f"nothing of {amount_text(waste.total, exact)}{over} is wasted"
+    text = (
+        f"{amount_text(waste.bytes, exact)} of {amount_text(waste.total, exact)}{over} "
+        f"({per_cent(waste.bytes, waste.total)}) are wasted"
+    )
+    if not waste.places:
+        return text
+    worst = waste.places[0]
+    layer = worst.cause.layer
+    step = origins[layer].step
+    by = "never used" if worst.cause.kind is Kind.UNUSED else worst.cause.kind.value
+    where = f"step {step.number}" if step else f"layer {layer}"
+    begin, end = f"{text}; {amount_text(worst.bytes, exact)} by ", f", {by} in {where}"
+    return begin + _cut(_path_text(worst), max(_LEAST_TEXT, width - len(begin) - len(end))) + end
+
+
+def _lines(columns: Sequence[_Column], head: str, texts: Sequence[str]) -> Iterator[str]:
+    """Lines of columns of which the last one has texts."""
+    for fields in zip(*(column.lines() for column in columns), [head, *texts]):
+        yield _GAP.join(fields).rstrip() + "\n"

@@ -1,0 +1,116 @@
+"""What of the layers' bytes is wasted, at which places, and by which layer."""
+
+from collections.abc import Iterable, Iterator
+from dataclasses import dataclass, field
+from enum import Enum
+
+from .layer_sizes import NotShown, Sizes
+
+_LEAST_PART = 10  # a place is listed from this part of the waste on
+_ROOT = "/"
+
+
+class Kind(Enum):
+    """How bytes are wasted."""
+
+    REMOVED = "removed"
+    REPLACED = "replaced"
+    DUPLICATE = "duplicate"
+    UNUSED = "never used"
+
+
+@dataclass(frozen=True)
+class Cause:
+    """What wastes bytes: a layer that removes or replaces them, that has them again, or has them in vain."""
+
+    kind: Kind
+    layer: int
+
+
+@dataclass
+class Place:
+    """What one cause wastes at a path: a file, or a directory without what is listed of it."""
+
+    cause: Cause
+    path: str
+    bytes: int = 0
+    files: int = 0
+    is_folder: bool = False
+
+    def add(self, other: "Place") -> None:
+        """Adds what is wasted at another place."""
+        self.bytes += other.bytes
+        self.files += other.files
+
+
+@dataclass
+class Waste:
+    """What the layers over a base waste, the largest places and causes first."""
+
+    layers: int  # those over the base, the topmost ones
+    has_base: bool
+    total: int = 0
+    deleted: int = 0
+    duplicate: int = 0
+    causes: list[Place] = field(default_factory=list)  # at the root
+    places: list[Place] = field(default_factory=list)
+
+    @property
+    def bytes(self) -> int:
+        """All that is wasted."""
+        return self.deleted + self.duplicate
+
+
+def waste_of(sizes: Sizes, base: int) -> Waste:
+    """What is wasted but for so many layers of a base, the lowest ones."""
+    count = len(sizes.layers) - base
+    own = sizes.layers[:count]
+    waste = Waste(
+        count, base > 0, sum(layer.bytes for layer in own), sum(layer.hidden for layer in own),
+        sum(layer.repeated for layer in own),
+    )
+    by_cause = dict[Cause, dict[str, Place]]()
+    for one in sizes.not_shown:
+        if one.file.layer < count and one.file.size:
+            cause = _cause_of(one)
+            files = by_cause.setdefault(cause, {})
+            files.setdefault(one.file.path, Place(cause, one.file.path)).add(Place(cause, "", one.file.size, 1))
+    least = -(-waste.bytes // _LEAST_PART)
+    for cause, files in by_cause.items():
+        waste.causes.append(_sum_of(cause, files.values()))
+        waste.places.extend(_large_places(files, least))
+    for places in (waste.causes, waste.places):
+        places.sort(key=lambda place: (-place.bytes, place.cause.layer, place.path))
+    return waste
+
+
+def _cause_of(one: NotShown) -> Cause:
+    if one.is_repeated:
+        return Cause(Kind.DUPLICATE, one.file.layer)
+    if one.by is None:
+        return Cause(Kind.UNUSED, one.file.layer)
+    return Cause(Kind.REPLACED if one.is_replaced else Kind.REMOVED, one.by)
+
+
+def _sum_of(cause: Cause, places: Iterable[Place]) -> Place:
+    total = Place(cause, _ROOT, is_folder=True)
+    for place in places:
+        total.add(place)
+    return total
+
+
+def _large_places(files: dict[str, Place], least: int) -> Iterator[Place]:
+    """The deepest places of at least so many bytes, each without those in it; smaller ones count for their directory."""
+    levels = dict[int, dict[str, Place]]()
+    for path, place in files.items():
+        levels.setdefault(path.count("/"), {})[path] = place
+    for depth in range(max(levels, default=0), 0, -1):
+        for path, place in levels.get(depth, {}).items():
+            if place.bytes >= least:
+                yield place
+                continue
+            above = path.rpartition("/")[0] or _ROOT
+            folder = levels.setdefault(depth - 1, {}).setdefault(above, Place(place.cause, above))
+            folder.is_folder = True
+            folder.add(place)
+    yield from (root for root in levels.get(0, {}).values() if root.bytes >= least)

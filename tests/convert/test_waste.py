@@ -1,0 +1,209 @@
+"""`sizes` on waste: commands in short, the table on a terminal, bases, and the layer that pays."""
+
+import fcntl
+import os
+import pty
+import re
+import struct
+import termios
+import unittest
+from unittest import mock
+
+from images import archive, folder, member, put_index, put_manifest
+from plain_stacks import PlainStack, random_stack
+from support import call
+from test_sizes import SizesTest, StacksTest
+
+from convert import cli as command
+from convert.sizes.history import short_command, steps_of
+from convert.sizes.layer_sizes import sizes_of
+from convert.sizes.limits import limit_of
+from convert.sizes.map import places_of
+from convert.sizes.waste import waste_of
+
+_ROWS, _COLUMNS = 24, 80
+_STACKS = 60
+_COMMANDS = (
+    ("/bin/sh -c #(nop) COPY file:92510215e4 in /opt/data.bin ", "COPY /opt/data.bin"),
+    ("/bin/sh -c #(nop)  COPY --chown=33:33 dir:0a1b in /srv", "COPY /srv"),
+    ("/bin/sh -c #(nop) ADD multi:0a1b in /etc/app/ ", "ADD /etc/app/"),
+    ('/bin/sh -c #(nop)  CMD ["bash"]', 'CMD ["bash"]'),
+    ("/bin/sh -c apt-get install -y curl", "RUN apt-get install -y curl"),
+    ("|2 A=1 B=two words /bin/sh -c make", "RUN make"),
+    ("/bin/bash -o pipefail -c curl x | tar x", "RUN curl x | tar x"),
+    ("/bin/bash -euo pipefail -c make", "RUN make"),
+    ("/bin/sh -c set -eux; \tapt-get update; \\\n\tapt-get install x", "RUN apt-get update; \\ apt-get install x"),
+    ("RUN /bin/sh -c apt-get install -y curl # buildkit", "RUN apt-get install -y curl"),
+    ("RUN |1 V=3 /bin/sh -c set -e && make install # buildkit", "RUN make install"),
+    ("RUN make # from kaniko", "RUN make # from kaniko"),
+    ("COPY data.bin /opt/data.bin # buildkit", "COPY /opt/data.bin"),
+    ("COPY --chown=33:33 --link a b /srv/ # buildkit", "COPY /srv/"),
+    ('COPY ["a b", "/srv/c d"]', 'COPY ["a b", "/srv/c d"]'),
+    ("cmd /S /C dir", "RUN dir"),
+    ("# debian.sh --arch 'amd64' out/ 'bookworm'", "# debian.sh --arch 'amd64' out/ 'bookworm'"),
+    ("/bin/sh", "/bin/sh"),
+    ("/usr/bin/shred /x", "/usr/bin/shred /x"),
+    ("", ""),
+)
+_LIMITS = (
+    ("10%", 10, 100, False), ("10%", 11, 100, True), ("0%", 0, 0, False), ("0.5 %", 6, 1_000, True),
+    ("50MB", 50_000_000, 0, False), ("50MB", 50_000_001, 0, True), ("1KiB", 1_024, 0, False), ("1K", 1_025, 0, True),
+    ("2GiB", 2 << 30, 0, False), ("7B", 8, 0, True), ("0", 1, 1, True),
+)
+_NO_LIMITS = ("", "%", "101%", "-1", "1.5M", "1KI", "1Ki", "iB", "1iB", "1 %%", "10 percent", "9" * 19)
+
+
+class Words(unittest.TestCase):
+    """Commands of Dockerfiles, their steps, and limits."""
+
+    def test_commands(self) -> None:
+        for text, short in _COMMANDS:
+            self.assertEqual(short_command(text), short, text)
+
+    def test_a_long_command_takes_no_long_time(self) -> None:
+        for text in ("|1 " * 300_000, "set -e " * 200_000, "/" * 500_000, "COPY --a " * 200_000, "/sh -o a" * 100_000):
+            short_command(text)
+
+    def test_steps(self) -> None:
+        history: list[object] = [{"created_by": "a"}, {"empty_layer": True}, {"comment": "c"}, {"created_by": 5}]
+        steps = steps_of({"history": history}, 3)
+        self.assertEqual([(str(step), step and step.made_by) for step in steps], [("1/4", "a"), ("3/4", "c"), ("4/4", None)])
+        for other in (history[:2], None, "text", [*history, {}]):
+            self.assertEqual(steps_of({"history": other}, 3), [None] * 3)
+
+    def test_limits(self) -> None:
+        for text, wasted, total, is_exceeded in _LIMITS:
+            limit = limit_of(text)
+            assert limit is not None, text
+            self.assertEqual(limit.is_exceeded(wasted, total), is_exceeded, (text, wasted))
+        for text in _NO_LIMITS:
+            self.assertIsNone(limit_of(text), text)
+
+
+class Numbers(StacksTest):
+    """On random stacks: each byte that is wasted has one place and one cause, and the map pays as the table does."""
+
+    def test_numbers(self) -> None:
+        for seed in range(_STACKS):
+            layers, data_layers = random_stack(seed)
+            paths = self.write(layers)
+            with open(self.path("report"), "w", encoding="ascii") as file:
+                file.writelines(PlainStack(layers, data_layers).report())
+            sizes = sizes_of(paths, data_layers, self.path("report"))
+            with self.subTest(seed=seed):
+                for base in range(len(layers) + 1):
+                    waste, own = waste_of(sizes, base), sizes.layers[:len(layers) - base]
+                    self.assertEqual(waste.bytes, sum(layer.hidden + layer.repeated for layer in own))
+                    self.assertEqual(sum(cause.bytes for cause in waste.causes), waste.bytes)
+                    self.assertLessEqual(sum(place.bytes for place in waste.places), waste.bytes)
+                paying = {number for number, layer in enumerate(sizes.layers) if layer.shown}
+                drawn = {place.layer for place in places_of(sizes) if place.bytes and not place.is_folder}
+                self.assertEqual(drawn, paying)
+
+
+class OfImages(SizesTest):
+    """What is printed of images."""
+
+    def put(self, name: str, layers: list[bytes], commands: list[str]) -> str:
+        """Writes an image, the lowest layer first."""
+        path = self.path(name)
+        os.mkdir(path)
+        history = [{"created_by": text} for text in commands]
+        put_index(path, [put_manifest(
+            path, layers, layers, "linux/amd64", {"os": "linux", "architecture": "amd64", "history": history},
+        )])
+        return path
+
+    def test_places(self) -> None:
+        """Small files count for their directory, large ones by themselves, each for the layer that hid it."""
+        lists = [member(f"var/lists/{number}", bytes([number]) * 1_000) for number in range(30)]
+        first = [folder("var"), folder("var/lists"), *lists, member("big", b"b" * 40_000), member("conf", b"c" * 20_000)]
+        second = [member(".wh.big"), member("conf", b"d" * 10), folder("var"), member("var/.wh.lists")]
+        image = self.put("image", [archive(first), archive(second)], ["COPY a /", "RUN rm -r /big /var/lists"])
+        printed = call("sizes", image)[1]
+        for line in (
+            "  40K      1  removed in 2/2   /big", "  30K     30  removed in 2/2   /var/lists/",
+            "  20K      1  replaced in 2/2  /conf", "  69K     31  removed in 2/2   RUN rm -r /big /var/lists",
+        ):
+            self.assertIn(f"{line}\n", printed)
+        self.assertTrue(printed.endswith("(99.9 %) are wasted; 40 KiB by /big, removed in step 2\n"), printed)
+
+    def test_nothing_wasted(self) -> None:
+        image = self.put("image", [archive([member("a", b"a")])], ["COPY a /"])
+        self.assertTrue(call("sizes", image)[1].endswith("\nnothing of 1 bytes is wasted\n"))
+
+    def test_bases(self) -> None:
+        layers = [archive([member("a", b"a" * 100)]), archive([member("b", b"b" * 50)]), archive([member(".wh.a"), member("c", b"b" * 50)])]
+        image = self.put("image", layers, ["COPY a", "COPY b", "RUN x"])
+        base = self.put("base", layers[:2], ["COPY a", "COPY b"])
+        other = self.put("other", [layers[0], layers[2]], ["COPY a", "COPY c"])
+        for word, end in (
+            ("0", "150 bytes of 200 bytes (75.0 %) are wasted; 100 bytes by /a, removed in step 3\n"),
+            ("1", "50 bytes of 100 bytes over the base (50.0 %) are wasted; 50 bytes by /c, duplicate in step 3\n"),
+            (base, "50 bytes of 50 bytes over the base (100.0 %) are wasted; 50 bytes by /c, duplicate in step 3\n"),
+            (image, "nothing of 0 bytes over the base is wasted\n"),
+        ):
+            status, printed, told = call("sizes", image, "--base", word)
+            self.assertEqual((status, told), (0, ""))
+            self.assertTrue(printed.endswith(end), printed)
+        self.assertEqual(call("sizes", image, "--base", base, "--max-waste", "50")[0], 0)
+        self.assertEqual(call("sizes", image, "--base", base, "--max-waste", "49")[0], 1)
+        self.require_fault(call("sizes", image, "--base", other), 2, "they part at layer 1 of the image")
+        self.require_fault(call("sizes", base, "--base", image), 2, "it has 3 layers, and the image has 2")
+
+    def test_widths(self) -> None:
+        """No line is wider than what COLUMNS says, and what there is room for is there."""
+        image = self.path("image")
+        self.write_image()
+        for columns, heads in (("80", "LAYER STEP BYTES PACKED WASTED SHARE"), ("300", "SHOWN DELETED DUPLICATE FILES")):
+            with mock.patch.dict(os.environ, COLUMNS=columns):
+                printed = call("sizes", image)[1]
+            self.assertLessEqual(max(map(len, printed.splitlines())), max(int(columns), 82))
+            self.assertLessEqual(set(heads.split()), set(printed.splitlines()[0].split()))
+
+    def test_the_last_screen(self) -> None:
+        """On a terminal of 80 x 24 the verdict and the three worst lines of a Dockerfile of 40 steps are in sight."""
+        worst = {7: "rm -rf /srv/seven", 19: "rm -rf /srv/nineteen", 33: "rm -rf /srv/thirty"}
+        layers, commands = [], []
+        for step in range(40):
+            names = {7: 1, 19: 2, 33: 3}
+            gone = [member(f"srv/.wh.{'long-name-' * 20}{step - 1}")] if step in worst else []
+            data = bytes([step]) * (9_000 * names.get(step + 1, 0) or 10)
+            layers.append(archive([folder("srv"), *gone, member(f"srv/{'long-name-' * 20}{step}", data)]))
+            commands.append(f"/bin/sh -c {worst.get(step, 'touch ' + 'x' * 200)}")
+        screen = self.on_terminal("sizes", self.put("image", layers, commands))
+        self.assertEqual([line for line in screen if len(line) > _COLUMNS], [])
+        for text in worst.values():
+            self.assertTrue(any(line.endswith(f"RUN {text}") for line in screen[:-1]), screen)
+        self.assertRegex("".join(screen), r"53 KiB of 54 KiB \(9\d\.\d %\) are wasted; 27 KiB by \S+32, removed in step 34$")
+
+    def on_terminal(self, *words: str) -> list[str]:
+        """What is on a terminal's last screen before its prompt, when a command has ended."""
+        child, terminal = pty.fork()
+        if child == 0:
+            status = 70
+            try:
+                fcntl.ioctl(1, termios.TIOCSWINSZ, struct.pack("HHHH", _ROWS, _COLUMNS, 0, 0))
+                os.environ.pop("COLUMNS", None)
+                status = command.main(list(words))
+            finally:
+                os._exit(status)
+        with open(terminal, "rb", buffering=0) as file:
+            text = b""
+            while data := _read(file.fileno()):
+                text += data
+        self.assertEqual(os.waitstatus_to_exitcode(os.waitpid(child, 0)[1]), 0, text)
+        lines = [line.rpartition("\r")[2] for line in text.decode().removesuffix("\r\n").split("\r\n")]
+        rows = [row for line in lines for row in re.findall(f".{{1,{_COLUMNS}}}", line) or [""]]
+        return rows[1 - _ROWS:]
+
+
+def _read(terminal: int) -> bytes:
+    try:
+        return os.read(terminal, 1 << 16)
+    except OSError:  # nobody has its other side any more
+        return b""
+
+
+if __name__ == "__main__":
+    unittest.main()
