@@ -23,6 +23,8 @@ from .image.compression import COMPRESSIONS, NONE
 from .image.pack import PackOptions, pack
 from .image.targets import Target, target_of
 from .image.unpack import UnpackOptions, unpack
+from .look.diff import DiffOptions, diff
+from .look.sources import Choice
 from .model.stacks import BLOBS, require_order, stack_in
 from .sizes.command import SizesOptions, sizes
 from .words import NAME, Run, parser_of
@@ -197,6 +199,20 @@ def _sizes(words: argparse.Namespace) -> None:
     ), _print)
 
 
+def _diff(words: argparse.Namespace) -> None:
+    diff(DiffOptions(
+        old=_folder(words.old), new=_folder(words.new), choice=_choice(words), ignored=words.ignore,
+        with_configuration=words.config, as_json=words.json, only_sums=words.stat,
+    ), _print)
+
+
+def _choice(words: argparse.Namespace) -> Choice:
+    return Choice(
+        platform=words.platform, tag=words.tag, skip_unsupported=words.skip_unsupported,
+        overlay_marks=words.overlay_marks,
+    )
+
+
 def _target(word: str, is_told: bool = False) -> Target:
     """Where an image goes; never to a terminal."""
     target = target_of(word)
@@ -217,6 +233,7 @@ def _print(lines: Iterable[str]) -> None:
 _RUNS: Mapping[str, Run] = {
     "flatten": _flatten,
     "sizes": _sizes,
+    "diff": _diff,
     "unpack": _unpack,
     "pack": _pack,
     "scan": _scan,

@@ -8,6 +8,7 @@ from .flatten.stack import OutForm
 from .folder.build_squashfs import SUFFIX as SQUASHFS_SUFFIX
 from .image.compression import COMPRESSIONS, NONE
 from .image.configuration import USUAL_PLATFORM
+from .look.changes import ASPECTS
 from .model.rules import MAX_LAYERS
 from .model.workers import MOST_WORKERS, usual_workers
 from .sizes.limits import Limit, limit_of
@@ -32,7 +33,7 @@ examples:
 
 exit status:
   0  done
-  1  flatten: the layers have faults, which are on standard output; sizes: --max-waste is exceeded
+  1  flatten: the layers have faults, on standard output; sizes: --max-waste is exceeded; diff: they differ
   2  the words don't fit
   3  something can't be read, or can't be stated in a manifest or an image
   4  something can't be written
@@ -135,6 +136,21 @@ Contents are copied nowhere. What the layers show comes from the proved program 
 --stack takes layers in place of an image, the topmost first: folders, squashfs files, tar archives of folders,
 and manifests, whose contents aren't needed. Only root can read the marks of folders."""
 
+_DIFF = """\
+Print what differs between what two sources show, a line for each path, in path order: + PATH if only NEW shows
+it, - PATH if only OLD does, M PATH if both do, with what differs: contents, mode, owner, mtime, attributes,
+link (a symlink's target), device, kind. In a path \\xHH is a byte that can't be seen.
+
+OLD and NEW are each an IMAGE, a folder that `unpack` or `store` wrote, or any other folder: a tree as it is
+mounted, without a configuration, whose trusted.* attributes only root can read. Contents are copied nowhere.
+What layers show comes from the proved program ovl_layers, as in `flatten`.
+
+The lines before these have the members of the configuration that differ. rootfs, history and created, which say
+how the layers were made, aren't compared. Neither are hard links.
+
+--json prints an object a line: {"layers-diff":1}, the changes, and the numbers. Status 1 says that they differ.
+Two builds of one image are compared by `--ignore mtime`."""
+
 _MOUNTED = """\
 Print what is in a folder, such as a mounted overlay, as `ovl_layers show` prints it, so that the two
 can be compared."""
@@ -160,7 +176,7 @@ def parser_of(runs: Mapping[str, Run]) -> argparse.ArgumentParser:
     parser.add_argument("--version", action="version", version=f"{NAME} {VERSION}", help="print the version")
     parser.add_argument(
         "--unproved", action="store_true",
-        help="in a checkout: run ovl_layers as compiled without proofs (a minute and a half, the first time)",
+        help="in a checkout: run ovl_layers as compiled without proofs (90 s, once)",
     )
     commands = parser.add_subparsers(title="commands", metavar="COMMAND", required=True)
     for name, short, long, add in _COMMANDS:
@@ -235,6 +251,11 @@ def _add_image(parser: argparse.ArgumentParser, may_be_absent: bool = False) -> 
         parser.add_argument("image", metavar="IMAGE", nargs="?", help=_IMAGE)
     else:
         parser.add_argument("image", metavar="IMAGE", help=_IMAGE)
+    _add_choice(parser)
+
+
+def _add_choice(parser: argparse.ArgumentParser) -> None:
+    """Which of several images is read, and how."""
     parser.add_argument("--platform", metavar="OS/ARCH", help="which of several images, such as linux/amd64")
     parser.add_argument("--tag", metavar="NAME", help="which of several images, by its name in the image's index")
     parser.add_argument(
@@ -341,6 +362,19 @@ def _add_sizes(parser: argparse.ArgumentParser) -> None:
     )
 
 
+def _add_diff(parser: argparse.ArgumentParser) -> None:
+    parser.add_argument("old", metavar="OLD", help="image, folder that unpack wrote, or mounted tree; - is standard input")
+    parser.add_argument("new", metavar="NEW", help="the same")
+    parser.add_argument(
+        "--ignore", metavar="WHAT,..", type=_aspects, default=frozenset(),
+        help=f"doesn't compare these: {', '.join(ASPECTS)}",
+    )
+    parser.add_argument("--no-config", dest="config", action="store_false", help="doesn't compare the configurations")
+    parser.add_argument("--stat", action="store_true", help="prints only numbers")
+    parser.add_argument("--json", action="store_true", help="prints objects for a program, one a line")
+    _add_choice(parser)
+
+
 def _add_mounted(parser: argparse.ArgumentParser) -> None:
     parser.add_argument("folder", metavar="DIR", help="mounted tree")
     _add_cross(parser)
@@ -399,6 +433,13 @@ def _percent(text: str) -> Limit:
     return limit
 
 
+def _aspects(text: str) -> frozenset[str]:
+    aspects = frozenset(text.split(","))
+    if not aspects <= set(ASPECTS):
+        raise argparse.ArgumentTypeError(f"what is ignored is one of {', '.join(ASPECTS)}, or several with commas")
+    return aspects
+
+
 def _platform(text: str) -> str:
     if text.count("/") not in (1, 2) or not all(text.split("/")):
         raise argparse.ArgumentTypeError("a platform is OS/ARCH or OS/ARCH/VARIANT")
@@ -416,6 +457,7 @@ def _name(text: str) -> str:
 _COMMANDS = (
     ("flatten", "write an image or a stack as one layer", _FLATTEN, _add_flatten),
     ("sizes", "print what each layer holds, and what of it isn't shown", _SIZES, _add_sizes),
+    ("diff", "print what differs between two images, or trees", _DIFF, _add_diff),
     ("unpack", "write an image's layers as manifests and blobs", _UNPACK, _add_unpack),
     ("pack", "write manifests and blobs as an image", _PACK, _add_pack),
     ("scan", "write a layer as a manifest and blobs", _SCAN, _add_scan),

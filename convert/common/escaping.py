@@ -7,6 +7,7 @@ from collections.abc import Callable
 quoted: Callable[[str], str] = json.encoder.encode_basestring  # type: ignore[attr-defined]
 _BLANK = re.compile("[\u115f\u1160\u2800\u3164\uffa0]")  # letters to Unicode, and nothing to the eye
 _PLAIN = re.compile(rb"[\x21-\x5b\x5d-\x7e]*\Z")
+_ESCAPE = re.compile(rb"\\x([0-9a-f]{2})")
 
 
 def escaped(data: bytes) -> str:
@@ -16,6 +17,11 @@ def escaped(data: bytes) -> str:
     return "".join(
         chr(byte) if 0x21 <= byte <= 0x7E and byte != 0x5C else f"\\x{byte:02x}" for byte in data
     )
+
+
+def unescaped(text: str) -> bytes:
+    """The bytes that `escaped` writes so."""
+    return _ESCAPE.sub(lambda found: bytes([int(found[1], 16)]), text.encode("ascii", "replace"))
 
 
 def printable(text: str) -> str:

@@ -244,7 +244,7 @@ def _beside_umoci(room: str, kind: str) -> tuple[str | None, str]:
         return None, "refused by umoci"
     if os.path.exists(f"{room}/out/l1.json"):
         return None, kind
-    ours, theirs = dict(_stated(f"{room}/out")), dict(_walked(f"{room}/tree"))
+    ours, theirs = dict(_stated(f"{room}/out")), dict(walked(f"{room}/tree"))
     different = [path for path in sorted({*ours, *theirs}) if ours.get(path) != theirs.get(path)]
     if not different:
         return None, "equal"
@@ -270,7 +270,7 @@ def _state_of(entry: Entry) -> State:
     return entry.kind, mode, entry.uid, entry.gid, time_ns, entry.blob, entry.target or None, device, tuple(sorted(attributes.items()))
 
 
-def _walked(folder: str) -> Iterator[tuple[str, State]]:
+def walked(folder: str) -> Iterator[tuple[str, State]]:
     """The same of a tree."""
     for way, folders, files in os.walk(folder):
         for name in [*folders, *files]:

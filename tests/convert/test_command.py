@@ -33,7 +33,7 @@ from convert.image.compression import BLOCK, GZIP, packing
 from convert.model.manifests import read_manifest
 
 A = hashlib.sha256(b"a").hexdigest()
-COMMANDS = ("scan", "store", "build", "unpack", "pack", "flatten", "mounted")
+COMMANDS = ("scan", "store", "build", "unpack", "pack", "flatten", "diff", "mounted")
 
 
 def _clone(target: int, _: int, source: int) -> None:

@@ -18,7 +18,7 @@ from convert import VERSION
 VERSION_TEXT = ROOT / "examples" / "version.txt"
 _OPTION = re.compile(r"(?<![\w-])--[a-z][a-z-]*")
 _WIDTH = 111  # of the help texts; what the options mean is broken as the terminal wants it
-_COMMANDS = ("scan", "store", "build", "unpack", "pack", "flatten", "sizes", "mounted")
+_COMMANDS = ("scan", "store", "build", "unpack", "pack", "flatten", "sizes", "diff", "mounted")
 INSTALLED = ["bin/layers", "bin/ovl_layers", "share/man/man1/layers.1", "share/man/man1/ovl_layers.1"]
 
 
