@@ -4,7 +4,8 @@
 Python 3.11, standard library; as root. Each case is a small image of one or two layers of odd names, kinds, records,
 links, whiteouts and sparse files, plain or packed by gzip or zstd. Of most of them bytes of an archive, a value of a
 document, or a name is spoilt. `layers unpack` must read or refuse it with one line, within 2 s of a processor, and
-leave nothing outside of `--out`, and nothing at all if it refuses. With `--umoci N`, N of the images that it reads
+leave nothing outside of `--out`, and nothing at all if it refuses. With `--folders` they are folders of layers, which
+`layers scan` must read or refuse in the same way. With `--umoci N`, N of the images that it reads
 are unpacked by umoci too: the trees must be equal, or one of the two refuses. What they read in two ways for a reason is
 left out, and counted. A case depends only on the seed and its number.
 
@@ -22,6 +23,7 @@ import os
 import random
 import re
 import shutil
+import socket
 import stat
 import subprocess
 import sys
@@ -160,6 +162,59 @@ class Case:
                     self._put(entry.path, data, changed.replace(*size) if len(old) != len(new) else changed)
 
 
+ODD_FILES = (b"\xff", b"a\n", b"\x1b[2J", b"x" * 255, b".wh.a", b"\xed\xa0\x80", b" ", b"-", b"--help")
+ATTRIBUTES = ("user.k", "user." + "n" * 200, "user.overlay.opaque", "trusted.overlay.opaque", "trusted.overlay.redirect",
+              "trusted.overlay.metacopy", "trusted.overlay.overlay.opaque", "security.capability")
+
+
+def write_folder(pick: random.Random, path: bytes, depth: int = 0) -> None:
+    """Writes the folder of a layer with odd names, kinds, attributes and links, some of which can't be stated."""
+    os.mkdir(path)
+    written: list[bytes] = []
+    for _ in range(pick.randrange(7)):
+        odd = pick.random() < 0.03
+        place = path + b"/" + (pick.choice(ODD_FILES) if odd else pick.choice(NAMES[:9]).replace("/", "_").encode())
+        if not os.path.lexists(place):
+            _write_entry(pick, place, written, depth)
+            written.append(place)
+    _attribute(pick, path)
+
+
+def _write_entry(pick: random.Random, place: bytes, written: list[bytes], depth: int) -> None:
+    kind = pick.choice("dddfffffslcbpk" if depth < 4 else "fffslp")
+    files = [it for it in written if os.path.isfile(it) and not os.path.islink(it)]
+    if kind == "d":
+        write_folder(pick, place, depth + 1)
+    elif kind == "l" and files:
+        os.link(pick.choice(files), place)
+    elif kind == "s":
+        os.symlink(pick.choice((b"a", b"/" + b"t" * 4_000, b"\xff", b"..")), place)
+    elif kind in "cbp":
+        mode = {"c": stat.S_IFCHR, "b": stat.S_IFBLK, "p": stat.S_IFIFO}[kind]
+        os.mknod(place, mode | 0o600, os.makedev(pick.choice((0, 1)), pick.choice((0, 3))))
+    elif kind == "k":
+        with contextlib.suppress(OSError), socket.socket(socket.AF_UNIX) as made:
+            made.bind(place)
+    else:
+        _write_file(pick, place)
+
+
+def _write_file(pick: random.Random, place: bytes) -> None:
+    with open(place, "wb") as file:
+        file.write(pick.choice((b"", b"abc", b"x" * 5_000)))
+    os.chmod(place, pick.choice((0o644, 0o4755, 0)))
+    with contextlib.suppress(OSError):
+        os.utime(place, ns=(0, pick.choice((0, -1_500_000_000, 1 << 61))))
+    _attribute(pick, place)
+
+
+def _attribute(pick: random.Random, place: bytes) -> None:
+    """Now and then an attribute."""
+    if pick.random() < 0.2:
+        with contextlib.suppress(OSError):
+            os.setxattr(place, pick.choice(ATTRIBUTES), pick.choice((b"", b"y", b"/x", b"a/b")))
+
+
 def _is_document(path: str) -> bool:
     with open(path, "rb") as file:
         return file.read(1) == b"{"
@@ -191,14 +246,18 @@ class Result:
     wrong: list[str]
 
 
-def run_cases(seed: int, numbers: Iterable[int], umoci: int) -> Result:
+def run_cases(seed: int, numbers: Iterable[int], umoci: int, folders: bool) -> Result:
     """Runs cases in a folder of their own; this many of those that are read are unpacked by umoci too."""
     result = Result(collections.Counter(), collections.Counter(), [])
     with tempfile.TemporaryDirectory(prefix="layers-hostile-") as room:
         for number in numbers:
-            case = Case(random.Random(f"{seed}/{number}"), f"{room}/image")
-            case.write()
-            problem, kind, reason = _run(room)
+            pick = random.Random(f"{seed}/{number}")
+            if folders:
+                write_folder(pick, os.fsencode(f"{room}/image"))
+                problem, kind, reason = _run(room, ["scan", f"{room}/image", "--digests-only", "--out"])
+            else:
+                Case(pick, f"{room}/image").write()
+                problem, kind, reason = _run(room, ["unpack", f"{room}/image", "--out"])
             result.reasons[reason] += 1
             if kind == "read" and umoci > 0 and problem is None:
                 umoci -= 1
@@ -207,20 +266,21 @@ def run_cases(seed: int, numbers: Iterable[int], umoci: int) -> Result:
             if problem:
                 result.wrong.append(f"{seed}/{number}: {problem}")
             for name in os.listdir(room):
-                shutil.rmtree(f"{room}/{name}")
+                path = f"{room}/{name}"
+                shutil.rmtree(path) if os.path.isdir(path) else os.unlink(path)
     return result
 
 
-def _run(room: str) -> tuple[str | None, str, str]:
+def _run(room: str, words: list[str]) -> tuple[str | None, str, str]:
     """What is wrong with what the converter does of the image, whether it reads it, and why not."""
     begun, said = time.process_time(), io.StringIO()
     try:
         with contextlib.redirect_stderr(said), contextlib.redirect_stdout(io.StringIO()):
-            status = cli.main(["unpack", f"{room}/image", "--out", f"{room}/out"])
+            status = cli.main([*words, f"{room}/out"])
     except BaseException:  # pylint: disable=broad-except
         return f"a traceback: {traceback.format_exc()}", "traceback", ""
     took, lines = time.process_time() - begun, said.getvalue().splitlines()
-    left = sorted(os.listdir(room))
+    left = sorted({*os.listdir(room)} - {"out.links"} if status == 0 else os.listdir(room))
     if status not in (0, 3) or took > SECONDS:
         return f"status {status} in {took:.1f} s: {lines[-1:]}", "wrong", ""
     if left != ["image", "out"] if status == 0 else left != ["image"]:
@@ -304,6 +364,7 @@ def main() -> int:
     parser.add_argument("--seed", type=int, default=1)
     parser.add_argument("--count", type=int, default=2_000)
     parser.add_argument("--first", type=int, default=0, help="the number of the first case")
+    parser.add_argument("--folders", action="store_true", help="scans folders in place of unpacking images")
     parser.add_argument("--umoci", type=int, default=0, help="how many trees are compared with those of umoci")
     parser.add_argument("--reasons", action="store_true", help="prints why images are refused, and how often")
     parser.add_argument("--workers", type=int, default=len(os.sched_getaffinity(0)))
@@ -313,7 +374,7 @@ def main() -> int:
     total = Result(collections.Counter(), collections.Counter(), [])
     with concurrent.futures.ProcessPoolExecutor(words.workers) as pool:
         ends = (min(start + CHUNK, words.first + words.count) for start in starts)
-        jobs = [pool.submit(run_cases, words.seed, range(start, end), share) for start, end in zip(starts, ends)]
+        jobs = [pool.submit(run_cases, words.seed, range(start, end), share, words.folders) for start, end in zip(starts, ends)]
         for job in concurrent.futures.as_completed(jobs):
             result = job.result()
             total.kinds.update(result.kinds)
