@@ -145,10 +145,10 @@ OLD and NEW are each an IMAGE, a folder that `unpack` or `store` wrote, or any o
 mounted, without a configuration, whose trusted.* attributes only root can read. Contents are copied nowhere.
 What layers show comes from the proved program ovl_layers, as in `flatten`.
 
-The lines before these have the members of the configuration that differ. rootfs, history and created, which say
-how the layers were made, aren't compared. Neither are hard links.
+The lines before these have the members of the configuration that differ. rootfs, history and created, which
+say how the layers were made, aren't compared. Neither are hard links.
 
---json prints an object a line: {"layers-diff":1}, the changes, and the numbers. Status 1 says that they differ.
+--json prints an object a line: {"layers-diff":1}, the changes, the numbers. Status 1 says that they differ.
 Two builds of one image are compared by `--ignore mtime`."""
 
 _MOUNTED = """\
