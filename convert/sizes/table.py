@@ -56,8 +56,9 @@ def table(sizes: Sizes, origins: Sequence[Origin], waste: Waste, exact: bool, wi
     drawn = _Table(sizes, origins, waste, exact, width)
     yield from drawn.layers()
     if waste.bytes:
-        yield from drawn.wastes("Wasted, by place:", waste.places, _MOST_PLACES)
-        yield from drawn.wastes("Wasted, by command:", waste.causes, _MOST_CAUSES)
+        yield from drawn.wastes("place", "PATH", [(it, _path_text(it)) for it in waste.places], _MOST_PLACES)
+        commands = [(it, _command(origins[cause.layer])) for cause, it in waste.causes.items()]
+        yield from drawn.wastes("command", "COMMAND", commands, _MOST_CAUSES)
     yield from drawn.end()
 
 
@@ -139,20 +140,16 @@ class _Table:
         """The columns that are left for a text after these."""
         return max(_LEAST_TEXT, self._width - sum(column.width() + len(_GAP) for column in columns))
 
-    def wastes(self, title: str, places: Sequence[Place], most: int) -> Iterator[str]:
-        """The largest places, or causes, and a line for the rest."""
-        total = sum(place.bytes for place in self._waste.causes)
-        files = sum(place.files for place in self._waste.causes)
-        listed = places[:most]
-        if sum(place.bytes for place in listed) < total:
-            listed = places[:most - 1]
-        sizes, counts = [place.bytes for place in listed], [place.files for place in listed]
-        whys = [self._cause(place.cause) for place in listed]
-        is_command = places is self._waste.causes
-        texts = [_command(self._origins[it.cause.layer]) if is_command else _path_text(it) for it in listed]
-        if sum(sizes) < total:
+    def wastes(self, by: str, head: str, places: Sequence[tuple[Place, str]], most: int) -> Iterator[str]:
+        """The largest places, or what each cause wastes, with their texts, and a line for the rest."""
+        total = self._waste.bytes
+        is_all = len(places) <= most and sum(place.bytes for place, _ in places) == total
+        listed = places if is_all else places[:most - 1]
+        sizes, counts = [place.bytes for place, _ in listed], [place.files for place, _ in listed]
+        whys, texts = [self._cause(place.cause) for place, _ in listed], [text for _, text in listed]
+        if not is_all:
             sizes.append(total - sum(sizes))
-            counts.append(files - sum(counts))
+            counts.append(sum(place.files for place in self._waste.causes.values()) - sum(counts))
             whys.append("all others")
             texts.append("")
         columns = [
@@ -160,10 +157,12 @@ class _Table:
             _Column("WHY", whys, is_text=True),
         ]
         room = self._room(columns)
-        yield f"\n{title}\n"
-        yield from _lines(columns, "COMMAND" if is_command else "PATH", [_cut(text, room) for text in texts])
+        yield f"\nWasted, by {by}:\n"
+        yield from _lines(columns, head, [_cut(text, room) for text in texts])
 
-    def _cause(self, cause: Cause) -> str:
+    def _cause(self, cause: Cause | None) -> str:
+        if cause is None:
+            return "by several"
         if cause.kind is Kind.UNUSED:
             return str(cause.kind.value)
         step = self._origins[cause.layer].step
@@ -191,15 +190,17 @@ def verdict(waste: Waste, origins: Sequence[Origin], exact: bool, width: int) ->
         f"{amount_text(waste.bytes, exact)} of {amount_text(waste.total, exact)}{over} "
         f"({per_cent(waste.bytes, waste.total)}) are wasted"
     )
-    if not waste.places:
-        return text
     worst = waste.places[0]
-    layer = worst.cause.layer
-    step = origins[layer].step
-    by = "never used" if worst.cause.kind is Kind.UNUSED else worst.cause.kind.value
-    where = f"step {step.number}" if step else f"layer {layer}"
-    begin, end = f"{text}; {amount_text(worst.bytes, exact)} by ", f", {by} in {where}"
+    begin, end = f"{text}; {amount_text(worst.bytes, exact)} by ", f", {_deed(worst.cause, origins)}"
     return begin + _cut(_path_text(worst), max(_LEAST_TEXT, width - len(begin) - len(end))) + end
+
+
+def _deed(cause: Cause | None, origins: Sequence[Origin]) -> str:
+    """What was done to bytes that are wasted, and at which step or layer."""
+    if cause is None:
+        return "by several commands"
+    step = origins[cause.layer].step
+    return f"{cause.kind.value} in " + (f"step {step.number}" if step else f"layer {cause.layer}")
 
 
 def _lines(columns: Sequence[_Column], head: str, texts: Sequence[str]) -> Iterator[str]:

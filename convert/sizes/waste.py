@@ -1,7 +1,7 @@
 """What of the layers' bytes is wasted, at which places, and by which layer."""
 
-from collections.abc import Iterable, Iterator
-from dataclasses import dataclass, field
+from collections.abc import Iterable, Iterator, Mapping
+from dataclasses import dataclass, field, replace
 from enum import Enum
 
 from .layer_sizes import NotShown, Sizes
@@ -29,9 +29,9 @@ class Cause:
 
 @dataclass
 class Place:
-    """What one cause wastes at a path: a file, or a directory without what is listed of it."""
+    """What is wasted at a path, a file or a directory without what is listed of it, by one cause or by several."""
 
-    cause: Cause
+    cause: Cause | None
     path: str
     bytes: int = 0
     files: int = 0
@@ -52,7 +52,7 @@ class Waste:
     total: int = 0
     deleted: int = 0
     duplicate: int = 0
-    causes: list[Place] = field(default_factory=list)  # at the root
+    causes: dict[Cause, Place] = field(default_factory=dict)  # what each wastes of all
     places: list[Place] = field(default_factory=list)
 
     @property
@@ -75,13 +75,28 @@ def waste_of(sizes: Sizes, base: int) -> Waste:
             cause = _cause_of(one)
             files = by_cause.setdefault(cause, {})
             files.setdefault(one.file.path, Place(cause, one.file.path)).add(Place(cause, "", one.file.size, 1))
-    least = -(-waste.bytes // _LEAST_PART)
-    for cause, files in by_cause.items():
-        waste.causes.append(_sum_of(cause, files.values()))
-        waste.places.extend(_large_places(files, least))
-    for places in (waste.causes, waste.places):
-        places.sort(key=lambda place: (-place.bytes, place.cause.layer, place.path))
+    sums = {cause: _sum_of(cause, files.values()) for cause, files in by_cause.items()}
+    waste.causes = dict(sorted(sums.items(), key=lambda item: (-item[1].bytes, item[0].layer, item[0].kind.value)))
+    waste.places = _places_of(by_cause, -(-waste.bytes // _LEAST_PART))
     return waste
+
+
+def _places_of(by_cause: Mapping[Cause, Mapping[str, Place]], least: int) -> list[Place]:
+    """The large places of each cause, and then those of all that is left together."""
+    found = list[Place]()
+    rest = dict[str, Place]()
+    for files in by_cause.values():
+        large = list(_large_places(files, least))
+        found += large
+        for path, place in files.items():
+            if not any(_is_in(path, it) for it in large):
+                rest.setdefault(path, Place(None, path)).add(place)
+    found += _large_places(rest, least)
+    return sorted(found, key=lambda place: (-place.bytes, place.path))
+
+
+def _is_in(path: str, place: Place) -> bool:
+    return path == place.path or path.startswith(place.path.rstrip("/") + "/")
 
 
 def _cause_of(one: NotShown) -> Cause:
@@ -99,11 +114,11 @@ def _sum_of(cause: Cause, places: Iterable[Place]) -> Place:
     return total
 
 
-def _large_places(files: dict[str, Place], least: int) -> Iterator[Place]:
+def _large_places(files: Mapping[str, Place], least: int) -> Iterator[Place]:
     """The deepest places of at least so many bytes, each without those in it; smaller ones count for their directory."""
     levels = dict[int, dict[str, Place]]()
     for path, place in files.items():
-        levels.setdefault(path.count("/"), {})[path] = place
+        levels.setdefault(path.count("/"), {})[path] = replace(place)
     for depth in range(max(levels, default=0), 0, -1):
         for path, place in levels.get(depth, {}).items():
             if place.bytes >= least:

@@ -94,8 +94,9 @@ class Numbers(StacksTest):
                 for base in range(len(layers) + 1):
                     waste, own = waste_of(sizes, base), sizes.layers[:len(layers) - base]
                     self.assertEqual(waste.bytes, sum(layer.hidden + layer.repeated for layer in own))
-                    self.assertEqual(sum(cause.bytes for cause in waste.causes), waste.bytes)
-                    self.assertLessEqual(sum(place.bytes for place in waste.places), waste.bytes)
+                    self.assertEqual(sum(it.bytes for it in waste.causes.values()), waste.bytes)
+                    listed = sum(place.bytes for place in waste.places)
+                    self.assertTrue(listed <= waste.bytes < listed + waste.bytes // 5 + 1, (listed, waste.bytes))
                 paying = {number for number, layer in enumerate(sizes.layers) if layer.shown}
                 drawn = {place.layer for place in places_of(sizes) if place.bytes and not place.is_folder}
                 self.assertEqual(drawn, paying)
@@ -163,19 +164,17 @@ class OfImages(SizesTest):
 
     def test_the_last_screen(self) -> None:
         """On a terminal of 80 x 24 the verdict and the three worst lines of a Dockerfile of 40 steps are in sight."""
-        worst = {7: "rm -rf /srv/seven", 19: "rm -rf /srv/nineteen", 33: "rm -rf /srv/thirty"}
         layers, commands = [], []
-        for step in range(40):
-            names = {7: 1, 19: 2, 33: 3}
-            gone = [member(f"srv/.wh.{'long-name-' * 20}{step - 1}")] if step in worst else []
-            data = bytes([step]) * (9_000 * names.get(step + 1, 0) or 10)
-            layers.append(archive([folder("srv"), *gone, member(f"srv/{'long-name-' * 20}{step}", data)]))
-            commands.append(f"/bin/sh -c {worst.get(step, 'touch ' + 'x' * 200)}")
+        for step in range(0, 40, 2):
+            name = f"{'long-name-' * 20}{step}"
+            layers.append(archive([folder("srv"), member(f"srv/{name}", bytes([step]) * (9_000 + 9 * step))]))
+            layers.append(archive([folder("srv"), member(f"srv/.wh.{name}")]))
+            commands += [f"/bin/sh -c touch {name}", f"/bin/sh -c rm -rf /srv/{step}"]
         screen = self.on_terminal("sizes", self.put("image", layers, commands))
-        self.assertEqual([line for line in screen if len(line) > _COLUMNS], [])
-        for text in worst.values():
-            self.assertTrue(any(line.endswith(f"RUN {text}") for line in screen[:-1]), screen)
-        self.assertRegex("".join(screen), r"53 KiB of 54 KiB \(9\d\.\d %\) are wasted; 27 KiB by \S+32, removed in step 34$")
+        for step in (38, 36, 34):
+            line = rf" +9.\dK +1  removed in {step + 2}/40 +RUN rm -rf /srv/{step}"
+            self.assertTrue(any(re.fullmatch(line, it) for it in screen[:-1]), (line, screen))
+        self.assertRegex("".join(screen[-2:]), r"180 KiB \(100.0 %\) are wasted; 180 KiB by /srv/, by several commands$")
 
     def on_terminal(self, *words: str) -> list[str]:
         """What is on a terminal's last screen before its prompt, when a command has ended."""
