@@ -79,6 +79,9 @@ class SizesTest(FolderTest):
 
     def setUp(self) -> None:
         super().setUp()
+        width = mock.patch.dict(os.environ, COLUMNS="")
+        width.start()
+        self.addCleanup(width.stop)
         found = mock.patch("convert.sizes.command.require_program", return_value="none")
         run = mock.patch("convert.sizes.command.run_program", autospec=True, side_effect=plain_program)
         found.start()

@@ -156,28 +156,31 @@ class OfImages(SizesTest):
         """No line is wider than what COLUMNS says, and what there is room for is there."""
         image = self.path("image")
         self.write_image()
-        for columns, heads in (("80", "LAYER STEP BYTES PACKED WASTED SHARE"), ("300", "SHOWN DELETED DUPLICATE FILES")):
+        for columns, heads in (("", "LAYER STEP BYTES PACKED WASTED SHARE"), ("300", "SHOWN DELETED DUPLICATE FILES")):
             with mock.patch.dict(os.environ, COLUMNS=columns):
                 printed = call("sizes", image)[1]
-            self.assertLessEqual(max(map(len, printed.splitlines())), max(int(columns), 82))
+            self.assertLessEqual(max(map(len, printed.splitlines())), int(columns or 82))
             self.assertLessEqual(set(heads.split()), set(printed.splitlines()[0].split()))
 
     def test_the_last_screen(self) -> None:
-        """On a terminal of 80 x 24 the verdict and the three worst lines of a Dockerfile of 40 steps are in sight."""
+        """On a terminal of 80 x 24 the verdict and the three worst lines of a Dockerfile of 80 steps are in sight."""
         layers, commands = [], []
-        for step in range(0, 40, 2):
+        for step in range(0, 80, 2):
             name = f"{'long-name-' * 20}{step}"
             layers.append(archive([folder("srv"), member(f"srv/{name}", bytes([step]) * (9_000 + 9 * step))]))
             layers.append(archive([folder("srv"), member(f"srv/.wh.{name}")]))
             commands += [f"/bin/sh -c touch {name}", f"/bin/sh -c rm -rf /srv/{step}"]
-        screen = self.on_terminal("sizes", self.put("image", layers, commands))
-        for step in (38, 36, 34):
-            line = rf" +9.\dK +1  removed in {step + 2}/40 +RUN rm -rf /srv/{step}"
+        lines = self.on_terminal("sizes", self.put("image", layers, commands))
+        self.assertEqual([line for line in lines[:-1] if len(line) > _COLUMNS], [])
+        rows = [row for line in lines for row in re.findall(f".{{1,{_COLUMNS}}}", line) or [""]]
+        screen = rows[1 - _ROWS:]
+        for step in (78, 76, 74):
+            line = rf" +9.\dK +1  removed in {step + 2}/80 +RUN rm -rf /srv/{step}"
             self.assertTrue(any(re.fullmatch(line, it) for it in screen[:-1]), (line, screen))
-        self.assertRegex("".join(screen[-2:]), r"180 KiB \(100.0 %\) are wasted; 180 KiB by /srv/, by several commands$")
+        self.assertRegex("".join(screen[-2:]), r"366 KiB \(100.0 %\) are wasted; 366 KiB by /srv/, by several commands$")
 
     def on_terminal(self, *words: str) -> list[str]:
-        """What is on a terminal's last screen before its prompt, when a command has ended."""
+        """The lines that a command leaves on a terminal."""
         child, terminal = pty.fork()
         if child == 0:
             status = 70
@@ -192,9 +195,7 @@ class OfImages(SizesTest):
             while data := _read(file.fileno()):
                 text += data
         self.assertEqual(os.waitstatus_to_exitcode(os.waitpid(child, 0)[1]), 0, text)
-        lines = [line.rpartition("\r")[2] for line in text.decode().removesuffix("\r\n").split("\r\n")]
-        rows = [row for line in lines for row in re.findall(f".{{1,{_COLUMNS}}}", line) or [""]]
-        return rows[1 - _ROWS:]
+        return [line.rpartition("\r")[2] for line in text.decode().removesuffix("\r\n").split("\r\n")]
 
 
 def _read(terminal: int) -> bytes:
