@@ -20,6 +20,7 @@ from typing import Iterator
 
 from copies import Copies
 from crates import PROGRAM, Crate, crates_of
+from proof import keep
 from telling import as_time, fail, say, so_far
 
 _ROOT = Path(__file__).resolve().parents[1]
@@ -55,6 +56,7 @@ class Proofs:
         self._crates = crates
         self._copies = copies
         self._held = held
+        self._kit = kit()
         self._processors = len(os.sched_getaffinity(0))
         self._places = places(self._processors)
         self._running: dict[str, Proof] = {}
@@ -110,10 +112,12 @@ class Proofs:
             if status is None or _came:
                 continue
             del self._running[name]
+            said = proof.said.read_text(encoding="utf-8", errors="backslashreplace")
             if status != 0:
-                self._tell_failed(name, proof, status)
+                self._tell_failed(name, said, status)
             self._copies.take_back(name)
             if status == 0:
+                keep(_ROOT, name, said, self._kit)
                 self._tell_proved(name, proof)
 
     def _tell_proved(self, name: str, proof: Proof) -> None:
@@ -121,9 +125,9 @@ class Proofs:
         took = as_time(time.monotonic() - proof.begun)
         say(f"{name} is proved, in {took}; {len(self._left)} left, {so_far()} so far")
 
-    def _tell_failed(self, name: str, proof: Proof, status: int) -> None:
+    def _tell_failed(self, name: str, said: str, status: int) -> None:
         self._failed = True
-        sys.stderr.write(proof.said.read_text(encoding="utf-8", errors="backslashreplace"))
+        sys.stderr.write(said)
         say(f"{name} is not proved: rt ended with status {status}")
         if self._running:
             say(f"waiting for {', '.join(self._running)}, to keep what is proved of it")
@@ -135,6 +139,12 @@ class Proofs:
         for name, proof in self._running.items():
             proof.process.wait()
             self._copies.take_back(name)
+
+
+def kit() -> str:
+    """The line by which the kit names itself; empty if it doesn't."""
+    told = subprocess.run(["rt", "version"], stdin=subprocess.DEVNULL, stdout=subprocess.PIPE, text=True, check=False)
+    return told.stdout.strip()
 
 
 def places(processors: int) -> int:

@@ -19,7 +19,16 @@ VERSION_TEXT = ROOT / "examples" / "version.txt"
 _OPTION = re.compile(r"(?<![\w-])--[a-z][a-z-]*")
 _WIDTH = 111  # of the help texts; what the options mean is broken as the terminal wants it
 _COMMANDS = ("scan", "store", "build", "unpack", "pack", "flatten", "sizes", "diff", "mounted")
-INSTALLED = ["bin/layers", "bin/ovl_layers", "share/man/man1/layers.1", "share/man/man1/ovl_layers.1"]
+INSTALLED = [
+    "bin/layers", "bin/ovl_layers",
+    "share/bash-completion/completions/layers", "share/bash-completion/completions/ovl_layers",
+    *(f"share/doc/ovl-layers/{name}" for name in (
+        "README.md", "convert/README.md", "docs/FORMATS.md", "docs/GLOSSARY.md", "docs/HEADLINE.md", "docs/PROFILE.md",
+        "docs/PROVED.md", "docs/TUTORIAL.md",
+    )),
+    "share/man/man1/layers.1", "share/man/man1/ovl_layers.1",
+    "share/zsh/site-functions/_layers", "share/zsh/site-functions/_ovl_layers",
+]
 
 
 def page(name: str) -> str:
@@ -105,8 +114,9 @@ class Installing(FolderTest):
         super().setUp()
         copy = self.path("repository")
         shutil.copytree(ROOT / "convert", f"{copy}/convert", ignore=shutil.ignore_patterns("__pycache__"))
-        shutil.copytree(ROOT / "man", f"{copy}/man")
-        for name in ("install", "layers"):
+        for name in ("man", "completions", "docs"):
+            shutil.copytree(ROOT / name, f"{copy}/{name}")
+        for name in ("install", "layers", "README.md"):
             shutil.copy(ROOT / name, f"{copy}/{name}")
         os.makedirs(f"{copy}/crates/ovl_layers/out")
         for name in ("ovl_layers", "crates/ovl_layers/out/ovl_layers"):
@@ -117,10 +127,11 @@ class Installing(FolderTest):
             file.write(f"#!/bin/sh\n{text}\n")
         os.chmod(path, 0o755)
 
-    def install(self, *words: str) -> "subprocess.CompletedProcess[str]":
+    def install(self, *words: str, destdir: str = "") -> "subprocess.CompletedProcess[str]":
         """Runs the script."""
         return subprocess.run(
-            [self.path("repository", "install"), *words], capture_output=True, text=True, check=False, cwd=self.folder
+            [self.path("repository", "install"), *words], capture_output=True, text=True, check=False, cwd=self.folder,
+            env={**os.environ, "DESTDIR": destdir},
         )
 
     def there(self, prefix: str) -> list[str]:
@@ -165,6 +176,20 @@ class Installing(FolderTest):
         self.assertEqual(self.install("--remove", prefix).returncode, 0)
         self.assertEqual(self.there(prefix), ["bin/other"])
         self.assertEqual(sorted(os.listdir(prefix)), ["bin", "share"])
+
+    def test_below_a_destination(self) -> None:
+        self.assertEqual(self.install("/usr", destdir=self.path("root")).returncode, 0)
+        self.assertEqual(self.there(self.path("root", "usr")), INSTALLED)
+        self.assertEqual(os.listdir(self.path("root")), ["usr"])
+        self.assertEqual(self.install("usr", destdir=self.path("root")).returncode, 2)
+        self.assertEqual(self.install("--remove", "/usr", destdir=self.path("root")).returncode, 0)
+        self.require_nothing_left("repository", "root")
+
+    def test_help(self) -> None:
+        for word in ("-h", "--help"):
+            result = self.install(word)
+            self.assertEqual((result.returncode, result.stderr), (0, ""))
+            self.assertIn("DESTDIR", result.stdout)
 
     def test_faults(self) -> None:
         for words in ((), ("-x",), ("--remove",), ("a", "b"), ("--remove", "a", "b"), ("",)):

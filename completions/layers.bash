@@ -1,0 +1,50 @@
+# made by tools/completions.py from the words of layers
+_layers() {
+    local word=${COMP_WORDS[COMP_CWORD]} before=${COMP_WORDS[COMP_CWORD - 1]} command='' index
+    for ((index = 1; index < COMP_CWORD; index++)); do
+        case ${COMP_WORDS[index]} in
+            flatten | sizes | unpack | pack | scan | store | build | mounted) command=${COMP_WORDS[index]} && break ;;
+        esac
+    done
+    COMPREPLY=()
+    case $command/$before in
+        flatten/--platform) compopt +o default && return ;;
+        flatten/--tag) compopt +o default && return ;;
+        flatten/--compress) mapfile -t COMPREPLY < <(compgen -W 'none gzip zstd xz lz4' -- "$word") && return ;;
+        flatten/--layers) compopt +o default && return ;;
+        flatten/--keep) compopt -o filenames; mapfile -t COMPREPLY < <(compgen -d -- "$word") && return ;;
+        flatten/--data-layers) compopt +o default && return ;;
+        flatten/--workers) compopt +o default && return ;;
+        flatten/--blobs) compopt -o filenames; mapfile -t COMPREPLY < <(compgen -d -- "$word") && return ;;
+        flatten/--form) mapfile -t COMPREPLY < <(compgen -W 'folder squashfs' -- "$word") && return ;;
+        sizes/--platform) compopt +o default && return ;;
+        sizes/--tag) compopt +o default && return ;;
+        sizes/--data-layers) compopt +o default && return ;;
+        sizes/--workers) compopt +o default && return ;;
+        sizes/--fail-over) compopt +o default && return ;;
+        unpack/--platform) compopt +o default && return ;;
+        unpack/--tag) compopt +o default && return ;;
+        unpack/--out) compopt -o filenames; mapfile -t COMPREPLY < <(compgen -d -- "$word") && return ;;
+        pack/--blobs) compopt -o filenames; mapfile -t COMPREPLY < <(compgen -d -- "$word") && return ;;
+        pack/--compress) mapfile -t COMPREPLY < <(compgen -W 'none gzip zstd' -- "$word") && return ;;
+        pack/--platform) compopt +o default && return ;;
+        pack/--tag) compopt +o default && return ;;
+        scan/--blobs) compopt -o filenames; mapfile -t COMPREPLY < <(compgen -d -- "$word") && return ;;
+        scan/--workers) compopt +o default && return ;;
+        store/--workers) compopt +o default && return ;;
+        build/--blobs) compopt -o filenames; mapfile -t COMPREPLY < <(compgen -d -- "$word") && return ;;
+        build/--compress) mapfile -t COMPREPLY < <(compgen -W 'gzip xz zstd lz4' -- "$word") && return ;;
+    esac
+    case $command in
+        '') mapfile -t COMPREPLY < <(compgen -W 'flatten sizes unpack pack scan store build mounted -h --help --version --unproved' -- "$word") ;;
+        flatten) [[ $word != -* ]] || mapfile -t COMPREPLY < <(compgen -W '-h --help --platform --tag --overlay-marks --skip-unsupported --out --compress --layers --keep --dry-run --stack --data-layers --userxattr --no-userxattr --cross-file-systems --workers --blobs --form' -- "$word") ;;
+        sizes) [[ $word != -* ]] || mapfile -t COMPREPLY < <(compgen -W '-h --help --platform --tag --overlay-marks --skip-unsupported --stack --data-layers --userxattr --no-userxattr --cross-file-systems --workers --json --bytes --html --fail-over' -- "$word") ;;
+        unpack) [[ $word != -* ]] || mapfile -t COMPREPLY < <(compgen -W '-h --help --platform --tag --overlay-marks --skip-unsupported --out --digests-only' -- "$word") ;;
+        pack) [[ $word != -* ]] || mapfile -t COMPREPLY < <(compgen -W '-h --help --blobs --out --compress --config --platform --tag --annotations --links --skip-unsupported' -- "$word") ;;
+        scan) [[ $word != -* ]] || mapfile -t COMPREPLY < <(compgen -W '-h --help --out --blobs --digests-only --userxattr --no-userxattr --cross-file-systems --skip-unsupported --workers' -- "$word") ;;
+        store) [[ $word != -* ]] || mapfile -t COMPREPLY < <(compgen -W '-h --help --out --digests-only --userxattr --no-userxattr --cross-file-systems --skip-unsupported --workers' -- "$word") ;;
+        build) [[ $word != -* ]] || mapfile -t COMPREPLY < <(compgen -W '-h --help --blobs --out --compress --userxattr --no-userxattr' -- "$word") ;;
+        mounted) [[ $word != -* ]] || mapfile -t COMPREPLY < <(compgen -W '-h --help --cross-file-systems' -- "$word") ;;
+    esac
+}
+complete -o default -F _layers layers

@@ -1,0 +1,144 @@
+#compdef layers
+# made by tools/completions.py from the words of layers
+_layers() {
+    local curcontext=$curcontext state line
+    local -a commands=(
+        'flatten:write an image or a stack as one layer'
+        'sizes:print what each layer holds, and what of it isn'\''t shown'
+        'unpack:write an image'\''s layers as manifests and blobs'
+        'pack:write manifests and blobs as an image'
+        'scan:write a layer as a manifest and blobs'
+        'store:write a layer of docker or podman, and those below it'
+        'build:make the folder, or squashfs, of a manifest'
+        'mounted:print what a folder shows, like ovl_layers show'
+    )
+    _arguments -C \
+        '-h[show this help message and exit]' \
+        '--help[show this help message and exit]' \
+        '--version[print the version]' \
+        '--unproved[in a checkout]' \
+        '1:command:->command' '*::words:->words'
+    case $state in
+        command) _describe command commands ;;
+        words)
+            case $words[1] in
+                flatten)
+                    _arguments \
+                    '-h[show this help message and exit]' \
+                    '--help[show this help message and exit]' \
+                    '--platform[which of several images, such as linux/amd64]:OS/ARCH:' \
+                    '--tag[which of several images, by its name in the image'\''s index]:NAME:' \
+                    '--overlay-marks[takes attributes trusted.overlay.* of the image'\''s archives too, which change what the layers show]' \
+                    '--skip-unsupported[leaves out what can'\''t be stated, with a warning each, instead of refusing it]' \
+                    '--out[folder to make, or a file whose name ends in .tar]:IMAGE:_files' \
+                    '--compress[packs the layers]:COMPRESS:(none gzip zstd xz lz4)' \
+                    '--layers[how many layers are left at most]:N:' \
+                    '--keep[folder to make, absent or empty, for all that is made on the way]:DIR:_files -/' \
+                    '--dry-run[prints the commands, as a shell takes them, and runs none]' \
+                    '--stack[layers in place of an image, the topmost first]:LAYER:_files' \
+                    '--data-layers[with --stack]:K:' \
+                    '--userxattr[with --stack]' \
+                    '--no-userxattr[with --stack]' \
+                    '--cross-file-systems[enters other file systems too]' \
+                    '--workers[how many processes read files, 1 to 64]:N:' \
+                    '--blobs[with --stack]:DIR:_files -/' \
+                    '--form[with --stack]:FORM:(folder squashfs)' \
+                    '*:IMAGE:_files'
+                    ;;
+                sizes)
+                    _arguments \
+                    '-h[show this help message and exit]' \
+                    '--help[show this help message and exit]' \
+                    '--platform[which of several images, such as linux/amd64]:OS/ARCH:' \
+                    '--tag[which of several images, by its name in the image'\''s index]:NAME:' \
+                    '--overlay-marks[takes attributes trusted.overlay.* of the image'\''s archives too, which change what the layers show]' \
+                    '--skip-unsupported[leaves out what can'\''t be stated, with a warning each, instead of refusing it]' \
+                    '--stack[layers in place of an image, the topmost first]:LAYER:_files' \
+                    '--data-layers[with --stack]:K:' \
+                    '--userxattr[with --stack]' \
+                    '--no-userxattr[with --stack]' \
+                    '--cross-file-systems[enters other file systems too]' \
+                    '--workers[how many processes read files, 1 to 64]:N:' \
+                    '--json[prints it all for a program]' \
+                    '--bytes[prints exact numbers of bytes]' \
+                    '--html[page to write besides]:FILE:_files' \
+                    '--fail-over[ends with status 1 if more than this share of the bytes isn'\''t shown]:PERCENT:' \
+                    '*:IMAGE:_files'
+                    ;;
+                unpack)
+                    _arguments \
+                    '-h[show this help message and exit]' \
+                    '--help[show this help message and exit]' \
+                    '--platform[which of several images, such as linux/amd64]:OS/ARCH:' \
+                    '--tag[which of several images, by its name in the image'\''s index]:NAME:' \
+                    '--overlay-marks[takes attributes trusted.overlay.* of the image'\''s archives too, which change what the layers show]' \
+                    '--skip-unsupported[leaves out what can'\''t be stated, with a warning each, instead of refusing it]' \
+                    '--out[folder to make, absent or empty]:DIR:_files -/' \
+                    '--digests-only[writes no blobs]' \
+                    '*:IMAGE:_files'
+                    ;;
+                pack)
+                    _arguments \
+                    '-h[show this help message and exit]' \
+                    '--help[show this help message and exit]' \
+                    '--blobs[folder with the contents of their files]:DIR:_files -/' \
+                    '--out[folder to make, or a file whose name ends in .tar]:IMAGE:_files' \
+                    '--compress[packs the layers]:COMPRESS:(none gzip zstd)' \
+                    '--config[what the image runs, as whom and on which platform, such as the config.json that unpack writes]:FILE:_files' \
+                    '--platform[what the image says that it is for]:OS/ARCH:' \
+                    '--tag[name of the image in its index]:NAME:' \
+                    '--annotations[annotations of the image'\''s manifest, such as the annotations.json that unpack writes]:FILE:_files' \
+                    '--links[hard links of layers that have no such file beside them]:FILE:_files' \
+                    '--skip-unsupported[leaves out what can'\''t be stated, with a warning each, instead of refusing it]' \
+                    '*:LAYER:_files'
+                    ;;
+                scan)
+                    _arguments \
+                    '-h[show this help message and exit]' \
+                    '--help[show this help message and exit]' \
+                    '--out[manifest to write]:FILE:_files' \
+                    '--blobs[folder of blobs, made if it is absent]:DIR:_files -/' \
+                    '--digests-only[writes no blobs]' \
+                    '--userxattr[reads marks as user.overlay.*, as the mount option of this name does]' \
+                    '--no-userxattr[reads marks as user.overlay.*, as the mount option of this name does]' \
+                    '--cross-file-systems[enters other file systems too]' \
+                    '--skip-unsupported[leaves out what can'\''t be stated, with a warning each, instead of refusing it]' \
+                    '--workers[how many processes read files, 1 to 64]:N:' \
+                    '*:LAYER:_files'
+                    ;;
+                store)
+                    _arguments \
+                    '-h[show this help message and exit]' \
+                    '--help[show this help message and exit]' \
+                    '--out[folder to make, absent or empty]:OUT:_files' \
+                    '--digests-only[writes no blobs]' \
+                    '--userxattr[reads marks as user.overlay.*, as the mount option of this name does]' \
+                    '--no-userxattr[reads marks as user.overlay.*, as the mount option of this name does]' \
+                    '--cross-file-systems[enters other file systems too]' \
+                    '--skip-unsupported[leaves out what can'\''t be stated, with a warning each, instead of refusing it]' \
+                    '--workers[how many processes read files, 1 to 64]:N:' \
+                    '*:DIR:_files -/'
+                    ;;
+                build)
+                    _arguments \
+                    '-h[show this help message and exit]' \
+                    '--help[show this help message and exit]' \
+                    '--blobs[folder with the contents of its files]:DIR:_files -/' \
+                    '--out[folder to make, absent or empty, or a file whose name ends in .squashfs]:OUT:_files' \
+                    '--compress[packs the squashfs]:COMPRESS:(gzip xz zstd lz4)' \
+                    '--userxattr[writes marks as user.overlay.*, as the mount option of this name does]' \
+                    '--no-userxattr[writes marks as user.overlay.*, as the mount option of this name does]' \
+                    '*:LAYER:_files'
+                    ;;
+                mounted)
+                    _arguments \
+                    '-h[show this help message and exit]' \
+                    '--help[show this help message and exit]' \
+                    '--cross-file-systems[enters other file systems too]' \
+                    '*:DIR:_files -/'
+                    ;;
+            esac
+            ;;
+    esac
+}
+_layers "$@"
