@@ -179,8 +179,10 @@ class Build(Making):
         self.assertRegex(last, r"^ovl_layers: ovl_layers is proved, in \d+:\d\d; 0 left, \d+:\d\d so far$")
         for name in self.times():
             self.assertIn(f"ovl_layers: {name} is proved", told)
-            kept = ["incremental", "ovl_layers" if name == "ovl_layers" else "rlib"]
-            self.assertEqual(sorted(os.listdir(self.out(name))), kept)
+            kept = ["incremental", "ovl_layers" if name == "ovl_layers" else "rlib", "proved"]
+            self.assertEqual(sorted(os.listdir(self.out(name))), sorted(kept))
+            line = f"logic=proved functions=1 sum={name}"
+            self.assertEqual((self.out(name) / "proved").read_text(encoding="ascii"), f"\nkit-1 logic 0123\n{line}\n")
         self.assertEqual(self.run_launcher("show"), (0, "proved show\n", ""))
         self.assertEqual(self.times(), {name: 1 for name in _CRATES if name != "tests"})
 
