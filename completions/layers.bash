@@ -21,6 +21,8 @@ _layers() {
         sizes/--tag) compopt +o default && return ;;
         sizes/--data-layers) compopt +o default && return ;;
         sizes/--workers) compopt +o default && return ;;
+        sizes/--base) compopt +o default && return ;;
+        sizes/--max-waste) compopt +o default && return ;;
         sizes/--fail-over) compopt +o default && return ;;
         unpack/--platform) compopt +o default && return ;;
         unpack/--tag) compopt +o default && return ;;
@@ -38,7 +40,7 @@ _layers() {
     case $command in
         '') mapfile -t COMPREPLY < <(compgen -W 'flatten sizes unpack pack scan store build mounted -h --help --version --unproved' -- "$word") ;;
         flatten) [[ $word != -* ]] || mapfile -t COMPREPLY < <(compgen -W '-h --help --platform --tag --overlay-marks --skip-unsupported --out --compress --layers --keep --dry-run --stack --data-layers --userxattr --no-userxattr --cross-file-systems --workers --blobs --form' -- "$word") ;;
-        sizes) [[ $word != -* ]] || mapfile -t COMPREPLY < <(compgen -W '-h --help --platform --tag --overlay-marks --skip-unsupported --stack --data-layers --userxattr --no-userxattr --cross-file-systems --workers --json --bytes --html --fail-over' -- "$word") ;;
+        sizes) [[ $word != -* ]] || mapfile -t COMPREPLY < <(compgen -W '-h --help --platform --tag --overlay-marks --skip-unsupported --stack --data-layers --userxattr --no-userxattr --cross-file-systems --workers --json --bytes --html --base --max-waste --fail-over' -- "$word") ;;
         unpack) [[ $word != -* ]] || mapfile -t COMPREPLY < <(compgen -W '-h --help --platform --tag --overlay-marks --skip-unsupported --out --digests-only' -- "$word") ;;
         pack) [[ $word != -* ]] || mapfile -t COMPREPLY < <(compgen -W '-h --help --blobs --out --compress --config --platform --tag --annotations --links --skip-unsupported' -- "$word") ;;
         scan) [[ $word != -* ]] || mapfile -t COMPREPLY < <(compgen -W '-h --help --out --blobs --digests-only --userxattr --no-userxattr --cross-file-systems --skip-unsupported --workers' -- "$word") ;;

@@ -62,7 +62,9 @@ _layers() {
                     '--json[prints it all for a program]' \
                     '--bytes[prints exact numbers of bytes]' \
                     '--html[page to write besides]:FILE:_files' \
-                    '--fail-over[ends with status 1 if more than this share of the bytes isn'\''t shown]:PERCENT:' \
+                    '--base[the lowest N layers, or those of this image, are a base, which doesn'\''t count as waste]:N|IMAGE:' \
+                    '--max-waste[ends with status 1 if more is wasted, such as 10%%, 50MB or 50MiB]:PERCENT|BYTES:' \
+                    '--fail-over[the same as --max-waste PERCENT%%]:PERCENT:' \
                     '*:IMAGE:_files'
                     ;;
                 unpack)
