@@ -3,7 +3,7 @@ _layers() {
     local word=${COMP_WORDS[COMP_CWORD]} before=${COMP_WORDS[COMP_CWORD - 1]} command='' index
     for ((index = 1; index < COMP_CWORD; index++)); do
         case ${COMP_WORDS[index]} in
-            flatten | sizes | unpack | pack | scan | store | build | mounted) command=${COMP_WORDS[index]} && break ;;
+            flatten | sizes | diff | unpack | pack | scan | store | build | mounted) command=${COMP_WORDS[index]} && break ;;
         esac
     done
     COMPREPLY=()
@@ -24,6 +24,9 @@ _layers() {
         sizes/--base) compopt +o default && return ;;
         sizes/--max-waste) compopt +o default && return ;;
         sizes/--fail-over) compopt +o default && return ;;
+        diff/--ignore) compopt +o default && return ;;
+        diff/--platform) compopt +o default && return ;;
+        diff/--tag) compopt +o default && return ;;
         unpack/--platform) compopt +o default && return ;;
         unpack/--tag) compopt +o default && return ;;
         unpack/--out) compopt -o filenames; mapfile -t COMPREPLY < <(compgen -d -- "$word") && return ;;
@@ -38,9 +41,10 @@ _layers() {
         build/--compress) mapfile -t COMPREPLY < <(compgen -W 'gzip xz zstd lz4' -- "$word") && return ;;
     esac
     case $command in
-        '') mapfile -t COMPREPLY < <(compgen -W 'flatten sizes unpack pack scan store build mounted -h --help --version --unproved' -- "$word") ;;
+        '') mapfile -t COMPREPLY < <(compgen -W 'flatten sizes diff unpack pack scan store build mounted -h --help --version --unproved' -- "$word") ;;
         flatten) [[ $word != -* ]] || mapfile -t COMPREPLY < <(compgen -W '-h --help --platform --tag --overlay-marks --skip-unsupported --out --compress --layers --keep --dry-run --stack --data-layers --userxattr --no-userxattr --cross-file-systems --workers --blobs --form' -- "$word") ;;
         sizes) [[ $word != -* ]] || mapfile -t COMPREPLY < <(compgen -W '-h --help --platform --tag --overlay-marks --skip-unsupported --stack --data-layers --userxattr --no-userxattr --cross-file-systems --workers --json --bytes --html --base --max-waste --fail-over' -- "$word") ;;
+        diff) [[ $word != -* ]] || mapfile -t COMPREPLY < <(compgen -W '-h --help --ignore --no-config --stat --json --platform --tag --overlay-marks --skip-unsupported' -- "$word") ;;
         unpack) [[ $word != -* ]] || mapfile -t COMPREPLY < <(compgen -W '-h --help --platform --tag --overlay-marks --skip-unsupported --out --digests-only' -- "$word") ;;
         pack) [[ $word != -* ]] || mapfile -t COMPREPLY < <(compgen -W '-h --help --blobs --out --compress --config --platform --tag --annotations --links --skip-unsupported' -- "$word") ;;
         scan) [[ $word != -* ]] || mapfile -t COMPREPLY < <(compgen -W '-h --help --out --blobs --digests-only --userxattr --no-userxattr --cross-file-systems --skip-unsupported --workers' -- "$word") ;;

@@ -5,6 +5,7 @@ _layers() {
     local -a commands=(
         'flatten:write an image or a stack as one layer'
         'sizes:print what each layer holds, and what of it isn'\''t shown'
+        'diff:print what differs between two images, or trees'
         'unpack:write an image'\''s layers as manifests and blobs'
         'pack:write manifests and blobs as an image'
         'scan:write a layer as a manifest and blobs'
@@ -66,6 +67,20 @@ _layers() {
                     '--max-waste[ends with status 1 if more is wasted, such as 10%%, 50MB or 50MiB]:PERCENT|BYTES:' \
                     '--fail-over[the same as --max-waste PERCENT%%]:PERCENT:' \
                     '*:IMAGE:_files'
+                    ;;
+                diff)
+                    _arguments \
+                    '-h[show this help message and exit]' \
+                    '--help[show this help message and exit]' \
+                    '--ignore[doesn'\''t compare these]:WHAT,..:' \
+                    '--no-config[doesn'\''t compare the configurations]' \
+                    '--stat[prints only numbers]' \
+                    '--json[prints objects for a program, one a line]' \
+                    '--platform[which of several images, such as linux/amd64]:OS/ARCH:' \
+                    '--tag[which of several images, by its name in the image'\''s index]:NAME:' \
+                    '--overlay-marks[takes attributes trusted.overlay.* of the image'\''s archives too, which change what the layers show]' \
+                    '--skip-unsupported[leaves out what can'\''t be stated, with a warning each, instead of refusing it]' \
+                    '*:OLD:'
                     ;;
                 unpack)
                     _arguments \
