@@ -126,9 +126,7 @@ class BlobWriter:
     def take(self, pieces: Iterable[Piece], size: int) -> str:
         """Writes contents of this size that come in pieces, zeros as holes; gives their digest."""
         if size <= PIECE:
-            whole = bytearray()
-            for piece in pieces:
-                whole += piece  # at once, as it is there until the next one is
+            whole = _joined(pieces, size)
             if not is_zeros(whole):
                 return self._put_piece(whole)
             pieces = [whole]
@@ -232,6 +230,16 @@ class BlobWriter:
         if self._scratch >= 0:
             os.close(self._scratch)
             self._scratch = -1
+
+
+def _joined(pieces: Iterable[Piece], size: int) -> Piece:
+    """The bytes of pieces, each of which is there until the next one is. They mostly come as one."""
+    whole = bytearray()
+    for piece in pieces:
+        if len(piece) == size:
+            return piece
+        whole += piece
+    return whole
 
 
 class Digester:

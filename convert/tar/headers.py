@@ -3,7 +3,9 @@
 import base64
 import binascii
 import functools
+import struct
 import urllib.parse
+import zlib
 from collections.abc import Iterator
 from dataclasses import dataclass, field
 
@@ -44,7 +46,14 @@ _SAID_ENOUGH = frozenset([
 ])
 _OTHER_RECORD = b""  # in place of the key of a record that isn't read
 GNU_SPARSE = b"S"
+_FIELDS = struct.Struct("100s8s8s8s12s12s8sc100s8s64x8s8s167x")  # of a ustar header
+_USTAR = b"ustar"
+_USTAR_NUL = _USTAR + b"\0"
+_USTAR_VERSION = _USTAR_NUL + b"00"
 _SIGNED = 256
+_HALF = BLOCK_BYTES // 2  # of a header, of which the sum is below the modulus of Adler-32
+_CHECKSUM_BEGIN, _CHECKSUM_END = 148, 156
+_BLANK_CHECKSUM = b" " * 8  # as it counts itself
 _PREFIX_END = 500  # of the part of a name that comes before the other
 _STAR_PREFIX_END = 476  # of the same in archives of star, which have two times after it
 _STAR_TRAILER = b"tar\0"
@@ -77,26 +86,24 @@ def parse_header(block: bytes) -> Header | None:
     """The header in a block of 512 bytes; nothing for a block of zeros."""
     if not any(block):
         return None
-    stated, total = number(block[148:156]), 256 + _sum(block) - _sum(block[148:156])
+    name, mode, uid, gid, size, mtime, checksum, kind, target, magic, major, minor = _FIELDS.unpack(block)
+    stated, total = number(checksum), sum(_BLANK_CHECKSUM) + _sum(block) - sum(checksum)
     if stated != total and stated != total - _SIGNED * _high_bytes(block):
         raise TarFault("a header has a wrong checksum")
-    kind = block[156:157]
-    name = text_of(block[0:100])
-    if block[257:263] == b"ustar\0" and block[345]:
+    name = text_of(name)
+    if magic.startswith(_USTAR_NUL) and block[345]:
         end = _STAR_PREFIX_END if block[508:512] == _STAR_TRAILER else _PREFIX_END
         name = text_of(block[345:end]) + b"/" + name
-    is_old = block[257:262] != b"ustar"
+    is_old = not magic.startswith(_USTAR)
     return Header(
-        name=name, type=kind, mode=number(block[100:108]) & 0o7777, uid=number(block[108:116]),
-        gid=number(block[116:124]), size=number(block[124:136]), mtime_ns=number(block[136:148]) * ONE_SECOND,
-        target=text_of(block[157:257]), major=0 if is_old else number(block[329:337]),
-        minor=0 if is_old else number(block[337:345]),
+        name, kind, number(mode) & 0o7777, number(uid), number(gid), number(size), number(mtime) * ONE_SECOND,
+        text_of(target), 0 if is_old else number(major), 0 if is_old else number(minor),
     )
 
 
 def _sum(block: bytes) -> int:
-    """The sum of its bytes, most of which are zeros, that add nothing."""
-    return sum(block.replace(b"\0", b""))
+    """The sum of a header's bytes: the low half of Adler-32 is one more than a sum that is below its modulus."""
+    return (zlib.adler32(block[:_HALF]) & 0xFFFF) + (zlib.adler32(block[_HALF:]) & 0xFFFF) - 2
 
 
 def _high_bytes(block: bytes) -> int:
@@ -106,7 +113,7 @@ def _high_bytes(block: bytes) -> int:
 
 def text_of(data: bytes) -> bytes:
     """A text of a header, which a NUL ends."""
-    return data.split(b"\0", 1)[0]
+    return data.partition(b"\0")[0]
 
 
 @functools.lru_cache(maxsize=4096)  # the same few are in most headers
@@ -230,14 +237,12 @@ def pax_record(key: bytes, value: bytes) -> bytes:
 
 def header_block(header: Header) -> bytes:
     """A ustar header; the name and the target are cut to what it has place for."""
-    fields = (
-        header.name[:100].ljust(100, b"\0"), _octal(header.mode, 8), _octal(header.uid, 8),
-        _octal(header.gid, 8), _octal(header.size, 12), _octal(header.mtime_ns // ONE_SECOND, 12), b" " * 8,
-        header.type, header.target[:100].ljust(100, b"\0"), b"ustar\0" b"00", bytes(64),
-        _octal(header.major, 8), _octal(header.minor, 8), bytes(167),
+    block = _FIELDS.pack(
+        header.name, _octal(header.mode, 8), _octal(header.uid, 8), _octal(header.gid, 8), _octal(header.size, 12),
+        _octal(header.mtime_ns // ONE_SECOND, 12), _BLANK_CHECKSUM, header.type, header.target, _USTAR_VERSION,
+        _octal(header.major, 8), _octal(header.minor, 8),
     )
-    block = b"".join(fields)
-    return block[:148] + b"%06o\0 " % _sum(block) + block[156:]
+    return block[:_CHECKSUM_BEGIN] + b"%06o\0 " % _sum(block) + block[_CHECKSUM_END:]
 
 
 @functools.lru_cache(maxsize=4096)  # as above

@@ -117,11 +117,13 @@ class TarReader:
                 target = text_of(self._record_data(header.size))
             else:
                 break
-        self._apply(header, records)
+        if records or self._globals:
+            self._apply(header, records)
         # A long name of GNU's counts before a record's, as in Go's reader.
         header.name = name or header.name
         header.target = target or header.target
-        self._budget.attributes.take(len(header.attributes))
+        if header.attributes:
+            self._budget.attributes.take(len(header.attributes))
         self._begin(header, block)
         return header
 

@@ -23,13 +23,16 @@ class TarWriter:
 
     def entry(self, header: Header) -> None:
         """Writes a header. As many bytes of data as its size must follow by `data`, then `end_data`."""
-        records = _records(header)
-        if records:
-            pax = Header(_PAX_NAME, PAX, 0o644, 0, 0, len(records), 0, b"", 0, 0)
-            self._write(header_block(pax))
-            self._write(records)
-            self._pad(len(records))
-        self._write(header_block(_fitting(header)))
+        if not _is_plain(header):
+            self._write_records(_records(header))
+            header = _fitting(header)
+        self._write(header_block(header))
+
+    def _write_records(self, records: bytes) -> None:
+        pax = Header(_PAX_NAME, PAX, 0o644, 0, 0, len(records), 0, b"", 0, 0)
+        self._write(header_block(pax))
+        self._write(records)
+        self._pad(len(records))
 
     def data(self, piece: bytes) -> None:
         """Writes a piece of an entry's data."""
@@ -44,12 +47,21 @@ class TarWriter:
         self._write(bytes(2 * BLOCK_BYTES))
 
     def _pad(self, size: int) -> None:
-        self._write(bytes(-size % BLOCK_BYTES))
+        if size % BLOCK_BYTES:
+            self._write(bytes(-size % BLOCK_BYTES))
 
 
 def record_bytes(header: Header) -> int:
     """How many bytes the PAX records of a header have."""
     return len(_records(header))
+
+
+def _is_plain(header: Header) -> bool:
+    """Whether a ustar header has place for all that a header says, so that it has no records."""
+    return (
+        _fits(header) and len(header.name) <= _MAX_NAME and len(header.target) <= _MAX_NAME
+        and header.mtime_ns % ONE_SECOND == 0 and not header.attributes
+    )
 
 
 def _records(header: Header) -> bytes:
