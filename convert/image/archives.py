@@ -283,7 +283,7 @@ class LayerArchive:
         kind = _KINDS.get(header.type)
         if kind is None:
             raise Unfit(f"an entry of type {header.type!r}, which can't be stated")
-        entry = Entry("", kind, header.mode, header.uid, header.gid, header.mtime_ns)
+        entry = Entry("", kind, header.mode, header.uid, header.gid, header.mtime_ns, NO_ATTRIBUTES)
         if kind == SYMLINK:
             entry.mode = LINK_MODE
             entry.target = header.target.decode("utf-8", "surrogateescape")
@@ -408,10 +408,13 @@ def _check_values(entry: Entry) -> None:
         rules.number_problem("owner", entry.uid, 0, rules.MAX_NUMBER)
         or rules.number_problem("group", entry.gid, 0, rules.MAX_NUMBER)
         or rules.number_problem("time", entry.mtime_ns // ONE_SECOND, rules.MIN_TIME, rules.MAX_TIME)
-        or rules.number_problem("major number", entry.major, 0, rules.MAX_NUMBER)
-        or rules.number_problem("minor number", entry.minor, 0, rules.MAX_NUMBER)
     )
     if problem is None and entry.kind == SYMLINK:
         problem = rules.target_problem(entry.target)
+    elif problem is None and entry.kind in (CHAR, BLOCK):
+        problem = (
+            rules.number_problem("major number", entry.major, 0, rules.MAX_NUMBER)
+            or rules.number_problem("minor number", entry.minor, 0, rules.MAX_NUMBER)
+        )
     if problem:
         raise Unfit(problem)

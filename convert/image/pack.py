@@ -139,7 +139,7 @@ def _problem(entry: Entry) -> str | None:
     if entry.path.rpartition("/")[2].startswith(WHITEOUT_PREFIX):
         return f"a name that begins with {WHITEOUT_PREFIX} is a whiteout in an image"
     problem = only_in_manifests(entry)
-    if problem is None and any("=" in name for name in entry.attributes):
+    if problem is None and entry.attributes and any("=" in name for name in entry.attributes):
         return "the name of an attribute holds ="
     return problem
 

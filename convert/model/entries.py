@@ -100,7 +100,7 @@ def only_in_manifests(entry: Entry) -> str | None:
 
 def drop_host_marks(entry: Entry) -> int:
     """Leaves out what only means something on the host that the layer comes from; gives how many marks."""
-    found = [name for name in entry.attributes if name in HOST_MARKS]
+    found = HOST_MARKS & entry.attributes.keys() if entry.attributes else frozenset()
     if found:
         entry.attributes = {name: value for name, value in entry.attributes.items() if name not in HOST_MARKS}
     return len(found)

@@ -18,6 +18,7 @@ from .entries import BLOCK, CHAR, DIRECTORY, ESCAPED, FILE, NO_ATTRIBUTES, SYMLI
 from .times import ONE_SECOND
 
 _BASE = frozenset(["path", "kind", "mode", "uid", "gid", "mtime", "xattrs"])
+_BLOB = frozenset(["blob"])
 _BELOW_SECOND = "mtime-nsec"
 _MORE: dict[str, frozenset[str]] = {
     "dir": frozenset(),
@@ -44,7 +45,7 @@ class _Version:
     """What a version of the manifest has: the members of entries by kind, and how many names of a path at most."""
 
     number: int
-    members: Mapping[str, frozenset[str]]
+    members: Mapping[str, frozenset[str]]  # but for a blob, which a file may have
     names: int
 
     def tail(self) -> str:
@@ -114,7 +115,7 @@ def _compact(text: TextIO) -> Iterator[Entry]:
                 raise ValueError from None
             held, at = held[at:] + more, 0
             continue
-        if ":-0" in held[at:end]:
+        if held.find(":-0", at, end) >= 0:
             raise ValueError  # it may be the number -0, which isn't whole
         if sequence is None:
             # The version is said at the end, and seen of the first entry.
@@ -190,7 +191,7 @@ def _entry_of(value: Any, number: int, version: _Version, directories: set[str])
     entry = _sound_entry(value, version, directories)
     if entry is None:
         raise _Refused(f"entry {number}: wrong entry")
-    if any(rules.attribute_problem(name) for name in entry.attributes):
+    if entry.attributes and any(map(rules.attribute_problem, entry.attributes)):
         raise _Refused(f"entry {number}: escaped attribute")
     return entry
 
@@ -202,7 +203,7 @@ def _sound_entry(value: Any, version: _Version, directories: set[str]) -> Entry 
     kind = value.get("kind")
     if not isinstance(kind, str) or kind not in _MORE:
         return None
-    if set(value) - {"blob"} != version.members[kind] or not _is_path(value["path"], version, directories):
+    if value.keys() - _BLOB != version.members[kind] or not _is_path(value["path"], version, directories):
         return None
     attributes = _attributes_of(value["xattrs"])
     if attributes is None or not _numbers_fit(value, kind):

@@ -58,11 +58,8 @@ class TarReader:
 
     def data(self) -> Iterator[Piece]:
         """The data of the entry that was given last, its holes as zeros. Each piece is there until the next one is."""
-        if self._places is None:
-            yield from self._stored(self._left)
-        else:
-            yield from _gathered(self._with_holes(self._places))
-            self._places = None
+        places, self._places = self._places, None
+        return self._stored(self._left) if places is None else _gathered(self._with_holes(places))
 
     def is_sparse(self) -> bool:
         """Whether the entry that was given last has holes."""
