@@ -175,7 +175,7 @@ class BesideUmoci(FolderTest):
         return dict(walked(tree))
 
 
-_NAMES = ("a", "b", "a/f", "a/g", "b/f", "top", "b/sp ace", "b/\x01")
+_NAMES = ("a", "b", "a-b", "a/f", "a/g", "b/f", "b/Z", "top", "b/sp ace", "b/\x01")
 _PARTS = (("kind",), ("mode",), ("owner",), ("owner",), ("mtime",), ("contents",), ("link",), ("device",), ("attributes",))
 Member = tuple[tarfile.TarInfo, bytes] | None
 
