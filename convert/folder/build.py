@@ -44,6 +44,12 @@ class BuildOptions:
         return self.name or self.out
 
 
+def _takes_room(options: BuildOptions) -> bool:
+    """Whether contents are copied, as the file system can't share their bytes."""
+    with writing(options.told), folder_of(options.out) as folder:
+        return not may_clone(options.blobs, folder)
+
+
 def build(options: BuildOptions) -> None:
     """Makes the folder of a manifest, in one that is empty or absent."""
     entries = read_manifest(options.layer)
@@ -57,9 +63,7 @@ def build(options: BuildOptions) -> None:
             with opened_blob(options.blobs, str(entry.blob), entry.size) as file:
                 taken = min(entry.size, os.fstat(file).st_blocks * _STAT_BLOCK)
             need += taken if firsts.before(entry) is None else 0
-    with writing(options.told), folder_of(options.out) as folder:
-        takes_room = not may_clone(options.blobs, folder)
-    if takes_room:
+    if need and _takes_room(options):
         require_room(options.told, options.out, need)
     with new_folder(options.out, options.told, is_dressed=True) as folder:
         with writing(options.told):

@@ -1,18 +1,20 @@
 """Honest mistakes, and what nobody foresaw: each ends with one line that says what to do, and never with a wrong tree."""
 
 import inspect
+import json
 import os
 import pkgutil
 import shutil
 import signal
 import subprocess
 import sys
+import tarfile
 import unittest
 from importlib import import_module
 from pathlib import Path
 from unittest import mock
 
-from images import archive, folder, member, put_index, put_manifest, write_layout
+from images import archive, folder, member, packed, put_index, put_manifest, write_layout
 from support import COMMAND, FolderTest, call, why_no_trusted
 
 import convert
@@ -199,6 +201,44 @@ class LeftOut(FolderTest):
         self.assertTrue(all(entry.mode != 0o755 for entry in entries if entry.path == "/home"))
         shutil.rmtree(self.path("out"))
         return [entry.path for entry in entries]
+
+
+class Edges(FolderTest):
+    """What is odd and right."""
+
+    def test_zeros_after_a_gzip_stream(self) -> None:
+        for count in (1_000, 300_000):
+            write_layout(self.path("image"), [packed(archive([member("f", b"a")])) + bytes(count)])
+            self.require_done(call("unpack", self.path("image"), "--out", self.path("out")))
+            self.empty()
+
+    def test_a_configuration_of_many_letters(self) -> None:
+        """What it takes in UTF-8 counts, when it is read and when it is written."""
+        layer = archive([member("f", b"a")])
+        write_layout(self.path("image"), [layer])
+        self.require_done(call("unpack", self.path("image"), "--out", self.path("out")))
+        with open(self.path("config"), "w", encoding="utf-8") as file:
+            json.dump({"os": "linux", "architecture": "amd64", "author": "\u00e9" * 800_000}, file, ensure_ascii=False)
+        words = ["--blobs", self.path("out", "blobs"), "--config", self.path("config"), "--out", self.path("new")]
+        self.require_done(call("pack", self.path("out", "l0.json"), *words))
+        self.require_done(call("unpack", self.path("new"), "--out", self.path("again")))
+
+    def test_a_later_file_in_place_of_a_link(self) -> None:
+        layer, config = archive([member("f", b"a")]), b'{"os":"linux","architecture":"amd64"}'
+        listed = json.dumps([{"Config": "c.json", "Layers": ["l.tar"]}]).encode()
+        with open(self.path("image.tar"), "wb") as file:
+            file.write(archive([
+                member("manifest.json", kind=tarfile.SYMTYPE, target="other.json"), member("other.json", b"[]"),
+                member("c.json", config), member("l.tar", layer), member("manifest.json", listed),
+            ]))
+        self.require_done(call("unpack", self.path("image.tar"), "--out", self.path("out")))
+
+    def test_no_contents_and_no_folder_of_them(self) -> None:
+        write_layout(self.path("image"), [archive([folder("./"), folder("d")])])
+        self.require_done(call("unpack", self.path("image"), "--out", self.path("out")))
+        words = ["--blobs", self.path("absent"), "--out", self.path("built")]
+        self.require_done(call("build", self.path("out", "l0.json"), *words))
+        self.assertEqual(os.listdir(self.path("built")), ["d"])
 
 
 class Names(FolderTest):
