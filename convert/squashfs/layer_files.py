@@ -58,11 +58,13 @@ def form_of(path: str) -> Form:
 
 def _is_header(block: bytes) -> bool:
     """Whether an archive may begin with this block. One of zeros is the end of an empty one."""
+    if len(block) < BLOCK_BYTES:
+        return False
     try:
         parse_header(block)
-    except (TarFault, IndexError):
+    except TarFault:
         return False
-    return len(block) == BLOCK_BYTES
+    return True
 
 
 @dataclass(frozen=True, kw_only=True)
