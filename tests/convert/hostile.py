@@ -3,7 +3,7 @@
 
 Python 3.11, standard library; as root. Each case is a small image of one or two layers of odd names, kinds, records,
 links, whiteouts and sparse files, plain or packed by gzip or zstd. Of most of them bytes of an archive, a value of a
-document, or a name is spoilt. `layers unpack` must read or refuse it with one line, within 2 s of a processor, and
+document, or a name is spoilt. `layers unpack` must read or refuse it with one line, within 2 s of a processor and 300 MB, and
 leave nothing outside of `--out`, and nothing at all if it refuses. With `--folders` they are folders of layers, which
 `layers scan` must read or refuse in the same way. With `--umoci N`, N of the images that it reads
 are unpacked by umoci too: the trees must be equal, or one of the two refuses. What they read in two ways for a reason is
@@ -22,6 +22,7 @@ import json
 import os
 import random
 import re
+import resource
 import shutil
 import socket
 import stat
@@ -41,6 +42,7 @@ from convert.model.manifests import read_manifest
 from convert.tar.headers import pax_record
 
 SECONDS = 2.0  # of a processor that a case may take
+MEMORY = 300_000_000  # bytes of a process, whatever it has read
 CHUNK = 50  # cases that a process does at a time
 NAMES = ("a", "b", "d", "d/a", "d/b", "d/e/f", "\u00e9", "x" * 99, "x" * 101, "y" * 255, "p/" * 30 + "q", "a b", "l", "m", "n", "o")
 ODD_NAMES = ("..", "../x", "d/../a", "/abs", "./a", "a//b", "a/", ".", "", "d/..", "z" * 256, "d/.wh.a", ".wh.a", ".wh..wh..opq",
@@ -268,6 +270,9 @@ def run_cases(seed: int, numbers: Iterable[int], umoci: int, folders: bool) -> R
             for name in os.listdir(room):
                 path = f"{room}/{name}"
                 shutil.rmtree(path) if os.path.isdir(path) else os.unlink(path)
+    taken = resource.getrusage(resource.RUSAGE_SELF).ru_maxrss * 1024
+    if taken > MEMORY:
+        result.wrong.append(f"{seed}/{numbers}: {taken:,} bytes of memory")
     return result
 
 
