@@ -37,7 +37,7 @@ EVERY = 0.01  # seconds
 class Command:
     """Words that are run, in a folder in which they make one of `NEW`."""
 
-    told: str
+    label: str
     words: tuple[str, ...]
     path: str | None = None  # in place of the usual one
 
@@ -61,16 +61,16 @@ class Used:
     processor: float
 
 
-def converter(told: str, *words: str) -> Command:
-    return Command(told, (*CONVERTER, *words))
+def converter(label: str, *words: str) -> Command:
+    return Command(label, (*CONVERTER, *words))
 
 
-def flatten(told: str, image: Made, out: str, *words: str) -> Command:
-    return converter(told, "flatten", f"oci:{image.layout}:{TAG}", "--out", out, *words)
+def flatten(label: str, image: Made, out: str, *words: str) -> Command:
+    return converter(label, "flatten", f"oci:{image.layout}:{TAG}", "--out", out, *words)
 
 
 def without_igzip(command: Command) -> Command:
-    return replace(command, told=f"{command.told}, without igzip", path=os.path.abspath(WITHOUT_PROGRAMS))
+    return replace(command, label=f"{command.label}, without igzip", path=os.path.abspath(WITHOUT_PROGRAMS))
 
 
 class Images:
@@ -231,7 +231,7 @@ def print_table(rows: list[Row], found: dict[Command, Used]) -> bool:
         ours, beside, most = found[row.ours], found[row.beside], memory(row.ours)
         wall, processor = ours.wall / beside.wall, ours.processor / beside.processor
         reached &= most <= MEMORY and wall <= (row.wall or wall) and processor <= (row.processor or processor)
-        cells = [row.ours.told, row.beside.told]
+        cells = [row.ours.label, row.beside.label]
         cells += _cells(ours.wall, beside.wall, row.wall) + _cells(ours.processor, beside.processor, row.processor)
         print(run.row([*cells, f"{most / MEGABYTE:.0f} MB"]), flush=True)
     return reached

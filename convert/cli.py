@@ -58,11 +58,11 @@ def main(words: Sequence[str]) -> int:
         print(f"{NAME}: {printable(str(error))}", file=sys.stderr)
         return OTHER
     except Exception as error:  # pylint: disable=broad-except
-        print(f"{NAME}: unforeseen, please report it: {printable(_told(error))}", file=sys.stderr)
+        print(f"{NAME}: unforeseen, please report it: {printable(_description(error))}", file=sys.stderr)
         return OTHER
 
 
-def _told(error: Exception) -> str:
+def _description(error: Exception) -> str:
     """An exception that no code here expects, and where it was raised."""
     place = traceback.extract_tb(error.__traceback__)[-1]
     return f"{type(error).__name__}: {error} ({os.path.basename(place.filename)}:{place.lineno})"
@@ -143,8 +143,8 @@ def _require_one_sort(words: argparse.Namespace) -> None:
     strange = _OF_STACKS if words.stack is None else _OF_IMAGES
     for name in strange:
         if getattr(words, name, None):
-            told = "--stack alone" if words.stack is None else "images alone"
-            raise UsageFault(f"--{name.replace('_', '-')} is for {told}")
+            owner = "--stack alone" if words.stack is None else "images alone"
+            raise UsageFault(f"--{name.replace('_', '-')} is for {owner}")
 
 
 def _flatten(words: argparse.Namespace) -> None:

@@ -295,8 +295,8 @@ def _add_new_image(parser: argparse.ArgumentParser) -> None:
     parser.add_argument("--compress", choices=COMPRESSIONS, default=NONE, help=_PACKS)
 
 
-def _add_out(parser: argparse.ArgumentParser, told: str) -> None:
-    parser.add_argument("--out", metavar="IMAGE", required=True, help=told)
+def _add_out(parser: argparse.ArgumentParser, explanation: str) -> None:
+    parser.add_argument("--out", metavar="IMAGE", required=True, help=explanation)
 
 
 def _add_flatten(parser: argparse.ArgumentParser) -> None:

@@ -17,7 +17,7 @@ import time
 from pathlib import Path
 
 from crates import PROGRAM
-from telling import fail, say
+from messages import fail, say
 
 _ROOT = Path(__file__).resolve().parents[1]
 _CRATE = _ROOT / "crates" / PROGRAM

@@ -21,7 +21,7 @@ from typing import Iterator
 from copies import Copies
 from crates import PROGRAM, Crate, crates_of
 from proof import keep
-from telling import as_time, fail, say, so_far
+from messages import as_time, fail, say, so_far
 
 _ROOT = Path(__file__).resolve().parents[1]
 _BUILT = _ROOT / "crates" / PROGRAM / "out" / PROGRAM
@@ -143,8 +143,8 @@ class Proofs:
 
 def kit() -> str:
     """The line by which the kit names itself; empty if it doesn't."""
-    told = subprocess.run(["rt", "version"], stdin=subprocess.DEVNULL, stdout=subprocess.PIPE, text=True, check=False)
-    return told.stdout.strip()
+    printed = subprocess.run(["rt", "version"], stdin=subprocess.DEVNULL, stdout=subprocess.PIPE, text=True, check=False)
+    return printed.stdout.strip()
 
 
 def places(processors: int) -> int:
@@ -186,15 +186,15 @@ def alone(crates: dict[str, Crate]) -> Iterator[list[int]]:
 
 
 def _lock(file: int, folder: str) -> None:
-    told = False
+    is_waiting = False
     while True:
         try:
             fcntl.flock(file, fcntl.LOCK_EX | fcntl.LOCK_NB)
             return
         except BlockingIOError:
-            if not told:
+            if not is_waiting:
                 say(f"waiting for another ./ovl_layers or rt, which is at work in {folder}")
-            told = True
+            is_waiting = True
             look_for_signals()
 
 

@@ -100,10 +100,10 @@ class SharedCounter(Counter):
         self._taken += count
         if self._taken >= self._next:
             self._next = self._taken + self._step
-            self.tell()
+            self.report()
             self.require(sum(self._used[:self._layer + 1]))
 
-    def tell(self) -> None:
+    def report(self) -> None:
         """Tells what it has."""
         self._used[self._layer] = min(self._taken, self.most + 1)
 
@@ -121,7 +121,7 @@ class SharedBudget(Budget):
             self.attributes, self.unstated,
         ) = self._shared
 
-    def tell(self) -> None:
+    def report(self) -> None:
         """Tells all that its layer has."""
         for counter in self._shared:
-            counter.tell()
+            counter.report()

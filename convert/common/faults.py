@@ -108,7 +108,7 @@ def writing(path: str) -> Iterator[None]:
 
 
 @contextlib.contextmanager
-def told_as(stage: str, path: str) -> Iterator[None]:
+def reported_as(stage: str, path: str) -> Iterator[None]:
     """Tells a fault of what is in a stage as one of the path that it is to become."""
     try:
         yield

@@ -83,7 +83,7 @@ class Losses:
         self._counts[loss] = self._counts.get(loss, 0) + count
         self._first.setdefault(loss, path)
 
-    def tell(self, layer: str) -> None:
+    def report(self, layer: str) -> None:
         """One note for each kind that was met, with the first path."""
         for loss, count in self._counts.items():
             note(f"{layer}: {counted(count, *loss.value)}: {self._first[loss]}{', ..' if count > 1 else ''}")
@@ -96,7 +96,7 @@ class ScanLosses:
     hard_links: int = 0
     left_out: int = 0
 
-    def tell(self) -> None:
+    def report(self) -> None:
         """Says what was lost, if anything was."""
         if self.hard_links:
             note(

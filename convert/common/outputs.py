@@ -10,7 +10,7 @@ from dataclasses import dataclass
 from typing import IO, TextIO
 
 from .contents import PIECE, Write
-from .faults import ClosedPipe, cannot_write, reason_of, signals_wait, told_as, writing
+from .faults import ClosedPipe, cannot_write, reason_of, signals_wait, reported_as, writing
 from .open_dirs import (
     CREATE, FOLDER_MODE, dress_of, is_at, move, open_folder, open_way, path_of, place_of, put_on, remove, status_of,
 )
@@ -189,22 +189,22 @@ def _replace(path: str, fill: Callable[[IO[bytes]], None], mode: int) -> None:
 
 
 @contextlib.contextmanager
-def new_file(path: str, told_path: str | None = None) -> Iterator[Stage]:
+def new_file(path: str, reported_path: str | None = None) -> Iterator[Stage]:
     """A stage beside a path, where a regular file is or nothing. The file that the body makes of the name NEW gets it.
 
     One that takes the place of another is on the disk before, so that a power cut leaves the one or the other.
     """
-    told = told_path or path
+    reported = reported_path or path
     with contextlib.ExitStack() as opened:
-        with writing(told):
+        with writing(reported):
             place = opened.enter_context(opened_place(path))
             if place.found is not None and not stat.S_ISREG(place.found.st_mode):
                 raise OSError(None, "it is no regular file")
             tidy(place.folder, os.path.dirname(path))
             stage = opened.enter_context(Stage(place.folder))
-        with told_as(stage.path, told):
+        with reported_as(stage.path, reported):
             yield stage
-        with writing(told):
+        with writing(reported):
             if place.found is not None:
                 _flush(stage)
             with signals_wait():
@@ -218,15 +218,15 @@ def _flush(stage: Stage) -> None:
 
 
 @contextlib.contextmanager
-def folder_made(path: str, told_path: str | None = None, is_dressed: bool = False) -> Iterator[Stage]:
+def folder_made(path: str, reported_path: str | None = None, is_dressed: bool = False) -> Iterator[Stage]:
     """A stage for a folder that is absent or empty. The one that the body makes of the name NEW there becomes it.
 
     If it is absent, that is moved to its place. If it is there, it gets what is in that, while no other run writes into
     it, and if it `is_dressed`, the owner, mode, attributes and time too. If anything fails it is as it was.
     """
-    told = told_path or path
+    reported = reported_path or path
     with contextlib.ExitStack() as opened:
-        with writing(told):
+        with writing(reported):
             place, folder = opened.enter_context(opened_place(path)), None
             if place.found is None:
                 _note_stages(place, path)
@@ -234,9 +234,9 @@ def folder_made(path: str, told_path: str | None = None, is_dressed: bool = Fals
                 folder = opened.enter_context(_closed(_opened_empty(place, path)))
                 opened.enter_context(_as_it_was(folder))
             stage = opened.enter_context(Stage(place.folder if folder is None else folder))
-        with told_as(stage.path, told):
+        with reported_as(stage.path, reported):
             yield stage
-        with writing(told), signals_wait():
+        with writing(reported), signals_wait():
             if folder is None:
                 place.put(stage)
             else:
@@ -257,10 +257,10 @@ def _as_it_was(folder: int) -> Iterator[None]:
 
 
 @contextlib.contextmanager
-def new_folder(path: str, told_path: str | None = None, is_dressed: bool = False) -> Iterator[str]:
+def new_folder(path: str, reported_path: str | None = None, is_dressed: bool = False) -> Iterator[str]:
     """The same, with an empty folder of this user alone for the body to fill."""
-    with folder_made(path, told_path, is_dressed) as stage:
-        with writing(told_path or path):
+    with folder_made(path, reported_path, is_dressed) as stage:
+        with writing(reported_path or path):
             os.mkdir(NEW, FOLDER_MODE, dir_fd=stage.file)
         yield place_of(stage.file, NEW)
 
@@ -289,14 +289,14 @@ def _fill(folder: int, stage: Stage, is_dressed: bool) -> None:
 
 
 @contextlib.contextmanager
-def passing_folder(folder: str, told_path: str | None = None) -> Iterator[str]:
+def passing_folder(folder: str, reported_path: str | None = None) -> Iterator[str]:
     """A stage in a folder, which is taken away at the end whatever happens."""
     with contextlib.ExitStack() as opened:
-        with writing(told_path or folder):
+        with writing(reported_path or folder):
             parent = opened.enter_context(_closed(open_way(folder)))
             tidy(parent, folder)
             stage = opened.enter_context(Stage(parent))
-        with told_as(stage.path, told_path or folder):
+        with reported_as(stage.path, reported_path or folder):
             yield stage.path
 
 
@@ -306,7 +306,7 @@ def kept_folder(path: str) -> Iterator[str]:
     failed: BaseException | None = None
     with new_folder(path) as folder:
         try:
-            with told_as(folder, path):
+            with reported_as(folder, path):
                 yield folder
         except BaseException as problem:  # pylint: disable=broad-except
             failed = problem

@@ -42,11 +42,11 @@ def running(
             _end(process, end)
 
 
-def last_words(told: IO[bytes], program: str, status: int) -> str:
+def last_words(messages: IO[bytes], program: str, status: int) -> str:
     """What a program said last into a file, in one line, or how it ended if it said nothing."""
-    told.seek(0, 2)
-    told.seek(max(0, told.tell() - _MOST_WORDS))
-    lines = told.read().decode("utf-8", "surrogateescape").splitlines()
+    messages.seek(0, 2)
+    messages.seek(max(0, messages.tell() - _MOST_WORDS))
+    lines = messages.read().decode("utf-8", "surrogateescape").splitlines()
     how = f"was ended by signal {-status}" if status < 0 else f"ended with status {status}"
     return "; ".join(line.strip() for line in lines if line.strip()) or f"{program} {how}"
 

@@ -19,7 +19,7 @@ _UNPROVED = _BUILT.parent / "unproved" / NAME
 _LAUNCHER = _HERE / NAME
 _SMALLEST = _HERE / "examples" / "root.json"
 _INSTALLED = _HERE.parents[1] / "bin" / NAME  # of PREFIX/lib/ovl_layers, where `install` puts this converter
-# What each command is told that reads contents.
+# The option of each command that reads contents.
 _WORDS_ON_CONTENTS: tuple[str, ...] = ("--any-size",)
 _LAST_BYTES = 4_096
 
@@ -104,12 +104,12 @@ def word_of_path(path: str) -> str:
 def run_program(program: str, words: Sequence[str], folder: str, report: str, faults: IO[str]) -> str:
     """Runs it in a folder, with its report into a new file there. Gives the report's last line, which sums it up.
 
-    What it refuses is told as it is: its own words, or the report, among the faults, where that tells of any.
+    What it refuses is printed as it is: its own words, or the report, among the faults, if it has any.
     """
     report, command = f"{folder}/{report}", [program, *words]
     with writing(report), open(report, "xb") as file, running(command, stdout=file, stderr=subprocess.PIPE, folder=folder) as process:
-        told = process.communicate()[1]
-    print(told.decode("utf-8", "replace"), end="", file=sys.stderr)
+        messages = process.communicate()[1]
+    print(messages.decode("utf-8", "replace"), end="", file=sys.stderr)
     status = process.returncode
     if status == FAULTY:
         _copy(report, faults)

@@ -8,13 +8,13 @@ from .escaping import printable
 _EVERY = 0.2
 
 
-_told: memoryview | None = None
+_shared: memoryview | None = None
 
 
-def tell_progress(count: memoryview) -> None:
+def share_progress(count: memoryview) -> None:
     """Has this process show no progress, but add it to a number of another one, which does."""
-    global _told  # pylint: disable=global-statement
-    _told = count
+    global _shared  # pylint: disable=global-statement
+    _shared = count
 
 
 class Progress:
@@ -24,7 +24,7 @@ class Progress:
         self._doing = printable(doing)
         self._count = 0
         self.expect(total)
-        self._is_shown = _told is None and sys.stderr.isatty()
+        self._is_shown = _shared is None and sys.stderr.isatty()
         self._next = time.monotonic() + _EVERY
         self._width = 0
 
@@ -35,8 +35,8 @@ class Progress:
     def step(self, by: int = 1) -> None:
         """Counts on, and now and then says so."""
         self._count += by
-        if _told is not None:
-            _told[0] += by
+        if _shared is not None:
+            _shared[0] += by
         if self._is_shown and time.monotonic() >= self._next:
             self._next = time.monotonic() + _EVERY
             line = f"{self._doing}: {self._count:,}{self._total}"

@@ -359,9 +359,9 @@ def _by_zstd(packed: io.BufferedReader, name: str, may_wait: bool) -> Iterator[S
         raise cannot_read(name, "it is packed by zstd, and there is no zstd program; install zstd")
     command = [program, "--decompress", "--stdout", "--quiet"]
     feeder = None
-    with tempfile.TemporaryFile() as told:
+    with tempfile.TemporaryFile() as messages:
         try:
-            with running(command, stdin=subprocess.PIPE, stdout=subprocess.PIPE, stderr=told) as process:
+            with running(command, stdin=subprocess.PIPE, stdout=subprocess.PIPE, stderr=messages) as process:
                 assert process.stdin is not None and isinstance(process.stdout, io.BufferedReader)
                 feeder = threading.Thread(target=_feed, args=(packed, process.stdin), daemon=True)
                 feeder.start()
@@ -377,7 +377,7 @@ def _by_zstd(packed: io.BufferedReader, name: str, may_wait: bool) -> Iterator[S
             if feeder is not None and not may_wait:
                 feeder.join()
         if status != 0:
-            reason = _ZSTD_INPUT.sub("", last_words(told, "zstd", status))
+            reason = _ZSTD_INPUT.sub("", last_words(messages, "zstd", status))
             raise cannot_read(name, f"its zstd stream is broken: {reason}")
 
 

@@ -11,6 +11,7 @@ from dataclasses import dataclass, replace
 from pathlib import Path
 
 from ..common.contents import PIECE
+from ..common.disk_space import require_room
 from ..common.faults import UsageFault, cannot_write
 from ..common.outputs import NEW, folder_made, new_file, note_stages_beside, passing_folder, standard_output
 from ..common.program import NAME, find_program, makes_layers, word_of_path, words_of
@@ -24,7 +25,7 @@ from ..image.pack import PackOptions, pack
 from ..image.targets import ARCHIVE_SUFFIX, Form, Target
 from ..image.unpack import UnpackOptions, unpack
 from ..model import stacks
-from ..tar.disk_space import least_shown, require_room
+from ..tar.least_sizes import least_shown
 from .steps import AGAIN, BEFORE, REPORT, STACK, Runner, carry_out, new_layer, timed, work_folder
 
 _IMAGE = "image"
@@ -61,7 +62,7 @@ def flatten(options: FlattenOptions) -> None:
         with work_folder(stage, options.keep) as folder:
             before, after = carry_out(_ImageRunner(options, folder, f"{stage}/{NEW}"), options.layers)
     seconds = time.monotonic() - begun
-    note_path(options.out.told, f"{counted(after, 'layer', 'layers')} in place of {before}, {seconds:.2f} s in all")
+    note_path(options.out.label, f"{counted(after, 'layer', 'layers')} in place of {before}, {seconds:.2f} s in all")
 
 
 def flatten_commands(options: FlattenOptions) -> list[str]:
@@ -93,7 +94,7 @@ def _require_free(options: FlattenOptions) -> None:
 def _new_image(out: Target) -> Iterator[str]:
     """A stage, in which the new image is to be made. It gets its name at the end, and only there."""
     if out.is_standard_output:
-        with passing_folder(tempfile.gettempdir(), out.told) as folder:
+        with passing_folder(tempfile.gettempdir(), out.label) as folder:
             yield folder
             _print_image(f"{folder}/{NEW}")
         return
@@ -139,7 +140,7 @@ class _ImageRunner(Runner):
         """See `Plan`."""
         super().run(step, what, layers, new, own)
         if new == BEFORE and self._options.compress == NONE:
-            require_room(self._options.out.told, self._image, least_shown(self.path(new)))
+            require_room(self._options.out.label, self._image, least_shown(self.path(new)))
 
     def pack(self, layers: Sequence[str]) -> None:
         """See `Plan`."""
@@ -152,7 +153,7 @@ class _ImageRunner(Runner):
 
             new_layers = None
             if self._options.compress == NONE:
-                out = self._options.out.told
+                out = self._options.out.label
                 new_layers = beside.enter_context(NewLayers(self._folder, out, len(layers), drop_blobs))
             with timed("pack") as words:
                 pack(PackOptions(

@@ -168,7 +168,7 @@ class _StackRunner(Runner):
             if entry.kind == SOCKET and self._options.is_squashfs() and number < count - 1:
                 losses.add(Loss.SOCKET, entry.path)
                 entries[place] = replace(whiteout(), path=entry.path)
-        losses.tell(self._options.out)
+        losses.report(self._options.out)
         if marks:
             note_path(self._options.out, counted(marks, "mark", "marks") + " of the host's overlay left out")
         path = self.path(f"{_NEW}/{stacks.layer_name(number, count)}")

@@ -192,8 +192,8 @@ def timed(step: str) -> Iterator[list[str]]:
     begun = time.monotonic()
     words: list[str] = []
     yield words
-    _tell(step, words, begun)
+    _report(step, words, begun)
 
 
-def _tell(step: str, words: Sequence[str], begun: float) -> None:
+def _report(step: str, words: Sequence[str], begun: float) -> None:
     note(f"{step}: {', '.join([*words, f'{time.monotonic() - begun:.2f} s'])}")

@@ -7,6 +7,7 @@ from collections.abc import Mapping
 from dataclasses import dataclass
 
 from ..common.contents import PIECE, Copier, digest_and_size, may_clone, read_small, write_all
+from ..common.disk_space import require_room
 from ..common.faults import cannot_read, cannot_write, reason_of, writing
 from ..common.open_dirs import CREATE, Chain, open_folder, open_root, place_of
 from ..common.outputs import folder_of, new_folder
@@ -17,7 +18,6 @@ from ..model.blobs import blob_path, opened_blob
 from ..model.entries import BLOCK, CHAR, DIRECTORY, FIFO, FILE, SYMLINK, Entry, only_in_manifests
 from ..model.links import FirstNames, take_links
 from ..model.manifests import read_manifest
-from ..tar.disk_space import require_room
 
 _TYPES = {
     CHAR: stat.S_IFCHR, BLOCK: stat.S_IFBLK, FIFO: stat.S_IFIFO, "socket": stat.S_IFSOCK,
@@ -39,14 +39,14 @@ class BuildOptions:
     name: str | None = None  # what it is called in faults and notes, if it isn't made at its place
 
     @property
-    def told(self) -> str:
+    def label(self) -> str:
         """What it is called in faults and notes."""
         return self.name or self.out
 
 
 def _takes_room(options: BuildOptions) -> bool:
     """Whether contents are copied, as the file system can't share their bytes."""
-    with writing(options.told), folder_of(options.out) as folder:
+    with writing(options.label), folder_of(options.out) as folder:
         return not may_clone(options.blobs, folder)
 
 
@@ -58,15 +58,15 @@ def build(options: BuildOptions) -> None:
     for entry in entries:
         problem = entry_problem(entry, options.userxattr)
         if problem:
-            raise cannot_write(options.told + entry.path, problem)
+            raise cannot_write(options.label + entry.path, problem)
         if entry.names_contents():
             with opened_blob(options.blobs, str(entry.blob), entry.size) as file:
                 taken = min(entry.size, os.fstat(file).st_blocks * _STAT_BLOCK)
             need += taken if firsts.before(entry) is None else 0
     if need and _takes_room(options):
-        require_room(options.told, options.out, need)
-    with new_folder(options.out, options.told, is_dressed=True) as folder:
-        with writing(options.told):
+        require_room(options.label, options.out, need)
+    with new_folder(options.out, options.label, is_dressed=True) as folder:
+        with writing(options.label):
             root = open_root(folder)
         try:
             _Builder(options, root).make(entries)
@@ -125,7 +125,7 @@ class _Builder:
                     raise self._fault(entry, error) from error
                 progress.step()
             self._leave(0)
-            with writing(self._options.told):
+            with writing(self._options.label):
                 _dress(self._levels[0].folder, entries[0], self._options.userxattr)
         finally:
             progress.end()
@@ -185,7 +185,7 @@ class _Builder:
         hint = ""
         if isinstance(error, PermissionError):
             hint = "; owners, devices and trusted.* attributes need root, try sudo"
-        return cannot_write(self._options.told + entry.path, reason_of(error) + hint)
+        return cannot_write(self._options.label + entry.path, reason_of(error) + hint)
 
 
 def _make_other(entry: Entry, name: str, parent: int) -> None:

@@ -44,14 +44,14 @@ def build_squashfs(options: BuildOptions) -> None:
     """Makes the squashfs of a manifest. It gets its name once it gives the manifest back, except for what is reported."""
     losses = Losses()
     entries = _fitting(options, losses)
-    with new_file(options.out, options.told) as stage:
-        with squashfs.written(stage.path, NEW, options.told, options.compress) as write:
+    with new_file(options.out, options.label) as stage:
+        with squashfs.written(stage.path, NEW, options.label, options.compress) as write:
             _write_archive(entries, options, TarWriter(write))
         path = place_of(stage.file, NEW)
         _require_same(path, entries, options)
-        with writing(options.told):
+        with writing(options.label):
             os.chmod(path, PRIVATE_MODE)
-    losses.tell(options.told)
+    losses.report(options.label)
 
 
 def _fitting(options: BuildOptions, losses: Losses) -> list[Entry]:
@@ -66,13 +66,13 @@ def _fitting(options: BuildOptions, losses: Losses) -> list[Entry]:
         if zeros > _MAX_ZEROS:
             problem = f"with it, files without their contents have over {_MAX_ZEROS:,} bytes"
         if problem:
-            raise cannot_write(options.told + entry.path, problem)
+            raise cannot_write(options.label + entry.path, problem)
         if entry.names_contents():
             with opened_blob(options.blobs, str(entry.blob), entry.size):
                 pass
     problem = owners_problem(entries)
     if problem:
-        raise cannot_write(options.told, problem)
+        raise cannot_write(options.label, problem)
     return entries
 
 
@@ -122,8 +122,8 @@ def _header(entry: Entry, userxattr: bool) -> Header:
 def _require_same(path: str, entries: list[Entry], options: BuildOptions) -> None:
     """Reads the new file again: it gives the very entries, and the same of them are one file."""
     here, there = FirstNames(), FirstNames()
-    tree = squashfs_tree(path, options.told, options.userxattr)
+    tree = squashfs_tree(path, options.label, options.userxattr)
     there_are = (replace(entry, path=path) for path, entry in tree.entries())
     for wanted, found in itertools.zip_longest(entries, there_are):
         if wanted is None or found is None or wanted != found or here.before(wanted) != there.before(found):
-            raise Fault(f"{options.told}: read again it has another {(wanted or found).path}, so it isn't written")
+            raise Fault(f"{options.label}: read again it has another {(wanted or found).path}, so it isn't written")

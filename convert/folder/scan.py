@@ -50,7 +50,7 @@ def scan(options: ScanOptions) -> None:
             layer=options.layer, out=options.out, blobs=options.blobs, userxattr=options.userxattr,
             skip_unsupported=options.skip_unsupported,
         ), form, losses)
-    losses.tell()
+    losses.report()
 
 
 def scan_folder(options: ScanOptions, losses: ScanLosses, links: Iterator[int] | None = None) -> list[Entry]:

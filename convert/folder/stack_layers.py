@@ -41,7 +41,7 @@ def read_stack(options: StackOptions, out: str) -> None:
         entries = _read(options, number, form, out, losses, links)
         below.cover(entries, has_attribute(f"{out}/{stacks.layer_name(number, len(options.layers))}", [REDIRECT]))
     write_shown_links(out, below)
-    losses.tell()
+    losses.report()
 
 
 def _read(

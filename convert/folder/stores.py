@@ -32,7 +32,7 @@ _TARGET = re.compile(r"\.\./([0-9A-Za-z][0-9A-Za-z_.-]*)/diff\Z")
 _MAX_BYTES = 1 << 16  # of a file `lower` or `link`
 _DRIVERS = {"overlay2", "overlay"}
 _LOWER_LAYERS = "lower-layers"  # beside `lower` it says the same
-_OTHER_WAYS = {"composefs-data", "lower-id", _LOWER_LAYERS}  # of telling contents or lower layers
+_OTHER_WAYS = {"composefs-data", "lower-id", _LOWER_LAYERS}  # of naming contents or lower layers
 _SHOWN = 80  # letters of a wrong name
 
 
@@ -72,7 +72,7 @@ def store(options: StoreOptions) -> None:
         note_path(layer, f"is {stacks.layer_name(number, len(layers))}")
     if os.path.ismount(os.path.join(options.folder, _MERGED)):
         note_path(options.folder, "it is mounted; what was written meanwhile may be missing")
-    losses.tell()
+    losses.report()
 
 
 def chain(folder: str) -> list[str]:

@@ -20,7 +20,7 @@ from typing import IO
 from ..common.budgets import Budget, SharedBudget, UsedBudget
 from ..common.contents import write_all
 from ..common.faults import ENDING, OTHER, READING, WRITING, Fault, ReadFault, TarFault, WriteFault, writing
-from ..common.progress import Progress, tell_progress
+from ..common.progress import Progress, share_progress
 from ..common.streams import Source
 from ..model.blobs import Writer
 from ..model.workers import usual_workers
@@ -168,11 +168,11 @@ class _LayersAhead:
                 fault = OTHER, str(problem)
             if number == worker.layers[-1]:
                 writer.close()  # before the parent knows that it is done, and may end it
-            worker.tell(number, _Read(place, fault, is_again))
+            worker.send(number, _Read(place, fault, is_again))
             worker.require_parent()
 
     def _read(self, number: int, keeping: Keeping, worker: "_Worker", writer: Writer) -> bool:
-        """Reads a layer quickly, if that can be done, and if it isn't sound so, again by zlib, which tells why.
+        """Reads a layer quickly, if that can be done, and if it isn't sound so, again by zlib, which says why.
 
         Gives whether it was read again.
         """
@@ -197,7 +197,7 @@ class _LayersAhead:
         try:
             ArchiveReader(layer, options).read(keep)
         finally:
-            budget.tell()
+            budget.report()
 
 
 @dataclass(frozen=True)
@@ -247,14 +247,14 @@ class _KeptAhead:
 
 
 class _Worker:
-    """A process that reads layers, and tells of each when it is done."""
+    """A process that reads layers, and reports each when it is done."""
 
     def __init__(self, layers: Sequence[int], file: IO[bytes]) -> None:
         self.layers = layers
         self.file = file
         self.progress = memoryview(mmap.mmap(-1, _NUMBER_BYTES)).cast("Q")
         self.read: dict[int, _Read] = {}
-        self._results, self._told = os.pipe()
+        self._results, self._sender = os.pipe()
         self._process = 0
         self._parent = os.getpid()
 
@@ -265,7 +265,7 @@ class _Worker:
             self._process = os.fork()
             if self._process == 0:
                 self._work(mask, work)
-            os.close(self._told)
+            os.close(self._sender)
         finally:
             signal.pthread_sigmask(signal.SIG_SETMASK, mask)
 
@@ -273,7 +273,7 @@ class _Worker:
         """In the process: does the work, and ends."""
         try:
             os.close(self._results)
-            tell_progress(self.progress)
+            share_progress(self.progress)
             signal.pthread_sigmask(signal.SIG_SETMASK, mask)
             work(self)
         except Exception:  # pylint: disable=broad-except
@@ -281,11 +281,11 @@ class _Worker:
         finally:
             os._exit(0)
 
-    def tell(self, number: int, read: _Read) -> None:
+    def send(self, number: int, read: _Read) -> None:
         """In the process: what came of a layer."""
         data = marshal.dumps((number, read.place, read.fault, read.is_again))
         with contextlib.suppress(BrokenPipeError):
-            write_all(self._told, len(data).to_bytes(_NUMBER_BYTES, "little") + data)
+            write_all(self._sender, len(data).to_bytes(_NUMBER_BYTES, "little") + data)
 
     def require_parent(self) -> None:
         """In the process: ends it where the one that it works for was killed."""
@@ -300,12 +300,12 @@ class _Worker:
             if not poll.poll(None if seconds is None else seconds * 1_000):
                 return None
             size = int.from_bytes(self._received(_NUMBER_BYTES), "little")
-            told, *read = marshal.loads(self._received(size))
-            self.read[told] = _Read(*read)
+            number, *read = marshal.loads(self._received(size))
+            self.read[number] = _Read(*read)
         return self.read[number]
 
     def _received(self, count: int) -> bytes:
-        """The next bytes that the process tells."""
+        """The next bytes that the process sends."""
         data = b""
         while len(data) < count:
             more = os.read(self._results, count - len(data))

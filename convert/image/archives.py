@@ -12,6 +12,7 @@ from typing import Protocol
 
 from ..common.budgets import Budget, TooMuch
 from ..common.contents import PIECE
+from ..common.disk_space import require_room
 from ..common.faults import cannot_read
 from ..common.omissions import Loss, Losses
 from ..common.progress import Progress, note
@@ -27,7 +28,6 @@ from ..model.layer_tree import Blocked, Gap, LayerTree, Unfit, whiteout
 from ..model.merged_tree import MergedTree
 from ..model.times import ONE_SECOND
 from ..tar import headers as tar
-from ..tar.disk_space import require_room
 from ..tar.headers import HARD_LINK, REGULAR_TYPES, Header
 from ..tar.reader import TarReader
 from .archive_names import AUFS_LINKS, OPAQUE_NAME, WHITEOUT_PREFIX, Paths, is_of_aufs, may_be_special
@@ -178,7 +178,7 @@ class LayerArchive:
             self._tree.settle(self._options.below.root, lambda gap, path: self._losses.add(_GAPS[gap], path))
         except TooMuch as problem:
             raise cannot_read(layer.path, str(problem)) from None
-        self._losses.tell(layer.name)
+        self._losses.report(layer.name)
         return self._tree
 
     def _take_all(self) -> None:
@@ -333,15 +333,15 @@ class LayerArchive:
 
     def _linked(self, header: Header, names: list[str], entry: Entry) -> Entry:
         """One more name of a file of this layer, or a copy of one of the layers below."""
-        told, is_folder = os.fsdecode(header.target), self._options.is_folder
+        target, is_folder = os.fsdecode(header.target), self._options.is_folder
         linked = Paths(not is_folder).names(header.target, "the file that it links to")
         aufs = self._aufs_links.get(_path(linked))
         here = aufs or (self._tree.file_at(linked, None, is_folder) if linked else None)
         found = here or (self._tree.file_at(linked, self._options.below.root) if linked else None)
         if found is None:
-            raise Unfit(f"it links to {told}, which is no file of this layer so far or of those below")
+            raise Unfit(f"it links to {target}, which is no file of this layer so far or of those below")
         if METACOPY in found.attributes and not is_folder:
-            raise Unfit(f"it links to {told}, a file without its contents")
+            raise Unfit(f"it links to {target}, a file without its contents")
         self._options.budget.attributes.take(len(found.attributes))
         if (entry.mode, entry.uid, entry.gid) != (found.mode, found.uid, found.gid):
             self._losses.add(Loss.LINK_HEADER, _path(names))

@@ -123,8 +123,8 @@ def _packed_block(block: bytes, before: bytes, flush: int) -> bytes:
 @contextlib.contextmanager
 def _by_zstd(file: IO[bytes]) -> Iterator[Write]:
     command = [str(shutil.which("zstd")), *_ZSTD_WORDS]
-    with tempfile.TemporaryFile() as told:
-        with running(command, stdin=subprocess.PIPE, stdout=file, stderr=told) as process:
+    with tempfile.TemporaryFile() as messages:
+        with running(command, stdin=subprocess.PIPE, stdout=file, stderr=messages) as process:
             assert process.stdin is not None
             with contextlib.suppress(BrokenPipeError):
                 yield process.stdin.write
@@ -132,4 +132,4 @@ def _by_zstd(file: IO[bytes]) -> Iterator[Write]:
                 process.stdin.close()
             status = process.wait()
         if status != 0:
-            raise cannot_write("a layer", f"zstd failed: {last_words(told, 'zstd', status)}")
+            raise cannot_write("a layer", f"zstd failed: {last_words(messages, 'zstd', status)}")

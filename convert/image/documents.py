@@ -149,12 +149,12 @@ class _Of:
     """A value of one type of Python's."""
 
     kind: type
-    told: str
+    label: str
 
     def require(self, value: Json) -> None:
         """Refuses others; true and false are no numbers."""
         if type(value) is not self.kind:
-            raise Misshapen(f"is no {self.told}")
+            raise Misshapen(f"is no {self.label}")
 
 
 @dataclass(frozen=True)

@@ -60,7 +60,7 @@ class ImageLayer:
 
     @contextlib.contextmanager
     def _digested(self, packed: Reader) -> Iterator[Reader]:
-        """The same bytes. That they aren't those of the digest is told before what is wrong with what they hold."""
+        """The same bytes. That they aren't those of the digest is reported before what is wrong with what they hold."""
         if self.digest is None:
             yield packed
             return
@@ -253,8 +253,8 @@ class _Documents:
         with self.members.opened(name) as part, reading(self.path(name)):
             packing = part.packing()
         if said not in (None, packing):
-            told = [word or "plain" for word in (said, packing)]
-            raise cannot_read(self.path(name), f"its media type says {told[0]}, and its bytes are {told[1]}")
+            wanted, found = (word or "plain" for word in (said, packing))
+            raise cannot_read(self.path(name), f"its media type says {wanted}, and its bytes are {found}")
 
 
 def _wrong_bytes(path: str, digest: Digest) -> ReadFault:
@@ -325,8 +325,8 @@ class _Layout:
         """An image, or an index inside of the one that is visited; whatever else is there isn't read."""
         if descriptor.media_type not in (None, *INDEX_TYPES, *MANIFEST_TYPES):
             return
-        name, told = _blob_in_layout(descriptor.digest), platform_text(stated)
-        before = self._choices.get((descriptor.digest, told))
+        name, wanted = _blob_in_layout(descriptor.digest), platform_text(stated)
+        before = self._choices.get((descriptor.digest, wanted))
         if before:
             before.names.update(dict.fromkeys(names))
             return
@@ -335,8 +335,8 @@ class _Layout:
         if isinstance(document, Index):
             self._visit(document, name, names, stated, depth + 1)
         else:
-            self._choices[descriptor.digest, told] = _InLayout(
-                told or self._platform(document), dict.fromkeys(names), document, name, stated
+            self._choices[descriptor.digest, wanted] = _InLayout(
+                wanted or self._platform(document), dict.fromkeys(names), document, name, stated
             )
 
     def _require_same(self, descriptor: Descriptor) -> None:

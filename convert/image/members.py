@@ -43,33 +43,33 @@ class Members(Protocol):
 def opened_members(path: str) -> Iterator[Members]:
     """The files of the image at a path, or of the archive that standard input gives."""
     is_input = path == STANDARD_INPUT
-    told = "standard input" if is_input else path
-    with reading(told):
+    label = "standard input" if is_input else path
+    with reading(label):
         is_folder = not is_input and stat.S_ISDIR(os.stat(path).st_mode)
     if is_folder:
         yield _Folder(path)
         return
     with contextlib.ExitStack() as files:
-        with reading(told):
+        with reading(label):
             file = os.dup(0) if is_input else os.open(path, os.O_RDONLY | os.O_CLOEXEC)
             files.callback(os.close, file)
             status = os.fstat(file)
         is_pipe = stat.S_ISFIFO(status.st_mode) or stat.S_ISSOCK(status.st_mode)
         if not is_pipe and not stat.S_ISREG(status.st_mode):
-            raise cannot_read(told, "it is neither a folder, nor a regular file, nor a pipe")
+            raise cannot_read(label, "it is neither a folder, nor a regular file, nor a pipe")
         if is_pipe or is_packed(os.pread(file, HEAD_BYTES, 0)):
             source = io.FileIO(file, closefd=False) if is_pipe else Slice(file, 0, status.st_size)
-            file = _copied(source, told, files, may_wait=is_pipe)
-        yield _Archive(file, told)
+            file = _copied(source, label, files, may_wait=is_pipe)
+        yield _Archive(file, label)
 
 
-def _copied(source: io.RawIOBase, told: str, files: contextlib.ExitStack, *, may_wait: bool) -> int:
+def _copied(source: io.RawIOBase, label: str, files: contextlib.ExitStack, *, may_wait: bool) -> int:
     """What a pipe gives, or a packed archive, unpacked in an open file without a name, to be read here and there."""
     with writing(tempfile.gettempdir()):
         copy = files.enter_context(tempfile.TemporaryFile(buffering=0)).fileno()
-    with unpacked(source, told, may_wait=may_wait) as stream:
+    with unpacked(source, label, may_wait=may_wait) as stream:
         with writing(tempfile.gettempdir()):
-            _write_with_holes(copy, iter(lambda: _read(stream, told), b""))
+            _write_with_holes(copy, iter(lambda: _read(stream, label), b""))
     return copy
 
 
@@ -83,8 +83,8 @@ def _write_with_holes(file: int, pieces: Iterator[bytes]) -> None:
     os.truncate(file, os.lseek(file, 0, os.SEEK_CUR))
 
 
-def _read(stream: Source, told: str) -> bytes:
-    with reading(told):
+def _read(stream: Source, label: str) -> bytes:
+    with reading(label):
         return stream.read(PIECE)
 
 
@@ -98,7 +98,7 @@ def _inner(name: str) -> str | None:
     return None if way.startswith(("/", "../")) or way in ("..", ".") or "\0" in way else way
 
 
-def _told(name: bytes) -> str:
+def _text_of(name: bytes) -> str:
     """A name in an archive as a text, if the kernel has names that are as long."""
     if len(name) > _MAX_NAME:
         raise TarFault(f"a name of over {_MAX_NAME:,} bytes")
@@ -172,7 +172,7 @@ class _Archive:
         for header in archive:
             headers.take()
             names.take(len(header.name) + len(header.target))
-            name = _inner(_told(header.name))
+            name = _inner(_text_of(header.name))
             if name is None:
                 continue
             self._places.pop(name, None)
@@ -182,9 +182,9 @@ class _Archive:
             if header.type in REGULAR_TYPES:
                 self._places[name] = source.place, header.size
             elif header.type == SYMLINK:
-                self._links[name] = posixpath.join(posixpath.dirname(name), _told(header.target))
+                self._links[name] = posixpath.join(posixpath.dirname(name), _text_of(header.target))
             elif header.type == HARD_LINK:
-                self._links[name] = _told(header.target)
+                self._links[name] = _text_of(header.target)
 
     def size(self, name: str) -> int | None:
         """The size of a file."""

@@ -8,6 +8,7 @@ from dataclasses import dataclass, replace
 from typing import IO, Any
 
 from ..common.contents import PIECE, PRIVATE_MODE, DigestedBeside, OtherContents, digest_and_size
+from ..common.disk_space import require_room
 from ..common.faults import ReadFault, UsageFault, cannot_read, reading, writing
 from ..common.outputs import new_folder, write_file_in_place
 from ..common.progress import Progress, counted, note, note_path
@@ -20,7 +21,7 @@ from ..model.entries import (
 from ..model.links import FirstNames, take_links
 from ..model.manifests import read_manifest
 from ..tar import headers as tar
-from ..tar.disk_space import least_archive, require_room
+from ..tar.least_sizes import least_archive
 from ..tar.headers import Header
 from ..tar.writer import TYPES, TarWriter
 from .archive_names import OPAQUE_NAME, WHITEOUT_PREFIX
@@ -78,7 +79,7 @@ def pack(options: PackOptions) -> None:
     layers = [list(_packable(path, options)) for path in reversed(options.layers)]
     out = options.out
     if options.compress == NONE:
-        require_room(out.told, out.place, sum(map(least_archive, layers)))
+        require_room(out.label, out.place, sum(map(least_archive, layers)))
     if out.form is Form.ARCHIVE:
 
         def fill(file: IO[bytes]) -> None:
@@ -86,10 +87,10 @@ def pack(options: PackOptions) -> None:
             _write_image(files, layers, (given, annotations), options)
             files.end()
 
-        with writing(out.told):
+        with writing(out.label):
             write_file_in_place(out.path, out.place, fill, PRIVATE_MODE)
         return
-    with new_folder(out.path) as folder, writing(out.told):
+    with new_folder(out.path) as folder, writing(out.label):
         _write_image(FolderFiles(folder, _blob_name(out, "")), layers, (given, annotations), options)
 
 
@@ -169,7 +170,7 @@ def _write_image(
 def _write_copy(files: ImageFiles, manifest: Document, options: PackOptions) -> None:
     """What a folder of skopeo's `dir:` has beside the blobs."""
     if options.tag is not None:
-        note_path(options.out.told, f"a folder dir: has no place for the name {options.tag}")
+        note_path(options.out.label, f"a folder dir: has no place for the name {options.tag}")
     files.put(_SAVED, _json(manifest))
     files.put("version", _COPY)
 

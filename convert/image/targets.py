@@ -55,7 +55,7 @@ class Target:
         return self.form is Form.ARCHIVE and self.path == STANDARD_OUTPUT
 
     @property
-    def told(self) -> str:
+    def label(self) -> str:
         """Its place as a person named it."""
         path = self.given or self.path
         return "standard output" if path == STANDARD_OUTPUT and self.form is Form.ARCHIVE else path

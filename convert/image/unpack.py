@@ -5,6 +5,7 @@ import os
 from dataclasses import dataclass, replace
 
 from ..common.budgets import Budget
+from ..common.disk_space import require_room
 from ..common.faults import cannot_read
 from ..common.outputs import new_folder, write_text
 from ..model import rules, stacks
@@ -13,7 +14,6 @@ from ..model.entries import REDIRECT
 from ..model.links import LinkNames, links_path
 from ..model.manifests import has_attribute, write_manifest
 from ..model.merged_tree import MergedTree, write_shown_links
-from ..tar.disk_space import require_room
 from .ahead import NewWriter, layers_read
 from .archives import LayerArchive, ReadOptions
 from .configuration import text_of

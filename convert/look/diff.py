@@ -42,7 +42,7 @@ class DiffOptions:
     only_sums: bool = False
 
 
-def diff(options: DiffOptions, tell: Callable[[Iterable[str]], None]) -> None:
+def diff(options: DiffOptions, print_lines: Callable[[Iterable[str]], None]) -> None:
     """Prints what differs; fails if anything does."""
     require_one_pipe([options.old, options.new])
     sums = _Sums()
@@ -52,11 +52,11 @@ def diff(options: DiffOptions, tell: Callable[[Iterable[str]], None]) -> None:
         if options.only_sums:
             for _ in found:
                 pass
-            tell(sums.lines(options.as_json))
+            print_lines(sums.lines(options.as_json))
         elif options.as_json:
-            tell(_json_lines(found, sums))
+            print_lines(_json_lines(found, sums))
         else:
-            tell(map(_line, found))
+            print_lines(map(_line, found))
     if sums.marks.total():
         raise Different(f"{options.old} and {options.new} differ: {sums.text()}")
 
@@ -110,17 +110,17 @@ class _Sums:
     def text(self) -> str:
         """The numbers in a line."""
         words = [("added", _ADDED), ("removed", _REMOVED), ("changed", _CHANGED)]
-        told = [f"{self.marks[mark]:,} {word}" for word, mark in words if self.marks[mark]]
+        numbers = [f"{self.marks[mark]:,} {word}" for word, mark in words if self.marks[mark]]
         members = self.marks[_CONFIGURATION]
-        return ", ".join([*told, *[counted(members, "member", "members") + " of the configuration"] * bool(members)])
+        return ", ".join([*numbers, *[counted(members, "member", "members") + " of the configuration"] * bool(members)])
 
     def lines(self, as_json: bool) -> Iterator[str]:
         """The numbers, one to a line or as an object."""
-        told = self.object()
+        sums = self.object()
         if as_json:
-            yield _json(told)
+            yield _json(sums)
         else:
-            yield from (f"{name} {number}\n" for name, number in told.items())
+            yield from (f"{name} {number}\n" for name, number in sums.items())
 
     def object(self) -> dict[str, int]:
         """The numbers for a program: of paths, of members, and of the changed paths in each aspect."""
@@ -157,11 +157,11 @@ def _line(change: _Any) -> str:
         return f"{mark} {_CONFIGURATION}: {printable('.'.join(change.member))} {' -> '.join(sides)}\n"
     if change.old is None or change.new is None:
         return f"{mark} {name_text(change.path)}\n"
-    told = ", ".join(_told(aspect, change.old, change.new) for aspect in change.aspects)
-    return f"{mark} {name_text(change.path)}: {told}\n"
+    differences = ", ".join(_difference(aspect, change.old, change.new) for aspect in change.aspects)
+    return f"{mark} {name_text(change.path)}: {differences}\n"
 
 
-def _told(aspect: str, old: ShowLine, new: ShowLine) -> str:
+def _difference(aspect: str, old: ShowLine, new: ShowLine) -> str:
     """What differs in an aspect."""
     if aspect == "attributes":
         before, after = attributes_of(old), attributes_of(new)

@@ -40,15 +40,15 @@ def attributes_of(line: ShowLine) -> dict[str, str]:
 
 def object_of(line: ShowLine) -> dict[str, Any]:
     """A line for a program, without its path. Times are in seconds, as decimal fractions."""
-    told: dict[str, Any] = {
+    members: dict[str, Any] = {
         "kind": line.kind, "mode": line.mode, "uid": int(line.uid), "gid": int(line.gid),
         "mtime": times.to_decimal(times.of_shown(line.mtime)),
     }
     if line.kind == FILE:
-        told.update({"size": int(line.size) if line.size != NONE else None, "sha256": line.what})
+        members.update({"size": int(line.size) if line.size != NONE else None, "sha256": line.what})
     if line.kind == SYMLINK:
-        told["target"] = decoded(line.what)
+        members["target"] = decoded(line.what)
     if line.kind in (CHAR, BLOCK):
-        told["device"] = line.what
+        members["device"] = line.what
     attributes = {decoded(name): value for name, value in attributes_of(line).items()}
-    return {**told, "attributes": attributes} if attributes else told
+    return {**members, "attributes": attributes} if attributes else members

@@ -161,40 +161,40 @@ class LayerTree:
             return None
         return found
 
-    def settle(self, below: Directory | None, tell: Callable[[Gap, str], None]) -> None:
+    def settle(self, below: Directory | None, report: Callable[[Gap, str], None]) -> None:
         """Gives directories that the archive leaves out what the layers below show there.
 
         If these show nothing, whiteouts by themselves make no directory. An opaque root, which overlayfs
         hasn't, becomes whiteouts of what is below.
         """
-        self._settle(self.root, below, "", tell)
+        self._settle(self.root, below, "", report)
         if self.root.is_opaque:
             self.root.is_opaque = False
             for name in below.children if below else ():
                 self.put_whiteout([name], whiteout())
 
     def _settle(
-        self, folder: Folder, below: Directory | None, path: str, tell: Callable[[Gap, str], None]
+        self, folder: Folder, below: Directory | None, path: str, report: Callable[[Gap, str], None]
     ) -> None:
         inner = [(name, child) for name, child in folder.children.items() if isinstance(child, Folder)]
         for name, child in inner:
             under = folder.lower(below, name)
             if child.is_anew and isinstance(under, Directory):
                 child.is_opaque = True
-                tell(Gap.ANEW, f"{path}/{name}")
-            self._settle(child, under if isinstance(under, Directory) else None, f"{path}/{name}", tell)
+                report(Gap.ANEW, f"{path}/{name}")
+            self._settle(child, under if isinstance(under, Directory) else None, f"{path}/{name}", report)
             if child.says_nothing(under):
                 self._drop(folder, name, child)
                 for hidden in [*child.whiteouts, *([""] if child.is_opaque else [])]:
-                    tell(Gap.WHITEOUT, f"{path}/{name}/{hidden}")
+                    report(Gap.WHITEOUT, f"{path}/{name}/{hidden}")
             elif not child.is_stated and isinstance(under, Entry):
-                tell(Gap.OVER_OTHER, f"{path}/{name}")
+                report(Gap.OVER_OTHER, f"{path}/{name}")
         if not folder.is_stated:
             if below is not None:
                 self._budget.attributes.take(len(below.entry.attributes))
                 folder.entry = _shown_directory(below.entry)
             elif folder.children and not folder.is_root:
-                tell(Gap.UNKNOWN, path or "/")
+                report(Gap.UNKNOWN, path or "/")
 
     def _drop(self, parent: Folder, name: str, folder: Folder) -> None:
         """Takes a directory away with the whiteouts in it."""

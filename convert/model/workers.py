@@ -54,11 +54,11 @@ class _Worker:
             raise _fault_of(bytes(self.received[_DIGEST_BYTES:]))
 
 
-def _fault_of(told: bytes) -> Fault:
+def _fault_of(message: bytes) -> Fault:
     kinds = {READING: ReadFault, WRITING: WriteFault}
-    if not told:
+    if not message:
         return Fault("a worker was ended")
-    return kinds.get(told[0], Fault)(told[1:].decode("utf-8", "replace"))
+    return kinds.get(message[0], Fault)(message[1:].decode("utf-8", "replace"))
 
 
 def give_blobs(files: Sequence[Entry], workers: int, job: Job, step: Callable[[int], None]) -> None:

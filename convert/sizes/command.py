@@ -52,7 +52,7 @@ class SizesOptions:
     base: str | None = None  # an image, or how many of the layers, the lowest ones
 
 
-def sizes(options: SizesOptions, tell: Callable[[Iterable[str]], None]) -> None:
+def sizes(options: SizesOptions, print_lines: Callable[[Iterable[str]], None]) -> None:
     """Prints the sizes, and fails if more than may be is wasted."""
     if options.stack is not None:
         require_ordinary(len(options.stack.layers), options.data_layers)
@@ -66,7 +66,7 @@ def sizes(options: SizesOptions, tell: Callable[[Iterable[str]], None]) -> None:
     if options.page is not None:
         write_page(options.page, found, given.origins, given.name)
     if options.page != STANDARD_OUTPUT:
-        tell(
+        print_lines(
             json_text(found, given.origins) if options.as_json
             else table(found, given.origins, waste, options.exact, screen_width())
         )

@@ -16,7 +16,7 @@
   const section = document.getElementById("map");
   const map = section.querySelector(".map");
   const way = section.querySelector("nav");
-  const told = section.querySelector(".told");
+  const line = section.querySelector(".described");
   const list = section.querySelector(".list");
   let current = 0;
   let isFirst = true;
@@ -155,7 +155,7 @@
     const into = document.createDocumentFragment();
     fill(current, { x: 0, y: 0, w: map.clientWidth, h: map.clientHeight }, 0, into);
     map.replaceChildren(into);
-    told.textContent = describe(current);
+    line.textContent = describe(current);
   }
 
   function go(node) {
@@ -197,10 +197,10 @@
   for (const kind of ["pointerover", "focusin"]) {
     map.addEventListener(kind, (event) => {
       const node = nodeAt(event);
-      if (node !== null) told.textContent = describe(node);
+      if (node !== null) line.textContent = describe(node);
     });
   }
-  map.addEventListener("pointerleave", () => { told.textContent = describe(current); });
+  map.addEventListener("pointerleave", () => { line.textContent = describe(current); });
   addEventListener("keydown", (event) => {
     if (event.target instanceof HTMLInputElement) return;
     if (event.key === "Escape" && current > 0) go(parents[current]);

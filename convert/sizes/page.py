@@ -69,7 +69,7 @@ _MAP = """\
 keyboard arrows and Enter, and Escape back.</p>
 <nav aria-label="way to the directory"></nav>
 <div class="map"></div>
-<p class="told" aria-live="polite"></p>
+<p class="described" aria-live="polite"></p>
 <details class="list"><summary>What is in it</summary>
 <table><thead><tr><th class="number">Bytes<th class="number">Layer<th>Name</tr></thead><tbody></tbody></table><p></p>
 </details>

@@ -134,27 +134,27 @@ def scan_file(
         tree = _read(layer, options)
     finally:
         os.close(file)
-    told = Losses()
+    left_out = Losses()
     for path in layer.sockets:
-        told.add(Loss.SOCKET, path)
+        left_out.add(Loss.SOCKET, path)
         if options.hides_sockets:
             tree.put(path[1:].split("/"), whiteout())
-    told.tell(layer.name)
+    left_out.report(layer.name)
     if links is not None:
         renumber((entry for _, entry in tree.entries()), links)
     losses.hard_links += write_layer(options.out, tree.entries, options.layer, links is not None)
     return tree.entries()
 
 
-def squashfs_tree(path: str, told_as: str, userxattr: bool) -> LayerTree:
+def squashfs_tree(path: str, reported_path: str, userxattr: bool) -> LayerTree:
     """The entries of a squashfs that was written here, with the digests of its files."""
-    with reading(told_as):
+    with reading(reported_path):
         file = os.open(path, READ_WHERE_IT_LEADS)
     try:
-        layer = _FileLayer(told_as, Form.SQUASHFS, file)
+        layer = _FileLayer(reported_path, Form.SQUASHFS, file)
         read_options = ReadOptions(
-            out=told_as, overlay_marks=True, writer=Digester(), budget=Budget(), below=MergedTree(), is_folder=True,
-            userxattr=userxattr,
+            out=reported_path, overlay_marks=True, writer=Digester(), budget=Budget(), below=MergedTree(),
+            is_folder=True, userxattr=userxattr,
         )
         return LayerArchive(layer, read_options).tree()
     finally:

@@ -61,15 +61,15 @@ def entry_count(file: int, path: str) -> int:
 
 
 @contextlib.contextmanager
-def archive_of(file: int, path: str, tell_socket: Callable[[str], None]) -> Iterator[Source]:
+def archive_of(file: int, path: str, report_socket: Callable[[str], None]) -> Iterator[Source]:
     """The archive of all that an open squashfs file holds; sockets, which archives don't have, are reported."""
     if entry_count(file, path) > rules.MAX_ENTRIES:
         raise cannot_read(path, f"it has over {rules.MAX_ENTRIES:,} entries")
     command = [require_program(_READER), "--root-becomes", ".", f"/dev/fd/{file}"]
     limits = {resource.RLIMIT_AS: _MOST_MEMORY, resource.RLIMIT_FSIZE: _MOST_TOLD}
-    with tempfile.TemporaryFile() as told:
+    with tempfile.TemporaryFile() as messages:
         with running(
-            command, stdout=subprocess.PIPE, stderr=told, pass_fds=[file], environment=_ENVIRONMENT, limits=limits
+            command, stdout=subprocess.PIPE, stderr=messages, pass_fds=[file], environment=_ENVIRONMENT, limits=limits
         ) as process:
             assert isinstance(process.stdout, io.BufferedReader)
             try:
@@ -80,21 +80,21 @@ def archive_of(file: int, path: str, tell_socket: Callable[[str], None]) -> Iter
                     raise
             process.stdout.close()
             status = process.wait()
-        sockets, words = _sockets_and_words(told)
+        sockets, words = _sockets_and_words(messages)
     if status != 0 or words:
         raise cannot_read(path, f"its squashfs is broken: {_reason(words, command[-1], _READER, status)}")
     for name in sockets:
-        tell_socket(name)
+        report_socket(name)
 
 
 @contextlib.contextmanager
-def written(folder: str, name: str, told_as: str, compress: str | None) -> Iterator[Write]:
+def written(folder: str, name: str, reported_path: str, compress: str | None) -> Iterator[Write]:
     """What takes the bytes of an archive, of which a squashfs is made of a name that nothing in a folder has."""
     command = [require_program(_WRITER), "--quiet", "--no-skip", "--num-jobs", str(usual_workers())]
     command += [] if compress is None else ["--compressor", compress]
-    with tempfile.TemporaryFile() as told:
+    with tempfile.TemporaryFile() as messages:
         with running(
-            [*command, name], stdin=subprocess.PIPE, stderr=told, folder=folder, environment=_ENVIRONMENT
+            [*command, name], stdin=subprocess.PIPE, stderr=messages, folder=folder, environment=_ENVIRONMENT
         ) as process:
             assert process.stdin is not None
             with contextlib.suppress(BrokenPipeError):
@@ -102,11 +102,11 @@ def written(folder: str, name: str, told_as: str, compress: str | None) -> Itera
             with contextlib.suppress(BrokenPipeError):
                 process.stdin.close()
             status = process.wait()
-        told.seek(0)
-        words = told.read()
+        messages.seek(0)
+        words = messages.read()
     if status != 0:
         reason = os.strerror(errno.ENOSPC) if _is_full(folder) else _reason(words, name, _WRITER, status)
-        raise cannot_write(told_as, reason)
+        raise cannot_write(reported_path, reason)
 
 
 def _is_full(folder: str) -> bool:
@@ -115,10 +115,10 @@ def _is_full(folder: str) -> bool:
     return free.f_bavail * free.f_frsize < _LEAST_FREE
 
 
-def _sockets_and_words(told: IO[bytes]) -> tuple[list[str], bytes]:
+def _sockets_and_words(messages: IO[bytes]) -> tuple[list[str], bytes]:
     """The paths of the sockets that the program said it left out, and all else that it said."""
-    told.seek(0)
-    text, sockets, place = told.read(), [], 0
+    messages.seek(0)
+    text, sockets, place = messages.read(), [], 0
     before, between, after = _SOCKET
     while text.startswith(before, place):
         begin = place + len(before)

@@ -89,9 +89,9 @@ def shown(folder: str, top: str) -> str:
 
 def done(*words: str) -> str:
     """What the command prints, if it ends well."""
-    status, printed, told = call(*words)
+    status, printed, messages = call(*words)
     if status != 0:
-        raise RuntimeError(f"{words}: {told}")
+        raise RuntimeError(f"{words}: {messages}")
     return printed
 
 
@@ -104,9 +104,9 @@ def main(folder: str) -> None:
         shutil.move(f"{place}/var/old", f"{place}/var/new")
         os.chmod(f"{place}/etc/conf.d/b", 0o600)
         top = os.path.dirname(place)
-        told = {"chain": chain(top), "mounted": folders_of_mount(place), "kernel": done("mounted", place)}
-        told["noted"] = call("store", top, "--out", f"{folder}/mounted", "--digests-only")[2]
-    print(json.dumps(told | {"shown": shown(folder, top)}))
+        messages = {"chain": chain(top), "mounted": folders_of_mount(place), "kernel": done("mounted", place)}
+        messages["noted"] = call("store", top, "--out", f"{folder}/mounted", "--digests-only")[2]
+    print(json.dumps(messages | {"shown": shown(folder, top)}))
 
 
 if __name__ == "__main__":

@@ -5,9 +5,9 @@ Python 3.11, standard library; needs the built program in both checkouts, and zs
 several forms by both; here layers are read side by side, whatever their size, by every other run. Ends with 0 if nothing
 differs.
 
-    python3 tests/convert/converters.py OTHER [--images N] [--seed N] [--forms N] [--told]
+    python3 tests/convert/converters.py OTHER [--images N] [--seed N] [--forms N] [--messages]
 
-OTHER is a folder with `layers` or `layers.py`. With --told what is printed must be the same too.
+OTHER is a folder with `layers` or `layers.py`. With --messages what is printed must be the same too.
 """
 import argparse
 import gzip
@@ -133,8 +133,8 @@ def commands(checkout: Path) -> list[str]:
     return [sys.executable, "-B", str(names[0])]
 
 
-def compare(pick: random.Random, other: list[str], place: Path, forms: int, is_told: bool) -> list[str]:
-    """Makes an image, and compares what both do with it; tells the words for which that differs."""
+def compare(pick: random.Random, other: list[str], place: Path, forms: int, with_messages: bool) -> list[str]:
+    """Makes an image, and compares what both do with it; reports the words for which that differs."""
     image = make_image(pick, place)
     todo = [["unpack", image, "--out", "out"], ["unpack", image, "--out", "out", "--digests-only"]]
     todo += [["flatten", image, "--out", form, *words] for form, words in pick.sample(FORMS, forms)]
@@ -143,7 +143,7 @@ def compare(pick: random.Random, other: list[str], place: Path, forms: int, is_t
         beside = [sys.executable, "-B", "-c", SIDE_BY_SIDE, str(HERE)]
         ours = done(beside if (number + len(image)) % 2 else commands(HERE), place, words)
         theirs = done(other, place, words)
-        count = 4 if is_told else 2
+        count = 4 if with_messages else 2
         if ours[:count] != theirs[:count]:
             wrong.append(f"{' '.join(words)}: {ours[0]} {ours[3]!r}, the other {theirs[0]} {theirs[3]!r}")
     return wrong
@@ -155,12 +155,12 @@ def main() -> None:
     parser.add_argument("--images", type=int, default=60, help="how many [default: 60]")
     parser.add_argument("--seed", type=int, default=1, help="the first image [default: 1]")
     parser.add_argument("--forms", type=int, default=3, help="in how many each is flattened [default: 3]")
-    parser.add_argument("--told", action="store_true", help="compare what is printed too")
+    parser.add_argument("--messages", action="store_true", help="compare what is printed too")
     given = parser.parse_args()
     different = 0
     for seed in range(given.seed, given.seed + given.images):
         with tempfile.TemporaryDirectory(prefix="layers-test-") as place:
-            for text in compare(random.Random(seed), commands(given.other), Path(place), given.forms, given.told):
+            for text in compare(random.Random(seed), commands(given.other), Path(place), given.forms, given.messages):
                 different += 1
                 print(f"image {seed}: {text}")
     print(f"{given.images} images, {different} differences")

@@ -346,9 +346,9 @@ def lines_of(groups: Iterable[list[str]]) -> list[str]:
 
 
 def _done(*words: str) -> str:
-    status, printed, told = call(*words)
+    status, printed, messages = call(*words)
     if status != 0:
-        raise RuntimeError(f"{words}: {told}")
+        raise RuntimeError(f"{words}: {messages}")
     return printed
 
 

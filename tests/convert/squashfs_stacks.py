@@ -40,9 +40,9 @@ def opened(squashfs: str, place: str) -> Iterator[str]:
 
 def done(*words: str) -> str:
     """Calls the command; gives what it prints."""
-    status, printed, told = call(*words)
+    status, printed, messages = call(*words)
     if status != 0:
-        raise RuntimeError(f"{words}: {told}")
+        raise RuntimeError(f"{words}: {messages}")
     return printed
 
 

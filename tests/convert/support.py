@@ -45,13 +45,13 @@ def program_words() -> list[str]:
 
 def call(*words: object) -> tuple[int, str, str]:
     """Runs the command in this process: status, standard output, standard error."""
-    printed, told = io.StringIO(), io.StringIO()
-    with contextlib.redirect_stdout(printed), contextlib.redirect_stderr(told):
+    printed, messages = io.StringIO(), io.StringIO()
+    with contextlib.redirect_stdout(printed), contextlib.redirect_stderr(messages):
         try:
             status = command.main([str(word) for word in words])
         except SystemExit as end:
             status = end.code if isinstance(end.code, int) else 1
-    return status, printed.getvalue(), told.getvalue()
+    return status, printed.getvalue(), messages.getvalue()
 
 
 def run(*words: object, **more: object) -> "subprocess.CompletedProcess[str]":

@@ -107,13 +107,13 @@ class Same(AheadTest):
                 self.require_same(*pick.choice(([], ["--digests-only"])))
                 self.empty()
 
-    def test_the_lowest_fault_is_told(self) -> None:
+    def test_the_lowest_fault_is_reported(self) -> None:
         """Those of the layers above are of no account, nor which process is quick."""
         bad = archive([member("../x", b"a")])
         for layers in ([bad, archive([member("a", bytes(LARGE_PIECE))]), b"x" * 2_000], [archive([]), b"y" * 999, bad]):
             write_layout(self.path("image"), layers)
-            status, _, told = self.require_same()  # type: ignore[misc]
-            self.assertEqual((status, told.count("\n")), (3, 1), told)
+            status, _, messages = self.require_same()  # type: ignore[misc]
+            self.assertEqual((status, messages.count("\n")), (3, 1), messages)
             self.empty()
 
     def test_one_budget_for_all(self) -> None:

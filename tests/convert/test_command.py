@@ -66,14 +66,14 @@ class Words(FolderTest):
             ("pack", "l", "--blobs", "b", "--out", "o", "--platform", "linux"), ("store", "x"),
             ("scan", "x", "--out", "y", "--blobs", "z", "--digests-only"),
         ):
-            status, printed, told = call(*words)
+            status, printed, messages = call(*words)
             self.assertEqual((status, printed), (2, ""), words)
-            self.assertTrue(told.startswith("usage: layers"), told)
+            self.assertTrue(messages.startswith("usage: layers"), messages)
 
     def test_help(self) -> None:
         for words in (("--help",), *((name, "-h") for name in COMMANDS)):
-            status, printed, told = call(*words)
-            self.assertEqual((status, told), (0, ""))
+            status, printed, messages = call(*words)
+            self.assertEqual((status, messages), (0, ""))
             self.assertTrue(printed.startswith("usage: layers"))
         with mock.patch.dict(os.environ, COLUMNS="100"):
             self.assertLessEqual(len(call("--help")[1].splitlines()), 40)
@@ -82,12 +82,12 @@ class Words(FolderTest):
         with open(COMMAND, encoding="utf-8") as file:
             text = file.read()
         ast.parse(text, feature_version=(3, 4))
-        told = io.StringIO()
+        messages = io.StringIO()
         for version, wanted in (((2, 7, 18), "2.7"), ((3, 9, 2), "3.9"), ((3, 10, 0), "3.10")):
-            with mock.patch("sys.version_info", version), contextlib.redirect_stderr(told):
+            with mock.patch("sys.version_info", version), contextlib.redirect_stderr(messages):
                 self.assertEqual(runpy.run_path(str(COMMAND))["run"](["--help"]), 5)
-            self.assertIn(f"layers: this is Python {wanted}, and 3.11 or later is needed\n", told.getvalue())
-        self.assertEqual(told.getvalue().count("\n"), 3)
+            self.assertIn(f"layers: this is Python {wanted}, and 3.11 or later is needed\n", messages.getvalue())
+        self.assertEqual(messages.getvalue().count("\n"), 3)
 
     def test_as_a_program(self) -> None:
         result = run("mounted", self.path("absent"))
@@ -498,8 +498,8 @@ class Stages(CommandTest):
             result = subprocess.run(
                 [sys.executable, "-B", "-c", limit + start, *self.words], capture_output=True, text=True, check=False
             )
-            told = f"layers: cannot write {self.path('blobs')}: File too large\n"
-            self.assertEqual((result.returncode, result.stderr), (4, told))
+            messages = f"layers: cannot write {self.path('blobs')}: File too large\n"
+            self.assertEqual((result.returncode, result.stderr), (4, messages))
             self.require_nothing_left("in")
 
 

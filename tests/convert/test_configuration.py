@@ -125,7 +125,7 @@ class Kept(ConfigurationTest):
         result = self.pack(1, "new", "--config", self.path("c.json"))
         self.assertIn("it names no platform; the image's is linux/amd64", result[2])
 
-    def test_told_when_the_image_is_read(self) -> None:
+    def test_reported_when_the_image_is_read(self) -> None:
         for config, reason in (
             ({"os": 5}, "is no string"), ({"config": [1]}, "config is no object"), ({"history": "x"}, "history"),
         ):

@@ -68,22 +68,22 @@ class Small(FolderTest):
         return call("diff", self.path(old), self.path(new), *words)
 
     def test_lines(self) -> None:
-        status, printed, told = self.diff()
+        status, printed, messages = self.diff()
         self.assertEqual((status, printed), (1, _CHANGED))
-        self.assertIn("new differ: 2 added, 1 removed, 4 changed, 3 members of the configuration", told)
+        self.assertIn("new differ: 2 added, 1 removed, 4 changed, 3 members of the configuration", messages)
         self.assertEqual(self.diff("--no-config")[1].splitlines(), _CHANGED.splitlines()[3:])
 
     def test_ignored(self) -> None:
         status, printed, _ = self.diff("--no-config", "--ignore", "mode,contents,link")
-        told = ["+ /bin/new é\\x0a", "- /gone", "+ /noted", "M /swap: kind file -> dir"]
-        self.assertEqual((status, printed.splitlines()), (1, told))
-        status, _, told_words = self.diff("--ignore", "kind")
+        messages = ["+ /bin/new é\\x0a", "- /gone", "+ /noted", "M /swap: kind file -> dir"]
+        self.assertEqual((status, printed.splitlines()), (1, messages))
+        status, _, fault = self.diff("--ignore", "kind")
         self.assertEqual(status, 2)
-        self.assertIn("what is ignored is one of contents, mode", told_words)
+        self.assertIn("what is ignored is one of contents, mode", fault)
 
     def test_each_aspect(self) -> None:
         plain = member("f", b"x")
-        for aspect, told, change in (
+        for aspect, messages, change in (
             ("contents", "contents", lambda: member("f", b"y")),
             ("mode", "mode 0644 -> 4755", lambda: member("f", b"x", mode=0o4755)),
             ("attributes", "attributes user.a", lambda: member("f", b"x", pax={"SCHILY.xattr.user.a": "1"})),
@@ -96,7 +96,7 @@ class Small(FolderTest):
                     write_image(self.path(name), [[folder("./"), entry]])
                 with mock.patch.dict(os.environ, {"TZ": "UTC"}):
                     status, printed, _ = self.diff(old="a", new="b")
-                self.assertEqual((status, printed[:len(f"M /f: {told}")]), (1, f"M /f: {told}"))
+                self.assertEqual((status, printed[:len(f"M /f: {messages}")]), (1, f"M /f: {messages}"))
                 self.assertEqual(self.diff("--ignore", aspect, old="a", new="b")[:2], (0, ""))
 
     def dressed(self, **stated: int) -> tuple[tarfile.TarInfo, bytes]:
@@ -133,11 +133,11 @@ class Small(FolderTest):
         os.utime(self.path("tree"), (0, 0))
         with contextlib.suppress(PermissionError):
             os.chown(self.path("tree"), 0, 0)
-        status, printed, told = self.diff("--ignore", "mtime,owner,mode", new="tree")
+        status, printed, messages = self.diff("--ignore", "mtime,owner,mode", new="tree")
         lines = ["- /bin/same", "- /bin/tool", "- /gone", "- /link", "- /swap"]
         self.assertEqual((status, printed.splitlines()), (1, lines))
-        self.assertIn("it is read as a tree", told)
-        self.assertIn("tree has no configuration", told)
+        self.assertIn("it is read as a tree", messages)
+        self.assertIn("tree has no configuration", messages)
 
 
 class BesideUmoci(FolderTest):

@@ -119,8 +119,8 @@ class Engines(unittest.TestCase):
 
     def test_through_a_pipe(self) -> None:
         self.assertEqual(len(self.inspected("given:1", ".RootFS.Layers")), _LAYERS)  # type: ignore[arg-type]
-        told = self.docker.pipe("docker save small:1 | layers flatten - --out - | docker load")
-        self.assertIn("Loaded image: small:1\n", told)
+        messages = self.docker.pipe("docker save small:1 | layers flatten - --out - | docker load")
+        self.assertIn("Loaded image: small:1\n", messages)
         self.require_same("small:1")
 
     def test_loaded_from_a_file(self) -> None:
@@ -135,8 +135,8 @@ class Engines(unittest.TestCase):
 
     def test_skopeo(self) -> None:
         flat, new = f"{self.folder}/flat.tar", f"{self.folder}/copied"
-        told = json.loads(self.podman.run(["skopeo", "inspect", f"docker-archive:{flat}"]))
-        self.assertEqual(len(told["Layers"]), 1)
+        messages = json.loads(self.podman.run(["skopeo", "inspect", f"docker-archive:{flat}"]))
+        self.assertEqual(len(messages["Layers"]), 1)
         for source in ("docker-archive", "oci-archive"):
             for target in (f"docker-archive:{new}:x:1", f"oci:{new}:x", f"dir:{new}"):
                 self.podman.run(["skopeo", "copy", "--quiet", "--insecure-policy", f"{source}:{flat}", target])
@@ -145,19 +145,19 @@ class Engines(unittest.TestCase):
             out = f"{form}:{self.folder}/{form}"
             self.docker.run([sys.executable, "-B", str(COMMAND), "flatten", f"{self.folder}/small.tar", "--out", out])
             again = json.loads(self.podman.run(["skopeo", "inspect", out]))
-            self.assertEqual(again["Layers"], told["Layers"])
+            self.assertEqual(again["Layers"], messages["Layers"])
 
     def test_the_store(self) -> None:
         """The layer of a running container beside what the kernel mounts of it."""
         container = self.docker("run", "--detach", "--network", "none", "--user", "0", "given:1", "sleep", "600").strip()
         try:
             self.docker("exec", "--user", "0", container, "sh", "-c", "rm /bin/cat && ln /srv/z /srv/more && mkdir /d")
-            told = self.docker("inspect", "--format", "{{json .GraphDriver.Data}}", container)
-            place = json.loads(told)["MergedDir"]
+            messages = self.docker("inspect", "--format", "{{json .GraphDriver.Data}}", container)
+            place = json.loads(messages)["MergedDir"]
             stored, layer = f"{self.folder}/stored", os.path.dirname(place)
             words = [sys.executable, "-B", str(COMMAND)]
             self.docker.run([*words, "store", layer, "--out", stored, "--digests-only"])
-            layers = [f"{stored}/l{number}.json" for number in range(len(json.loads(told)["LowerDir"].split(":")) + 1)]
+            layers = [f"{stored}/l{number}.json" for number in range(len(json.loads(messages)["LowerDir"].split(":")) + 1)]
             shown = subprocess.run([PROGRAM, "show", *layers], capture_output=True, text=True, check=True).stdout
             mounted = self.docker.run([*words, "mounted", place])
             self.assertEqual(list(unified_diff(shown.splitlines(), mounted.splitlines(), lineterm="")), [])

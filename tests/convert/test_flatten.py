@@ -137,13 +137,13 @@ class Steps(FlattenTest):
         self.assertEqual([words.split()[0] for words in self.calls()], ["flatten", "show", "show", "show"])
         self.left("flat.tar")
 
-    def test_each_step_is_told_with_its_time(self) -> None:
+    def test_each_step_is_reported_with_its_time(self) -> None:
         several = ["fsck: faults 0 notes 0", "vacuum: done vacuum", "merge of 2 layers: entries 2"]
         several.append("vacuum of the merged layer: done vacuum")
         for left, steps in (("1 layer", ["flatten: done flatten"]), ("2 layers", several)):
             out = f"flat{left[0]}"
-            told = self.flatten("--layers", left[0], out=out)[2].splitlines()
-            for line, begin in zip(told, (
+            messages = self.flatten("--layers", left[0], out=out)[2].splitlines()
+            for line, begin in zip(messages, (
                 "unpack: 3 layers", *steps, "show: entries 1", "show of the new layers: entries 1", f"pack: {left}",
                 "the new image, read again: entries 1", f"{self.path('all', out)}: {left} in place of 3",
             ), strict=True):
@@ -206,7 +206,7 @@ with mock.patch("convert.common.program.find_program", return_value={self.progra
             self.assertEqual(sorted(os.listdir()), ["-again", "-flat", "-image", "-kept", "-more"])
         shutil.rmtree(self.path("in", "stack"), ignore_errors=True)
 
-    def test_a_refusal_is_told_as_it_is(self) -> None:
+    def test_a_refusal_is_printed_as_it_is(self) -> None:
         for what, status in (("flatten", 1), ("show", 3), ("fsck", 1), ("vacuum", 4), ("merge", 5)):
             for words in ((), ("--keep", self.path("in", "kept"))):
                 self.manner(f"[ $what = {what} ] && {{ echo report; echo 'ovl_layers: because' >&2; exit {status}; }}")
@@ -324,8 +324,8 @@ with mock.patch("convert.common.program.find_program", return_value={self.progra
         kept = ("--keep", self.path("in", "kept \"here\""))
         for words, keep in (((), ()), (("--layers", 2, "--platform", "linux/amd64", "--compress", "gzip"), kept)):
             self.manner("")
-            status, script, told = self.flatten(*words, *keep, "--dry-run", image=given)
-            self.assertEqual((status, told, self.calls()), (0, "", []))
+            status, script, messages = self.flatten(*words, *keep, "--dry-run", image=given)
+            self.assertEqual((status, messages, self.calls()), (0, "", []))
             self.left()
             self.require_done(self.flatten(*words, image=given, out="wanted"))
             calls = self.calls()
@@ -555,14 +555,14 @@ class Umoci(ImageTest):
     def tree(self, image: str, bundle: str) -> str:
         """The tree that umoci makes of an image."""
         self.run_in("umoci", "unpack", "--image", f"{image}:small", bundle)
-        status, printed, told = call("mounted", self.path("in", bundle, "rootfs"))
-        self.assertEqual(status, 0, told)
+        status, printed, messages = call("mounted", self.path("in", bundle, "rootfs"))
+        self.assertEqual(status, 0, messages)
         return printed
 
     def configuration(self, image: str) -> dict[str, object]:
         """The configuration that skopeo prints of an image, but for its layers."""
-        told = json.loads(self.run_in("skopeo", "inspect", "--config", f"oci:{image}:small"))
-        return {name: value for name, value in told.items() if name not in ("rootfs", "history")}
+        messages = json.loads(self.run_in("skopeo", "inspect", "--config", f"oci:{image}:small"))
+        return {name: value for name, value in messages.items() if name not in ("rootfs", "history")}
 
     def test_trees_and_configurations(self) -> None:
         self.make()

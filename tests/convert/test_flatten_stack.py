@@ -151,7 +151,7 @@ class Stacks(StackTest):
                 self.assertEqual(self.shown(*files).get("/l", ("char", "0")), ("char", "0"))
 
     def test_words_that_do_not_fit(self) -> None:
-        for words, told in (
+        for words, messages in (
             (("--tag", "x"), "--tag is for images alone"), (("--dry-run",), "--dry-run is for images alone"),
             (("--compress", "none"), "--compress none is for images alone"), ((self.topmost,), "name an IMAGE"),
             (("--layers", 2), "--form squashfs makes them squashfs files"), (("--data-layers", 3), "of 3 layers 3 can't"),
@@ -159,7 +159,7 @@ class Stacks(StackTest):
             (("--form", "folder", "--compress", "xz"), "--compress is of squashfs"),
         ):
             result = self.flatten(*words)
-            self.require_fault(result, 2, told)
+            self.require_fault(result, 2, messages)
         layers = "--stack", self.middle, self.lowest, "--out", self.path("flat.squashfs")
         self.require_fault(call("flatten", *layers), 2, "middle.json is a manifest: --blobs must name")
         self.require_fault(call("flatten", "x.tar", "--form", "folder", "--out", "y"), 2, "--form is for --stack alone")
@@ -171,7 +171,7 @@ class Stacks(StackTest):
     def test_nothing_is_left(self) -> None:
         """When the new layers show something else, and when the program ends with a fault."""
         program = self.path("in", "ovl_layers")
-        for text, status, told in (
+        for text, status, messages in (
             ("case $1 in show) echo $$;; fsck) echo 'faults 0 notes 0';; esac", 5, "show something else"),
             (_OTHER_AT_THE_END, 5, "show something else"), ("exit 3", 3, "ovl_layers flatten ended with status 3"),
         ):
@@ -181,14 +181,14 @@ class Stacks(StackTest):
             self.program = [program]
             self.require_program()
             result = self.flatten()
-            self.require_fault_at_end(result, status, told)
+            self.require_fault_at_end(result, status, messages)
             self.assertEqual("layers: build: 1 layer, " in result[2], text is _OTHER_AT_THE_END)
             self.require_nothing_left("in")
 
-    def require_fault_at_end(self, result: tuple[int, str, str], status: int, told: str) -> None:
+    def require_fault_at_end(self, result: tuple[int, str, str], status: int, messages: str) -> None:
         """The last line that was printed."""
         self.assertEqual(result[0], status, result[2])
-        self.assertIn(told, result[2].splitlines()[-1])
+        self.assertIn(messages, result[2].splitlines()[-1])
 
 
 class Kernel(FolderTest):

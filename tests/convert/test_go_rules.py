@@ -64,8 +64,8 @@ class Rules(FolderTest):
             ("an empty long name is none", raw("L", b"L", b"\0") + raw("x", b"0"), {"/x": "file"}),
             ("a long target counts before a record", records({"linkpath": "a"}) + raw("K", b"K", b"b\0") + raw("x", b"2"), {"/x": "symlink"}),
         )
-        for told, layer, kinds in cases:
-            with self.subTest(told):
+        for messages, layer, kinds in cases:
+            with self.subTest(messages):
                 status, said, found = self.unpacked(layer + END)
                 self.assertEqual((status, found), (0, kinds), said)
 

@@ -225,7 +225,7 @@ class Broken(HostileTest):
             self.require_done(call("unpack", self.path("image"), "--out", self.path("out")))
         self.assertEqual(digests.new.call_count, 1)
 
-    def test_a_wrong_digest_is_told_first(self) -> None:
+    def test_a_wrong_digest_is_reported_first(self) -> None:
         """Whatever is wrong with what the bytes hold, and wherever they are found to be others."""
         for plain in (archive([member("../x", b"a")]), archive([member("f", b"a")]) + b"x" * 999_999, b"x" * 999_999):
             for data in (plain, packed(plain), packed(plain)[:-9], packed(plain) + b"x" * 600_000):
@@ -341,9 +341,9 @@ class Documents(HostileTest):
                     entry.path for entry in os.scandir(self.path("image", "blobs", "sha256"))
                 )
                 self._spoil(pick, pick.choice(places))
-            with self.subTest(number=number), contextlib.redirect_stderr(io.StringIO()) as told:
+            with self.subTest(number=number), contextlib.redirect_stderr(io.StringIO()) as messages:
                 status = command.main(["unpack", self.path("image"), "--out", self.path("out")])
-            self.assertIn(status, (0, 3), told.getvalue())
+            self.assertIn(status, (0, 3), messages.getvalue())
             self.empty()
 
     def _spoil(self, pick: random.Random, path: str) -> None:

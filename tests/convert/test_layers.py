@@ -26,7 +26,7 @@ def owned(item: Member, owner: int, time: int, **attributes: str) -> Member:
     return item
 
 
-def told(entry: Entry) -> str:
+def line_of(entry: Entry) -> str:
     """A directory or another entry in a few words."""
     marks = "".join(f" {name}={value.decode()}" for name, value in sorted(entry.attributes.items()))
     return f"{entry.kind} {entry.mode:o} {entry.uid}:{entry.gid} {shown(entry.mtime_ns)} {entry.path}{marks}"
@@ -65,7 +65,7 @@ class Parents(LayersTest):
     def upper(self, *members: Member) -> tuple[list[str], list[str]]:
         """A layer above as short words, and the notes of it."""
         layers, notes = self.unpack(self.LOWEST, list(members))
-        return list(map(told, layers[1])), notes
+        return list(map(line_of, layers[1])), notes
 
     def test_as_the_layers_below_show_them(self) -> None:
         shown, notes = self.upper(member("a/b/new", b"y"))
@@ -91,7 +91,7 @@ class Parents(LayersTest):
         shown, _ = self.upper(member(".wh.a"), member("a/b/new"))
         self.assertEqual(shown[1:3], [f"dir 755 0:0 0 /a {OPAQUE}=y", "dir 755 0:0 0 /a/b"])
         layers, _ = self.unpack(self.LOWEST, [member("a/.wh.b")], [member("a/b/new")])
-        self.assertEqual(list(map(told, layers[2]))[1:3], ["dir 700 1:2 10 /a user.k=v", "dir 755 0:0 0 /a/b"])
+        self.assertEqual(list(map(line_of, layers[2]))[1:3], ["dir 700 1:2 10 /a user.k=v", "dir 755 0:0 0 /a/b"])
 
     def test_in_place_of_a_file_of_the_same_layer(self) -> None:
         """It hides the directories of the layers below, as in a folder where one comes after the other."""
@@ -112,7 +112,7 @@ class Parents(LayersTest):
         layers, _ = self.unpack(
             self.LOWEST, [member("a", b"now a file")], [owned(folder("a", 0o1777), 3, 30)], [member("a/b/new")]
         )
-        self.assertEqual(list(map(told, layers[3]))[1:3], ["dir 1777 3:4 30 /a", "dir 755 0:0 0 /a/b"])
+        self.assertEqual(list(map(line_of, layers[3]))[1:3], ["dir 1777 3:4 30 /a", "dir 755 0:0 0 /a/b"])
 
     def test_of_an_opaque_root(self) -> None:
         shown, _ = self.upper(member(".wh..wh..opq"), member("a/new"))
@@ -124,7 +124,7 @@ class Parents(LayersTest):
     def test_marks_are_not_taken_over(self) -> None:
         marked = owned(folder("a", 0o700), 1, 10, trusted__overlay__opaque="y", user__k="v")
         layers, _ = self.unpack([], [marked, member("a/f")], [member("a/g")], words=("--overlay-marks",))
-        self.assertEqual(told(layers[2][1]), "dir 700 1:2 10 /a user.k=v")
+        self.assertEqual(line_of(layers[2][1]), "dir 700 1:2 10 /a user.k=v")
 
     def test_above_a_link_or_a_file(self) -> None:
         for name in ("link", "file"):
@@ -162,10 +162,10 @@ class Whiteouts(LayersTest):
         marks = {"trusted__overlay__opaque": "y", "trusted__overlay__origin": "o", "user__k": "v"}
         members = [folder("./"), owned(folder("d"), 0, 0, **marks)]
         layers, notes = self.unpack(members)
-        self.assertEqual(told(layers[0][1]), "dir 755 0:1 0 /d user.k=v")
+        self.assertEqual(line_of(layers[0][1]), "dir 755 0:1 0 /d user.k=v")
         self.require_note(notes, "2 attributes trusted.overlay.* left out (--overlay-marks takes them): /d")
         layers, notes = self.unpack(members, words=("--overlay-marks",))
-        self.assertEqual(told(layers[0][1]), f"dir 755 0:1 0 /d {OPAQUE}=y trusted.overlay.origin=o user.k=v")
+        self.assertEqual(line_of(layers[0][1]), f"dir 755 0:1 0 /d {OPAQUE}=y trusted.overlay.origin=o user.k=v")
         self.assertEqual(notes, [])
 
 
@@ -176,7 +176,7 @@ class OtherTools(LayersTest):
         lowest = [folder("./"), owned(member("f", b"abc", mode=0o640), 7, 70, user__k="v"), member("gone", b"x")]
         link = member("h", kind=tarfile.LNKTYPE, target="f")
         layers, notes = self.unpack(lowest, [], [link])
-        self.assertEqual(told(layers[2][1]), "file 640 7:8 70 /h user.k=v")
+        self.assertEqual(line_of(layers[2][1]), "file 640 7:8 70 /h user.k=v")
         self.assertEqual(layers[2][1].blob, hashlib.sha256(b"abc").hexdigest())
         self.require_note(notes, "1 hard link to a file of the layers below, now a copy: /h")
         for hiding in ([member(".wh.f")], [member(".wh..wh..opq")], [folder("f")]):
@@ -197,7 +197,7 @@ class OtherTools(LayersTest):
             folder("./"), member(".wh..wh.aufs"), folder(".wh..wh.plnk"), member(".wh..wh.plnk/1.2", b"x", mode=0o600),
             member("h", kind=tarfile.LNKTYPE, target=".wh..wh.plnk/1.2"), folder(".wh..wh.orph"),
         ])
-        self.assertEqual(list(map(told, layers[0])), ["dir 755 0:0 0 /", "file 600 0:0 0 /h"])
+        self.assertEqual(list(map(line_of, layers[0])), ["dir 755 0:0 0 /", "file 600 0:0 0 /h"])
         self.assertEqual(layers[0][1].blob, hashlib.sha256(b"x").hexdigest())
         self.require_note(notes, "4 entries of aufs' own (.wh..wh.*) left out: /.wh..wh.aufs, ..")
 
@@ -224,10 +224,10 @@ class OtherTools(LayersTest):
         info.uid, info.gid, info.mtime = 3, 4, 5
         raw = self._with_records(records, info.tobuf(tarfile.USTAR_FORMAT) + data.ljust(512, b"\0"))
         layers, _ = self.unpack_bytes(raw)
-        self.assertEqual(told(layers[0][1]), "file 600 3:4 5 /f user.k=")
+        self.assertEqual(line_of(layers[0][1]), "file 600 3:4 5 /f user.k=")
         raw = self._with_records({"mtime": "9", "uid": "8"}, raw, b"g")
         layers, _ = self.unpack_bytes(raw)
-        self.assertEqual(told(layers[0][1]), "file 600 3:4 5 /f user.k=")
+        self.assertEqual(line_of(layers[0][1]), "file 600 3:4 5 /f user.k=")
 
     def _with_records(self, records: dict[str, str], rest: bytes, kind: bytes = b"x") -> bytes:
         text = b"".join(tarfile.TarInfo._create_pax_generic_header({name: value}, tarfile.XHDTYPE, "utf-8")[512:]
@@ -273,11 +273,11 @@ class Again(LayersTest):
         ])
         lower = [folder("./", 0o711), member("below", b"b"), folder("x", 0o700), member("x/w", b"w"), member("d", b"d")]
         between = [folder("./"), member("below", b"c"), folder("x/y", 0o750), folder("o"), member("o/p", b"q")]
-        once, told_once = self.unpack_bytes(archive(lower), again, archive(between), packed(again))
-        twice, told_twice = self.unpack_bytes(archive(lower), again, archive(between), again)
+        once, notes_once = self.unpack_bytes(archive(lower), again, archive(between), packed(again))
+        twice, notes_twice = self.unpack_bytes(archive(lower), again, archive(between), again)
         self.assertEqual(twice, once)
         self.assertNotEqual(twice[3], twice[1])
-        self.assertEqual([line.split(": ", 2)[2:] for line in told_twice], [line.split(": ", 2)[2:] for line in told_once])
+        self.assertEqual([line.split(": ", 2)[2:] for line in notes_twice], [line.split(": ", 2)[2:] for line in notes_once])
 
 
 class Sparse(LayersTest):

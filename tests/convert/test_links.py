@@ -289,8 +289,8 @@ class Links(FolderTest):
         """The tree that umoci makes of an image, and the names in it that are one file; the tree is taken away."""
         bundle = self.path("bundle")
         subprocess.run(["umoci", "unpack", "--image", f"{self.path(image)}:x", bundle], check=True)
-        status, printed, told = call("mounted", f"{bundle}/rootfs")
-        self.assertEqual(status, 0, told)
+        status, printed, messages = call("mounted", f"{bundle}/rootfs")
+        self.assertEqual(status, 0, messages)
         names = linked_names(f"{bundle}/rootfs")
         shutil.rmtree(bundle)
         if image != "image":

@@ -133,11 +133,11 @@ class AnotherUser(OthersTest):
         self.remake(self.home, NOBODY)
         for number in moments(run, calls):
             self.remake(self.home, NOBODY)
-            status, _, told = run_with(run, number, lambda: as_nobody(act), calls)
+            status, _, messages = run_with(run, number, lambda: as_nobody(act), calls)
             with self.subTest(words=words, out=out, act=act.__name__, moment=number):
                 self.assertEqual(list(state_of(self.victim)), before)
                 self.assertNotIn((SECRET,), list(state_of(self.home)))
-                self.assertNotIn("Traceback", told)
+                self.assertNotIn("Traceback", messages)
                 self.assertIn(status, (0, 3, 4))
 
     def test_a_folder_in_its_home(self) -> None:
@@ -161,13 +161,13 @@ class AnotherUser(OthersTest):
         self.remake(self.home, NOBODY)
         for number in moments(lambda: call(*words)):
             self.remake(self.home, NOBODY)
-            status, _, told = run_with(lambda: call(*words), number, lambda: as_nobody(self.swap_names))
+            status, _, messages = run_with(lambda: call(*words), number, lambda: as_nobody(self.swap_names))
             with self.subTest(moment=number):
                 for path, *_ in (found for found in state_of(self.home) if len(found) > 1):
                     found = os.lstat(str(path))
                     if stat.S_IMODE(found.st_mode) == 0o1777:
                         self.assertEqual(os.listdir(str(path)), [])
-                self.assertEqual(status in (0, 4), True, told)
+                self.assertEqual(status in (0, 4), True, messages)
 
     def test_a_link_of_another_user(self) -> None:
         for ending, words, _ in self.commands():
@@ -217,8 +217,8 @@ class AnotherRun(OthersTest):
             runs.append(run_with(run, number, lambda: runs.append(run()), calls))
             with self.subTest(words=words, is_there=is_there, moment=number):
                 self.assertEqual(sorted(run[0] for run in runs), [0, 4], runs)
-                (told,) = (run[2] for run in runs if run[0] == 4)
-                self.assertEqual(told.splitlines()[-1].count(f"layers: cannot write {out}: "), 1, told)
+                (messages,) = (run[2] for run in runs if run[0] == 4)
+                self.assertEqual(messages.splitlines()[-1].count(f"layers: cannot write {out}: "), 1, messages)
                 self.assertEqual(sorted(os.listdir(out)), whole)
                 self.require_no_stage()
 
@@ -241,13 +241,13 @@ class AnotherRun(OthersTest):
                 for number in moments(lambda: call(*words, "--out", out), calls):
                     self.make_out(out, is_there)
                     put_there.clear()
-                    status, _, told = run_with(lambda: call(*words, "--out", out), number, put, calls)
+                    status, _, messages = run_with(lambda: call(*words, "--out", out), number, put, calls)
                     with self.subTest(words=words, is_there=is_there, moment=number):
                         for name in put_there:
                             with open(f"{out}/{name}", "rb") as file:
                                 self.assertEqual(file.read(), SECRET)
                         if status != 0:
-                            self.assertEqual(status, 4, told)
+                            self.assertEqual(status, 4, messages)
                             self.assertLessEqual(
                                 {name for name in os.listdir(out)}, {"blobs", "config.json", "d", "index.json"}
                             )
@@ -368,10 +368,10 @@ class ChangedMeanwhile(FolderTest):
         self.make()
         for number in moments(lambda: call(*self.words), READS):
             self.make()
-            status, _, told = run_with(lambda: call(*self.words), number, act, READS)
+            status, _, messages = run_with(lambda: call(*self.words), number, act, READS)
             with self.subTest(act=act.__name__, moment=number):
                 if status != 0:
-                    self.assertEqual((status, told.count("meanwhile")), (3, 1), told)
+                    self.assertEqual((status, messages.count("meanwhile")), (3, 1), messages)
                     continue
                 with open(self.path("l.json"), encoding="utf-8") as file:
                     entries = {entry["path"]: entry for entry in json.load(file)["entries"]}

@@ -98,7 +98,7 @@ class Processes(unittest.TestCase):
             (b"", 3, "x ended with status 3"), (b"\n \n", -9, "x was ended by signal 9"), (b"a\n b\n", 1, "a; b"),
             (b"y" * 2_000 + b"\nz", 1, "y" * 998 + "; z"),
         ):
-            with tempfile.TemporaryFile() as told:
-                told.write(text)
-                self.assertEqual(last_words(told, "x", status), wanted)
+            with tempfile.TemporaryFile() as messages:
+                messages.write(text)
+                self.assertEqual(last_words(messages, "x", status), wanted)
 

@@ -16,7 +16,7 @@ from support import COMMAND, FolderTest, call
 
 from convert.model.links import take_links
 from convert.model.manifests import read_manifest
-from convert.tar.disk_space import least_archive, least_shown
+from convert.tar.least_sizes import least_archive, least_shown
 
 FREE = 4_096
 BYTES = 100_000
@@ -97,8 +97,8 @@ class Room(FolderTest):
                     env={**os.environ, "PATH": f"{self.folder}:{os.environ['PATH']}"},
                     preexec_fn=lambda: resource.setrlimit(resource.RLIMIT_FSIZE, (50_000, 50_000)),
                 )
-                told = f"layers: cannot write {name}: File too large\n"
-                self.assertEqual((result.returncode, result.stderr.splitlines(True)[-1]), (4, told))
+                messages = f"layers: cannot write {name}: File too large\n"
+                self.assertEqual((result.returncode, result.stderr.splitlines(True)[-1]), (4, messages))
             self.require_nothing_left(*self.there)
 
     def test_a_small_file_system(self) -> None:

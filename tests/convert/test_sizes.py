@@ -127,16 +127,16 @@ class Definitions(StacksTest):
             with open(self.path("report"), "w", encoding="ascii") as file:
                 file.writelines(stack.report())
             sizes = sizes_of(paths, data_layers, self.path("report"))
-            told = json.loads("".join(json_text(sizes, [Origin()] * len(layers))))
+            messages = json.loads("".join(json_text(sizes, [Origin()] * len(layers))))
             with self.subTest(seed=seed):
-                for number, own in enumerate(told["layers"]):
+                for number, own in enumerate(messages["layers"]):
                     numbers = wanted.numbers(number)
                     self.assertEqual({name: own[name] for name in numbers}, numbers)
                     self.assertEqual(own["shown"] + own["hidden"] + own["repeated"], own["bytes"])
-                    self.assertEqual(told["sums"]["bytes"], sum(layer["bytes"] for layer in told["layers"]))
-                self.assertEqual(told["one-layer"], wanted.one_layer())
-                self.assertEqual(told["not-shown"], wanted.not_shown())
-            met |= {one["why"] for one in told["not-shown"]} | {f"by {one['by']}" for one in told["not-shown"]}
+                    self.assertEqual(messages["sums"]["bytes"], sum(layer["bytes"] for layer in messages["layers"]))
+                self.assertEqual(messages["one-layer"], wanted.one_layer())
+                self.assertEqual(messages["not-shown"], wanted.not_shown())
+            met |= {one["why"] for one in messages["not-shown"]} | {f"by {one['by']}" for one in messages["not-shown"]}
         self.assertLessEqual({"hidden", "repeated", "by None", "by 0", "by 3"}, met)
 
     def test_with_the_program(self) -> None:
@@ -147,10 +147,10 @@ class Definitions(StacksTest):
             result = call("sizes", "--json", "--data-layers", data_layers, "--stack", *self.write(layers))
             self.require_done(result)
             wanted = PlainSizes(PlainStack(layers, data_layers))
-            told = json.loads(result[1])
+            messages = json.loads(result[1])
             with self.subTest(seed=seed):
-                self.assertEqual(told["one-layer"], wanted.one_layer())
-                self.assertEqual(told["not-shown"], wanted.not_shown())
+                self.assertEqual(messages["one-layer"], wanted.one_layer())
+                self.assertEqual(messages["not-shown"], wanted.not_shown())
 
     def test_what_redirects_repeat_is_bounded(self) -> None:
         lower = [Entry("/", DIRECTORY, 0o755), Entry("/d", DIRECTORY, 0o755)]
@@ -169,8 +169,8 @@ class Telling(SizesTest):
 
     def test_table(self) -> None:
         small = self.write_image()
-        status, printed, told = call("sizes", self.path("image"))
-        self.assertEqual((status, told), (0, ""))
+        status, printed, messages = call("sizes", self.path("image"))
+        self.assertEqual((status, messages), (0, ""))
         self.assertEqual(printed, _TABLE.replace("GZIP", f"{small:4}"))
         exact = call("sizes", self.path("image"), "--bytes")[1]
         self.assertIn("\n5703 shown, 21500 deleted but shipped, 5700 duplicate; one layer would take 6403\n", exact)
@@ -186,12 +186,12 @@ class Telling(SizesTest):
                 return True
 
         self.write_image()
-        told = Terminal()
-        with contextlib.redirect_stderr(told), contextlib.redirect_stdout(io.StringIO()):
+        messages = Terminal()
+        with contextlib.redirect_stderr(messages), contextlib.redirect_stdout(io.StringIO()):
             with mock.patch("convert.common.progress._EVERY", 0):
                 self.assertEqual(command.main(["sizes", self.path("image")]), 0)
-        whole = re.findall(r"\runpacking bytes of ([0-9a-f]{20}): ([\d,]+) of \2 *\r", told.getvalue())
-        self.assertEqual(len(set(whole)), len(_LAYERS), told.getvalue())
+        whole = re.findall(r"\runpacking bytes of ([0-9a-f]{20}): ([\d,]+) of \2 *\r", messages.getvalue())
+        self.assertEqual(len(set(whole)), len(_LAYERS), messages.getvalue())
 
     def test_json(self) -> None:
         small = self.write_image()
@@ -210,7 +210,7 @@ class Telling(SizesTest):
     def test_limits(self) -> None:
         """27,200 of 32,903 bytes are wasted: 82.667 %."""
         self.write_image()
-        for words, told in (
+        for words, messages in (
             (("--fail-over", "82.66"), "82.66 %"), (("--fail-over", "82.67"), ""), (("--fail-over", "0"), "0 %"),
             (("--fail-over", "100"), ""), (("--max-waste", "82.66%"), "82.66 %"), (("--max-waste", "82.67%"), ""),
             (("--max-waste", "27199"), "27199"), (("--max-waste", "27200"), ""), (("--max-waste", "27KB"), "27KB"),
@@ -218,9 +218,9 @@ class Telling(SizesTest):
         ):
             with self.subTest(words=words):
                 status, printed, fault = call("sizes", self.path("image"), *words)
-                self.assertEqual((status, printed[:5]), (1 if told else 0, "LAYER"))
+                self.assertEqual((status, printed[:5]), (1 if messages else 0, "LAYER"))
                 self.assertEqual(
-                    fault, f"layers: 27200 of 32903 bytes are wasted, more than {told}\n" if told else ""
+                    fault, f"layers: 27200 of 32903 bytes are wasted, more than {messages}\n" if messages else ""
                 )
 
     def test_stacks(self) -> None:

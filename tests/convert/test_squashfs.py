@@ -84,9 +84,9 @@ class Reading(FileTest):
         self.assertEqual(len(os.listdir(self.path("blobs"))), 3)
         with open(self.path("out.links"), encoding="utf-8") as file:
             self.assertIn('"names":{"/d/f":1,"/g":1}', file.read())
-        for _, told in texts:
-            self.assertIn("2 names that begin with .wh., which mean whiteouts in images alone", told)
-            self.assertNotIn("/v", told)
+        for _, messages in texts:
+            self.assertIn("2 names that begin with .wh., which mean whiteouts in images alone", messages)
+            self.assertNotIn("/v", messages)
 
     def test_userxattr(self) -> None:
         mark = {"SCHILY.xattr.user.overlay.opaque": "y"}
@@ -104,8 +104,8 @@ class Reading(FileTest):
                 made.bind(self.path("layer", name))
         words = [self.path("layer"), self.path("l.squashfs"), "-quiet", "-no-progress"]
         os.spawnlp(os.P_WAIT, "mksquashfs", "mksquashfs", *words)
-        _, told = self.scan(self.path("l.squashfs"))
-        self.assertIn("l.squashfs: 2 sockets left out, which archives don't have: /s, ..\n", told)
+        _, messages = self.scan(self.path("l.squashfs"))
+        self.assertIn("l.squashfs: 2 sockets left out, which archives don't have: /s, ..\n", messages)
         self.assertEqual(len(read_manifest(self.path("out.json"))), 1)
 
     def test_what_is_no_layer(self) -> None:
@@ -187,12 +187,12 @@ class Building(FileTest):
         times = (-1, 0, 1, 999_999_999, 2**32 * 10**9 - 1, 2**32 * 10**9, -(2**63) * 10**9)
         manifest = self.put(*(Entry(f"/{n}", "fifo", 0o644, mtime_ns=time) for n, time in enumerate(times)),
                             Entry("/s", "socket", 0o755))
-        _, _, told = self.build(manifest)
+        _, _, messages = self.build(manifest)
         for line in (
             "3 times cut to whole seconds: /2, ..", "3 times before 1970 or after the year 2105, now the nearest ",
             "1 socket left out, which archives don't have: /s",
         ):
-            self.assertIn(f"layers: {self.path('o.squashfs')}: {line}", told)
+            self.assertIn(f"layers: {self.path('o.squashfs')}: {line}", messages)
         self.scan(self.path("o.squashfs"))
         seconds = [entry.mtime_ns // 10**9 for entry in read_manifest(self.path("out.json"))[1:]]
         self.assertEqual(seconds, [0, 0, 0, 0, 2**32 - 1, 2**32 - 1, 0])

@@ -119,8 +119,8 @@ class Chains(FolderTest):
             self.require_fault(call("store", folder, *words), 3, f"cannot read {folder}: ", reason)
         for name in ("composefs-data", "lower-id"):
             os.mkdir(f"{self.layers[0]}/{name}")
-            told = f"cannot read {self.layers[0]}: it is kept in a way that isn't read: it has {name}"
-            self.require_fault(self.store(), 3, told)
+            messages = f"cannot read {self.layers[0]}: it is kept in a way that isn't read: it has {name}"
+            self.require_fault(self.store(), 3, messages)
             os.rmdir(f"{self.layers[0]}/{name}")
         self.require_nothing_left("overlay2")
 
@@ -153,11 +153,11 @@ class Buildah(FolderTest):
             capture_output=True, text=True, check=False,
         )
         self.assertEqual(result.returncode, 0, result.stdout[-5_000:] + result.stderr[-5_000:])
-        told = json.loads(result.stdout.splitlines()[-1])
-        self.assertEqual(told["chain"], told["mounted"])
-        self.assertEqual(len(told["chain"]), 3)
-        self.assertEqual(told["shown"], told["kernel"])
-        self.assertIn(": it is mounted; what was written meanwhile may be missing\n", told["noted"])
+        messages = json.loads(result.stdout.splitlines()[-1])
+        self.assertEqual(messages["chain"], messages["mounted"])
+        self.assertEqual(len(messages["chain"]), 3)
+        self.assertEqual(messages["shown"], messages["kernel"])
+        self.assertIn(": it is mounted; what was written meanwhile may be missing\n", messages["noted"])
 
 
 if __name__ == "__main__":

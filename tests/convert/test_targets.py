@@ -162,8 +162,8 @@ class PackedArchives(FolderTest):
                     file.write(data)
             command = [sys.executable, "-B", str(COMMAND), "unpack", path, "--out", self.path("out")]
             result = subprocess.run(command, input=data, capture_output=True, check=False)
-            told = result.stderr.decode().replace(self.path("image"), "standard input")
-            results.append((result.returncode, told))
+            messages = result.stderr.decode().replace(self.path("image"), "standard input")
+            results.append((result.returncode, messages))
             if result.returncode == 0:
                 self.assertIn("l0.json", os.listdir(self.path("out")))
                 shutil.rmtree(self.path("out"))
@@ -178,11 +178,11 @@ class PackedArchives(FolderTest):
             kinds.append(subprocess.run([zstd], input=self.data, capture_output=True, check=True).stdout)
         for data in kinds:
             self.assertEqual(self.unpack(data), (0, ""))
-            status, told = self.unpack(data[:-20])
-            self.assertEqual(status, 3, told)
-            self.assertIn("stream is broken", told)
-        status, told = self.unpack(bz2.compress(self.data))
-        self.assertEqual((status, told), (
+            status, messages = self.unpack(data[:-20])
+            self.assertEqual(status, 3, messages)
+            self.assertIn("stream is broken", messages)
+        status, messages = self.unpack(bz2.compress(self.data))
+        self.assertEqual((status, messages), (
             3, "layers: cannot read standard input: it is packed by bzip2, which images don't have\n"
         ))
 

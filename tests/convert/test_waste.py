@@ -144,8 +144,8 @@ class OfImages(SizesTest):
             (base, "50 bytes of 50 bytes over the base (100.0 %) are wasted; 50 bytes by /c, duplicate in step 3\n"),
             (image, "nothing of 0 bytes over the base is wasted\n"),
         ):
-            status, printed, told = call("sizes", image, "--base", word)
-            self.assertEqual((status, told), (0, ""))
+            status, printed, messages = call("sizes", image, "--base", word)
+            self.assertEqual((status, messages), (0, ""))
             self.assertTrue(printed.endswith(end), printed)
         self.assertEqual(call("sizes", image, "--base", base, "--max-waste", "50")[0], 0)
         self.assertEqual(call("sizes", image, "--base", base, "--max-waste", "49")[0], 1)

@@ -54,19 +54,19 @@ class Pages(unittest.TestCase):
         text = page("layers.1")
         for command in _COMMANDS:
             own = text.split(f"\n.SS {command}\n", 1)[1].split("\n.S", 1)[0]
-            status, told, _ = call(command, "--help")
+            status, messages, _ = call(command, "--help")
             self.assertEqual(status, 0)
-            self.assertEqual(set(_OPTION.findall(own)) - set(_OPTION.findall(told)), set(), command)
-            self.assertEqual(set(re.findall(r"^  (--[a-z-]+)", told, re.MULTILINE)) - set(_OPTION.findall(own)), set(), command)
-            self.assertIn(words(told.split("\n\n")[1])[:200], words(own))
+            self.assertEqual(set(_OPTION.findall(own)) - set(_OPTION.findall(messages)), set(), command)
+            self.assertEqual(set(re.findall(r"^  (--[a-z-]+)", messages, re.MULTILINE)) - set(_OPTION.findall(own)), set(), command)
+            self.assertIn(words(messages.split("\n\n")[1])[:200], words(own))
 
     def test_ovl_layers(self) -> None:
         text = page("ovl_layers.1")
         for help_text in sorted((ROOT / "examples" / "help").glob("[!u]*.txt")):
             own = text.split(f"\n.SS {help_text.stem}\n", 1)[1].split("\n.S", 1)[0]
-            told = help_text.read_text(encoding="utf-8")
-            self.assertEqual(set(_OPTION.findall(own)), set(_OPTION.findall(told)), help_text.stem)
-            for paragraph in told.split("\n\nOptions:")[1].split("\n\n")[1:-1]:
+            messages = help_text.read_text(encoding="utf-8")
+            self.assertEqual(set(_OPTION.findall(own)), set(_OPTION.findall(messages)), help_text.stem)
+            for paragraph in messages.split("\n\nOptions:")[1].split("\n\n")[1:-1]:
                 self.assertIn(words(paragraph), words(own))
 
     def test_troff_takes_them(self) -> None:

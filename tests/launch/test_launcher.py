@@ -43,18 +43,18 @@ class LauncherTest(FolderTest):
 
     def start(self, *words: str | bytes) -> "subprocess.Popen[str]":
         """Starts the launcher, whose standard error is a file."""
-        with open(self.path("told"), "w", encoding="utf-8") as told:
+        with open(self.path("messages"), "w", encoding="utf-8") as messages:
             launcher = subprocess.Popen(
-                [self.path("ovl_layers"), *words], stdin=subprocess.DEVNULL, stdout=subprocess.PIPE, stderr=told,
+                [self.path("ovl_layers"), *words], stdin=subprocess.DEVNULL, stdout=subprocess.PIPE, stderr=messages,
                 text=True, cwd=self.folder,
                 env={**os.environ, "PATH": self.search, "FAKE_RT": self.path("notes"), "TMPDIR": self.path("tmp")},
             )
-        os.rename(self.path("told"), self.path(f"told-{launcher.pid}"))
+        os.rename(self.path("messages"), self.path(f"messages-{launcher.pid}"))
         return launcher
 
     def told_by(self, launcher: "subprocess.Popen[str]") -> str:
         """What one has printed so far."""
-        return Path(self.path(f"told-{launcher.pid}")).read_text(encoding="utf-8")
+        return Path(self.path(f"messages-{launcher.pid}")).read_text(encoding="utf-8")
 
     def ended(self, launcher: "subprocess.Popen[str]") -> tuple[int, str, str]:
         """Status, standard output and standard error of one that ends."""
@@ -83,9 +83,9 @@ class Texts(LauncherTest):
             self.assertEqual(
                 self.run_launcher(word, "x"), (2, "", text("unknown-word").replace("unknown'", f"{word}'")), word
             )
-        for word, told in (("--hlep", "--hlep"), ("-x", "-x"), ("--blobs=x", "--blobs"), ("---", "---")):
+        for word, messages in (("--hlep", "--hlep"), ("-x", "-x"), ("--blobs=x", "--blobs"), ("---", "---")):
             self.assertEqual(
-                self.run_launcher(word), (2, "", text("unknown-option").replace("--unknown", told)), word
+                self.run_launcher(word), (2, "", text("unknown-option").replace("--unknown", messages)), word
             )
 
     def test_what_wants_the_program(self) -> None:
@@ -125,9 +125,9 @@ class Making(LauncherTest):
         """The folder of what is made of a crate."""
         return Path(self.path("crates", name, "out"))
 
-    def put(self, name: str, told: str = "") -> None:
+    def put(self, name: str, messages: str = "") -> None:
         """Gives the stand-in a message."""
-        (self.notes / name).write_text(told, encoding="utf-8")
+        (self.notes / name).write_text(messages, encoding="utf-8")
 
     def asked(self, name: str) -> str:
         """The words that the stand-in was last started with for a crate."""
@@ -171,14 +171,14 @@ class Build(Making):
     """The program is proved and built."""
 
     def test_all(self) -> None:
-        status, printed, told = self.run_launcher("show", "a b")
-        self.assertEqual((status, printed), (0, "proved show a b\n"), told)
+        status, printed, messages = self.run_launcher("show", "a b")
+        self.assertEqual((status, printed), (0, "proved show a b\n"), messages)
         self.assertEqual(self.times(), {name: 1 for name in _CRATES if name != "tests"})
-        self.assertIn("meanwhile, with --unproved as the first word", told)
-        last = told.splitlines()[-1]
+        self.assertIn("meanwhile, with --unproved as the first word", messages)
+        last = messages.splitlines()[-1]
         self.assertRegex(last, r"^ovl_layers: ovl_layers is proved, in \d+:\d\d; 0 left, \d+:\d\d so far$")
         for name in self.times():
-            self.assertIn(f"ovl_layers: {name} is proved", told)
+            self.assertIn(f"ovl_layers: {name} is proved", messages)
             kept = ["incremental", "ovl_layers" if name == "ovl_layers" else "rlib", "proved"]
             self.assertEqual(sorted(os.listdir(self.out(name))), sorted(kept))
             line = f"logic=proved functions=1 sum={name}"
@@ -189,8 +189,8 @@ class Build(Making):
     def test_side_by_side(self) -> None:
         self.put("with-left", "right")
         self.put("with-right", "left")
-        status, _, told = self.run_launcher("show")
-        self.assertEqual(status, 0, told)
+        status, _, messages = self.run_launcher("show")
+        self.assertEqual(status, 0, messages)
         for name in ("low", "left", "high"):
             self.assertRegex(self.asked(name), f"^lib --jobs [1-{min(len(os.sched_getaffinity(0)), 4)}]$")
         self.assertEqual(self.asked("right"), f"lib --jobs {max(min(len(os.sched_getaffinity(0)) // 2, 4), 1)}")
@@ -214,10 +214,10 @@ class Build(Making):
         launcher = self.start("show")
         self.wait_to_tell(launcher, "waiting for right, to keep what is proved of it\n")
         os.unlink(self.notes / "hold-right")
-        status, printed, told = self.ended(launcher)
-        self.assertEqual((status, printed), (126, ""), told)
+        status, printed, messages = self.ended(launcher)
+        self.assertEqual((status, printed), (126, ""), messages)
         for part in ("a goal is open\n", "left is not proved", "right is proved", "the program could not be built"):
-            self.assertIn(part, told)
+            self.assertIn(part, messages)
         self.assertEqual(self.times(), {"low": 1, "left": 1, "right": 1})
         self.assertTrue((self.out("right") / "rlib" / "stamp").exists())
         self.assertEqual(os.listdir(self.out("left")), ["incremental"])
@@ -232,9 +232,9 @@ class Build(Making):
             process = self.wait_for("left")
             self.wait_for("right")
             launcher.send_signal(number)
-            status, printed, told = self.ended(launcher)
-            self.assertEqual((status, printed), (-number, ""), told)
-            self.assertEqual(told.splitlines()[-1], "ovl_layers: interrupted; what was proved is kept")
+            status, printed, messages = self.ended(launcher)
+            self.assertEqual((status, printed), (-number, ""), messages)
+            self.assertEqual(messages.splitlines()[-1], "ovl_layers: interrupted; what was proved is kept")
             self.require_ended(process)
             self.assertEqual(os.listdir(self.out("left")), ["incremental"])
             self.assertEqual(os.listdir(self.out("ovl_layers")), [])
@@ -295,9 +295,9 @@ class Build(Making):
         self.edit("right")
         os.unlink(self.notes / "hold-left")
         self.assertEqual(self.ended(launcher)[0], 0)
-        status, _, told = self.run_launcher("show")
-        self.assertEqual(status, 0, told)
-        self.assertIn("what has changed since the last build", told)
+        status, _, messages = self.run_launcher("show")
+        self.assertEqual(status, 0, messages)
+        self.assertIn("what has changed since the last build", messages)
         self.assertEqual(set(self.times().values()), {2})
 
 
@@ -305,9 +305,9 @@ class Preview(Making):
     """The program is compiled without proofs."""
 
     def test_all(self) -> None:
-        status, printed, told = self.run_launcher("--unproved", "show", "a b")
-        self.assertEqual((status, printed), (0, "unproved show a b\n"), told)
-        self.assertTrue(told.startswith(_UNPROVED), told)
+        status, printed, messages = self.run_launcher("--unproved", "show", "a b")
+        self.assertEqual((status, printed), (0, "unproved show a b\n"), messages)
+        self.assertTrue(messages.startswith(_UNPROVED), messages)
         self.assertFalse(self.built.exists())
         self.assertEqual(self.run_launcher("--unproved"), (0, "unproved\n", _UNPROVED))
         self.assertEqual(self.times(), {"try": 1})
@@ -327,9 +327,9 @@ class Preview(Making):
 
     def test_failed(self) -> None:
         self.put("fail-try")
-        status, printed, told = self.run_launcher("--unproved", "show")
-        self.assertEqual((status, printed), (126, ""), told)
-        self.assertIn("it doesn't compile\n", told)
+        status, printed, messages = self.run_launcher("--unproved", "show")
+        self.assertEqual((status, printed), (126, ""), messages)
+        self.assertIn("it doesn't compile\n", messages)
         self.assertFalse(self.out("ovl_layers").exists())
         self.assertEqual(os.listdir(self.path("tmp")), [])
 

@@ -1,31 +1,12 @@
-"""Room on a disk, asked for before anything is written."""
+"""How large an archive becomes at least, known before it is written."""
 
-import os
 from collections.abc import Iterable
 
-from ..common.faults import cannot_write, writing
 from ..model.entries import FILE, Entry
 from ..model.links import FirstNames
 from ..model.show_report import read_report
 from ..model.times import ONE_SECOND
 from .headers import BLOCK_BYTES
-
-
-def require_room(told: str, place: str, need: int) -> None:
-    """Refuses what takes at least this many bytes, if the file system of a place hasn't as many."""
-    with writing(told):
-        system = os.statvfs(existing(place))
-    room = (system.f_bfree if os.geteuid() == 0 else system.f_bavail) * system.f_frsize
-    if system.f_blocks and need > room:  # some file systems know nothing of their room
-        raise cannot_write(told, f"it takes at least {need:,} bytes, and {room:,} are free")
-
-
-def existing(place: str) -> str:
-    """The path itself, or what is there of the way to it."""
-    folder = os.path.abspath(place)
-    while not os.path.lexists(folder):
-        folder = os.path.dirname(folder)
-    return folder
 
 
 def least_archive(entries: Iterable[Entry]) -> int:
