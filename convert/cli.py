@@ -17,7 +17,7 @@ from .folder.build import BuildOptions
 from .folder.build_squashfs import build_layer
 from .folder.mounted import report
 from .folder.scan import ScanOptions, scan
-from .folder.stack_layers import StackOptions
+from .folder.stack_layers import StackOptions, write_stack
 from .folder.stores import StoreOptions, store
 from .image.compression import COMPRESSIONS, NONE
 from .image.pack import PackOptions, pack
@@ -30,7 +30,7 @@ from .sizes.command import SizesOptions, sizes
 from .words import NAME, Run, parser_of
 
 _INTERRUPTED = 128
-_OF_IMAGES = ("platform", "tag", "overlay_marks", "dry_run")  # words of `flatten` and `sizes`
+_OF_IMAGES = ("platform", "tag", "overlay_marks", "dry_run")  # words of commands that take an image or a stack
 _OF_STACKS = ("blobs", "data_layers", "form", "userxattr", "cross_file_systems")
 
 
@@ -104,6 +104,10 @@ def _build(words: argparse.Namespace) -> None:
 
 
 def _unpack(words: argparse.Namespace) -> None:
+    _require_one_sort(words)
+    if words.stack is not None:
+        write_stack(_stack_of(words, words.digests_only), _folder(words.out))
+        return
     unpack(UnpackOptions(
         image=_folder(words.image), out=_folder(words.out), platform=words.platform, tag=words.tag,
         skip_unsupported=words.skip_unsupported, overlay_marks=words.overlay_marks, digests_only=words.digests_only,
@@ -147,6 +151,16 @@ def _require_one_sort(words: argparse.Namespace) -> None:
             raise UsageFault(f"--{name.replace('_', '-')} is for {owner}")
 
 
+def _stack_of(words: argparse.Namespace, digests_only: bool = False) -> StackOptions:
+    """The layers of --stack, and how they are read."""
+    blobs = getattr(words, "blobs", None)
+    return StackOptions(
+        layers=[_folder(layer) for layer in words.stack], blobs=blobs and _folder(blobs), userxattr=words.userxattr,
+        cross_file_systems=words.cross_file_systems, skip_unsupported=words.skip_unsupported,
+        digests_only=digests_only, workers=words.workers,
+    )
+
+
 def _flatten(words: argparse.Namespace) -> None:
     _require_one_sort(words)
     if words.stack is None:
@@ -174,23 +188,14 @@ def _flatten_stack(words: argparse.Namespace) -> None:
     if words.compress == NONE:
         raise UsageFault("--compress none is for images alone")
     flatten_stack(FlattenStackOptions(
-        stack=StackOptions(
-            layers=[_folder(layer) for layer in words.stack], blobs=words.blobs and _folder(words.blobs),
-            userxattr=words.userxattr, cross_file_systems=words.cross_file_systems,
-            skip_unsupported=words.skip_unsupported, workers=words.workers,
-        ),
-        out=_folder(words.out), form=words.form and OutForm(words.form), layers=words.layers,
+        stack=_stack_of(words), out=_folder(words.out), form=words.form and OutForm(words.form), layers=words.layers,
         data_layers=words.data_layers, keep=words.keep and _folder(words.keep), compress=words.compress,
     ))
 
 
 def _sizes(words: argparse.Namespace) -> None:
     _require_one_sort(words)
-    stack = None if words.stack is None else StackOptions(
-        layers=[_folder(layer) for layer in words.stack], userxattr=words.userxattr,
-        cross_file_systems=words.cross_file_systems, skip_unsupported=words.skip_unsupported, digests_only=True,
-        workers=words.workers,
-    )
+    stack = None if words.stack is None else _stack_of(words, True)
     sizes(SizesOptions(
         image=None if words.image is None else _folder(words.image), stack=stack, data_layers=words.data_layers,
         platform=words.platform, tag=words.tag, skip_unsupported=words.skip_unsupported,

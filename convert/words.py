@@ -240,9 +240,11 @@ def _add_build(parser: argparse.ArgumentParser) -> None:
 
 
 def _add_unpack(parser: argparse.ArgumentParser) -> None:
-    _add_image(parser)
+    _add_image(parser, may_be_absent=True)
     parser.add_argument("--out", metavar="DIR", required=True, help="folder to make, absent or empty")
     _add_digests_only(parser)
+    _add_stack_layers(parser, "reads")
+    _add_blobs(parser)
 
 
 def _add_image(parser: argparse.ArgumentParser, may_be_absent: bool = False) -> None:
@@ -321,11 +323,15 @@ def _add_flatten(parser: argparse.ArgumentParser) -> None:
 def _add_stack(parser: argparse.ArgumentParser) -> None:
     """Which layers are read in place of an image's, and how."""
     _add_stack_layers(parser, "reads and writes")
-    parser.add_argument("--blobs", metavar="DIR", help="with --stack: folder with the contents of manifests")
+    _add_blobs(parser)
     parser.add_argument(
         "--form", choices=[form.value for form in OutForm],
         help="with --stack: what layers are written as [default: what the name of --out says]",
     )
+
+
+def _add_blobs(parser: argparse.ArgumentParser) -> None:
+    parser.add_argument("--blobs", metavar="DIR", help="with --stack: folder with the contents of manifests")
 
 
 def _add_stack_layers(parser: argparse.ArgumentParser, does: str) -> None:

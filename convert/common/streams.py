@@ -346,7 +346,9 @@ def unpacked(part: io.RawIOBase, name: str, *, may_wait: bool = False) -> Iterat
                 if head.startswith(magic):
                     raise cannot_read(name, f"it is packed by {program}, which images don't have")
             yield Plain(packed)
-    except (EOFError, zlib.error) as error:
+    except EOFError as error:
+        raise cannot_read(name, "it is cut off: its gzip stream ends too early") from error
+    except zlib.error as error:
         raise cannot_read(name, f"its gzip stream is broken: {error}") from error
     except TarFault as error:
         raise cannot_read(name, str(error)) from error

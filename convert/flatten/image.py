@@ -18,7 +18,7 @@ from ..common.program import NAME, find_program, makes_layers, word_of_path, wor
 from ..common.progress import counted, note_path
 from ..common.stages import removing
 from ..image.compression import NONE
-from ..image.images import Image, image_place, opened_image, spellings
+from ..image.images import Image, image_place, opened_image, paths_of_image, spellings
 from ..image.members import STANDARD_INPUT
 from ..image.new_layers import NewLayers
 from ..image.pack import PackOptions, pack
@@ -116,7 +116,7 @@ class _ImageRunner(Runner):
     def __init__(self, options: FlattenOptions, folder: str, image: str) -> None:
         super().__init__(
             folder, options.keep is not None, sys.stderr if options.out.is_standard_output else sys.stdout,
-            [options.image] if options.image != STANDARD_INPUT else [],
+            paths_of_image(options.image),
         )
         self._options = options
         self._image = image

@@ -6,6 +6,7 @@ from dataclasses import dataclass
 
 from ..common.faults import UsageFault, cannot_read, reading
 from ..common.omissions import ScanLosses
+from ..common.outputs import new_folder
 from ..common.progress import counted
 from ..model import rules, stacks
 from ..model.blobs import blob_path, opened_blob, writers
@@ -28,6 +29,13 @@ class StackOptions:
     skip_unsupported: bool = False
     digests_only: bool = False
     workers: int = 1
+
+
+def write_stack(options: StackOptions, out: str) -> None:
+    """The same into a new folder."""
+    require_forms(options)
+    with new_folder(out) as stage:
+        read_stack(options, stage)
 
 
 def read_stack(options: StackOptions, out: str) -> None:

@@ -19,7 +19,9 @@ from .documents import (
     CONFIGURATION_TYPES, INDEX_TYPES, LAYER_TYPES, MANIFEST_TYPES, Descriptor, Digest, Index, Json, Manifest,
     Misshapen, SavedImage, document_of, index_of, layer_digests, parse, require_configuration, saved_images_of,
 )
-from .members import Members, opened_members
+from .fetched import fetched, is_fetched, name_of
+from .members import STANDARD_INPUT, Members, opened_members
+from .not_images import look_of_names
 from .quick_gzip import find_program, unpacked_quickly
 from .targets import TRANSPORTS
 
@@ -154,6 +156,10 @@ def spellings(tag: str) -> set[str]:
 
 def image_place(word: str, tag: str | None) -> tuple[str, str | None]:
     """The path and the tag of an image that a word names, as a path or as skopeo has it: `oci:PATH:TAG`."""
+    if is_fetched(word):
+        if tag is not None:
+            raise UsageFault(f"{word} and --tag name two images")
+        return word, None
     transport, colon, rest = word.partition(":")
     if not colon or transport not in TRANSPORTS or os.path.lexists(word):
         return word, tag
@@ -163,24 +169,33 @@ def image_place(word: str, tag: str | None) -> tuple[str, str | None]:
     return path, own or tag
 
 
+def paths_of_image(path: str) -> list[str]:
+    """The path of an image that must be there: none of standard input, and of what is fetched."""
+    return [] if path == STANDARD_INPUT or is_fetched(path) else [path]
+
+
 @contextlib.contextmanager
 def opened_image(path: str, platform: str | None, tag: str | None) -> Iterator[Image]:
-    """The one image at a path that is meant."""
-    with opened_members(path) as members:
-        documents = _Documents(members)
-        if members.size("index.json") is not None:
-            yield _Layout(documents).image(platform, tag)
-        elif members.size("manifest.json") is not None:
-            manifest = documents.read("manifest.json")
-            if isinstance(manifest, dict):
-                yield _copied_image(documents, manifest)
-            else:
-                yield _saved_image(documents, manifest, platform, tag)
-        else:
-            raise cannot_read(
-                members.path,
-                "it is no image: neither index.json (OCI image layout) nor manifest.json (docker save) is there",
-            )
+    """The one image at a path that is meant, or of a name by which skopeo fetches it."""
+    if not is_fetched(path):
+        with opened_members(path) as members:
+            yield _image_of(members, platform, tag)
+        return
+    with fetched(path, platform) as folder, opened_members(folder, path) as members:
+        name = name_of(path)
+        yield replace(_image_of(members, platform, None), names=(name,) if name else ())
+
+
+def _image_of(members: Members, platform: str | None, tag: str | None) -> Image:
+    documents = _Documents(members)
+    if members.size("index.json") is not None:
+        return _Layout(documents).image(platform, tag)
+    if members.size("manifest.json") is None:
+        raise cannot_read(members.path, f"it is no image: {look_of_names(members.top_names(), members.path)}")
+    manifest = documents.read("manifest.json")
+    if isinstance(manifest, dict):
+        return _copied_image(documents, manifest, platform)
+    return _saved_image(documents, manifest, platform, tag)
 
 
 class _Documents:
@@ -401,13 +416,15 @@ def _not_one(path: str, there: list[str], none: str | None) -> ReadFault:
     return cannot_read(path, f"it has {len(there)} images ({'; '.join(there[:_MOST_TOLD])}{more}); {which}")
 
 
-def _copied_image(documents: _Documents, value: Json) -> Image:
+def _copied_image(documents: _Documents, value: Json, platform: str | None) -> Image:
     """The image in a folder of skopeo's `dir:`, whose blobs have their digits as names."""
     document = documents.decoded("manifest.json", document_of, value, None)
     if isinstance(document, Index):
         raise cannot_read(documents.members.path, "it is an index in the form dir:; copy one image of it")
     chosen = _InLayout("", {}, document, "manifest.json", {})
-    return _image(documents, chosen, lambda digest: digest[1])
+    image = _image(documents, chosen, lambda digest: digest[1])
+    _one_of(documents.members.path, [_Choice(platform_text(image.configuration) or "unknown", {})], platform, None)
+    return image
 
 
 def _digits(name: str) -> str | None:

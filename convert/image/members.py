@@ -6,22 +6,25 @@ import os
 import posixpath
 import stat
 import tempfile
-from collections.abc import Hashable, Iterator
+from collections.abc import Hashable, Iterator, Set
 from typing import Protocol
 
 from ..common.budgets import Budget, Counter, TooMuch
 from ..common.contents import PIECE, is_zeros, write_all
-from ..common.faults import TarFault, cannot_read, reading, writing
+from ..common.faults import EndsEarly, TarFault, cannot_read, reading, reason_of, writing
 from ..common.open_dirs import READ_WHERE_IT_LEADS
-from ..common.streams import HEAD_BYTES, SeekingSlice, Slice, Source, is_packed, unpacked
+from ..common.streams import SeekingSlice, Slice, Source, packing_of, unpacked
 from ..tar.headers import HARD_LINK, REGULAR_TYPES, SYMLINK
 from ..tar.reader import TarReader
+from .not_images import HEAD_BYTES, instead_of_absent, look_of_file
 
 STANDARD_INPUT = "-"
+_INPUT = "standard input"
 _MAX_HEADERS = 100_000
 _MAX_NAME = 4_095  # bytes, as Linux has them
 _MAX_NAMES = 1 << 24  # bytes of all names and of what links lead to
 _MAX_LINKS = 8
+_PACKINGS = ("gzip", "zstd")  # of an archive as a whole
 
 
 class Members(Protocol):
@@ -38,16 +41,17 @@ class Members(Protocol):
     def opened(self, name: str) -> contextlib.AbstractContextManager[Slice]:
         """The bytes of a file while it is open; fails if there is none."""
 
+    def top_names(self) -> Set[str]:
+        """The names at the top."""
+
 
 @contextlib.contextmanager
-def opened_members(path: str) -> Iterator[Members]:
+def opened_members(path: str, given_label: str | None = None) -> Iterator[Members]:
     """The files of the image at a path, or of the archive that standard input gives."""
     is_input = path == STANDARD_INPUT
-    label = "standard input" if is_input else path
-    with reading(label):
-        is_folder = not is_input and stat.S_ISDIR(os.stat(path).st_mode)
-    if is_folder:
-        yield _Folder(path)
+    label = given_label or (_INPUT if is_input else path)
+    if not is_input and _is_folder(path, label):
+        yield _Folder(path, label)
         return
     with contextlib.ExitStack() as files:
         with reading(label):
@@ -57,10 +61,20 @@ def opened_members(path: str) -> Iterator[Members]:
         is_pipe = stat.S_ISFIFO(status.st_mode) or stat.S_ISSOCK(status.st_mode)
         if not is_pipe and not stat.S_ISREG(status.st_mode):
             raise cannot_read(label, "it is neither a folder, nor a regular file, nor a pipe")
-        if is_pipe or is_packed(os.pread(file, HEAD_BYTES, 0)):
+        head = b"" if is_pipe else os.pread(file, HEAD_BYTES, 0)
+        if is_pipe or packing_of(head) in _PACKINGS:
             source = io.FileIO(file, closefd=False) if is_pipe else Slice(file, 0, status.st_size)
             file = _copied(source, label, files, may_wait=is_pipe)
         yield _Archive(file, label)
+
+
+def _is_folder(path: str, label: str) -> bool:
+    try:
+        return stat.S_ISDIR(os.stat(path).st_mode)
+    except FileNotFoundError as error:
+        raise cannot_read(label, reason_of(error) + instead_of_absent(path)) from None
+    except OSError as error:
+        raise cannot_read(label, reason_of(error)) from None
 
 
 def _copied(source: io.RawIOBase, label: str, files: contextlib.ExitStack, *, may_wait: bool) -> int:
@@ -108,9 +122,14 @@ def _text_of(name: bytes) -> str:
 class _Folder:
     """An image in a folder."""
 
-    def __init__(self, path: str) -> None:
-        self.path = path
+    def __init__(self, path: str, label: str) -> None:
+        self.path = label
         self._root = os.path.realpath(path)
+
+    def top_names(self) -> Set[str]:
+        """See `Members`."""
+        with reading(self.path):
+            return set(os.listdir(self._root))
 
     def size(self, name: str) -> int | None:
         """The size of a file that is inside of the folder, through links too."""
@@ -160,9 +179,21 @@ class _Archive:
             with reading(path):
                 self._find(size)
         except TarFault as problem:
-            raise cannot_read(path, f"it is no tar archive: {problem}") from None
+            raise cannot_read(path, self._look(problem)) from None
         except TooMuch as problem:
             raise cannot_read(path, str(problem)) from None
+
+    def _look(self, problem: TarFault) -> str:
+        """What it is in place of a whole archive."""
+        word = "FILE" if self.path == _INPUT else self.path
+        look = look_of_file(os.pread(self._file, HEAD_BYTES, 0), word)
+        if look is None and isinstance(problem, EndsEarly):
+            return f"it is cut off: {problem}"
+        return look or f"it is no tar archive: {problem}"
+
+    def top_names(self) -> Set[str]:
+        """See `Members`."""
+        return {name.partition("/")[0] for name in (*self._places, *self._links)}
 
     def _find(self, size: int) -> None:
         """Finds the place of each file. A later one of the same name counts, as where an archive is unpacked."""

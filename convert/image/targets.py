@@ -12,7 +12,7 @@ ARCHIVE_SUFFIX = ".tar"
 _PACKED_SUFFIXES = (".gz", ".tgz", ".zst")
 _PART = r"[a-z0-9]+(?:(?:\.|_|__|-+)[a-z0-9]+)*"
 _HOST = r"[A-Za-z0-9][A-Za-z0-9.-]*(?::[0-9]+)?/"
-_DOCKER_NAME = re.compile(rf"(?:{_HOST})?{_PART}(?:/{_PART})*(:[A-Za-z0-9_][A-Za-z0-9_.-]{{0,127}})?")
+DOCKER_NAME = re.compile(rf"(?:{_HOST})?{_PART}(?:/{_PART})*(:[A-Za-z0-9_][A-Za-z0-9_.-]{{0,127}})?")
 _MAX_DOCKER_NAME = 255
 
 
@@ -71,7 +71,7 @@ class Target:
         A name without a tag, as in many layouts, is a tag, and only to `docker-archive:` the name of an image.
         """
         is_name = name is not None and (":" in name or "/" in name or self.word.startswith(f"{_DOCKER}:"))
-        found = _DOCKER_NAME.fullmatch(name) if is_name and name and len(name) <= _MAX_DOCKER_NAME else None
+        found = DOCKER_NAME.fullmatch(name) if is_name and name and len(name) <= _MAX_DOCKER_NAME else None
         return [] if found is None else [found[0] if found[1] else f"{found[0]}:latest"]
 
 
@@ -93,7 +93,7 @@ def _require_path(word: str) -> None:
     transport, colon, _ = word.partition(":")
     if colon and transport in _ELSEWHERE:
         raise UsageFault(f"--out {word}: {_ELSEWHERE[transport]}")
-    name = _DOCKER_NAME.fullmatch(word)
+    name = DOCKER_NAME.fullmatch(word)
     if name and name[1] and "/" not in word:
         raise UsageFault(
             f"--out {word} is an image's name: say docker-archive:FILE.tar:{word} or oci:DIR:TAG (./{word} is a folder)"

@@ -15,7 +15,7 @@ from ..common.progress import counted, note
 from ..model.entries import FILE
 from ..model.show_report import ShowLine, read_report
 from .changes import ASPECTS, KIND, Change, ConfigurationChange, changes, configuration_changes
-from .sources import Choice, Shown, require_one_pipe, shown_by
+from .sources import Choice, Shown, Source, is_tree, require_one_pipe, shown_by, shown_tree
 from .texts import attributes_of, decoded, name_text, object_of, time_text
 
 _VERSION = 1
@@ -64,7 +64,7 @@ def diff(options: DiffOptions, print_lines: Callable[[Iterable[str]], None]) -> 
 def _read(word: str, choice: Choice, folder: str) -> Shown:
     with writing(folder):
         os.mkdir(folder)
-    return shown_by(word, choice, folder)
+    return shown_tree(word, folder) if is_tree(word) else shown_by(Source(word=word, choice=choice), folder)
 
 
 _Any = Change | ConfigurationChange

@@ -1,16 +1,18 @@
-"""Where a tree that is looked at comes from: an image, a folder that `unpack` or `store` wrote, or a mounted tree."""
+"""Where a tree that is looked at comes from: an image, a folder that `unpack` or `store` wrote, layers, or a mounted tree."""
 
+import contextlib
 import os
 import sys
-from collections.abc import Sequence
-from dataclasses import dataclass
+from collections.abc import Iterator, Sequence
+from dataclasses import dataclass, replace
 
-from ..common.faults import UsageFault, writing
+from ..common.faults import UsageFault, cannot_read, writing
 from ..common.program import require_program, run_program, words_of
 from ..common.progress import note
 from ..folder.mounted import report as report_of_folder
+from ..folder.stack_layers import StackOptions, read_stack, require_ordinary
 from ..image.configuration import Document, read_configuration
-from ..image.images import image_place, opened_image
+from ..image.images import Image, image_place, opened_image, paths_of_image
 from ..image.members import STANDARD_INPUT
 from ..image.unpack import UnpackOptions, unpack_opened
 from ..model import stacks
@@ -30,13 +32,38 @@ class Choice:
     overlay_marks: bool = False
 
 
-@dataclass(frozen=True)
+_USUAL = Choice()
+
+
+@dataclass(frozen=True, kw_only=True)
+class Source:
+    """What is looked at: what a word names, or layers, of which the lowest ones may be data-only."""
+
+    word: str = ""
+    choice: Choice = _USUAL
+    stack: StackOptions | None = None
+    data_layers: int = 0
+
+    @property
+    def name(self) -> str:
+        """What it is called."""
+        return self.word if self.stack is None else f"the stack of {self.stack.layers[0]}"
+
+
+@dataclass(frozen=True, kw_only=True)
 class Shown:
-    """What a source shows: the report in a file, the manifests, the topmost first, and an image's configuration."""
+    """What a source shows: the report in a file, the manifests, the topmost first, and what goes with them.
+
+    `blobs` is the folder of contents, if they are wanted or there, `image` what an image is, `layers` what its layers are
+    as manifests. A mounted tree has only the report.
+    """
 
     report: str
     layers: Sequence[str] = ()
+    data_layers: int = 0
+    blobs: str | None = None
     configuration: Document | None = None
+    image: Image | None = None
 
 
 def is_tree(word: str) -> bool:
@@ -53,45 +80,77 @@ def require_one_pipe(words: Sequence[str]) -> None:
         raise UsageFault("only one of the two can be standard input")
 
 
-def shown_by(word: str, choice: Choice, folder: str) -> Shown:
-    """Reads a source, in an empty folder for what is made on the way."""
-    if is_tree(word):
-        return _shown_tree(word, folder)
-    layers = stacks.stack_in(word)
-    return _shown_stack(word, layers, folder) if layers else _shown_image(word, choice, folder)
+def shown_by(source: Source, folder: str, with_contents: bool = False) -> Shown:
+    """Reads a source, in an empty folder for what is made on the way. Contents are copied only if they are wanted."""
+    with opened_source(source, folder, with_contents) as shown:
+        return shown
 
 
-def _shown_tree(word: str, folder: str) -> Shown:
+@contextlib.contextmanager
+def opened_source(source: Source, folder: str, with_contents: bool = False) -> Iterator[Shown]:
+    """The same, with the image open."""
+    if source.stack is not None:
+        yield _shown_layers(source, source.stack, folder, with_contents)
+    elif layers := stacks.stack_in(source.word):
+        yield _shown_stack(source.word, layers, folder, with_contents)
+    else:
+        with _opened_image(source, folder, with_contents) as shown:
+            yield shown
+
+
+def shown_tree(word: str, folder: str) -> Shown:
+    """What a tree shows as it is mounted."""
     note(f"{word} is no image; it is read as a tree, as it is mounted")
     report = f"{folder}/{_SHOWN}"
     with writing(report), open(report, "x", encoding="ascii") as file:
         file.writelines(report_of_folder(word, False))
-    return Shown(report)
+    return Shown(report=report)
 
 
-def _shown_stack(word: str, layers: Sequence[str], folder: str) -> Shown:
+def _shown_layers(source: Source, stack: StackOptions, folder: str, with_contents: bool) -> Shown:
+    count, out = len(stack.layers), f"{folder}/{_STACK}"
+    require_ordinary(count, source.data_layers)
+    program = require_program(stack.layers)
+    with writing(out):
+        os.mkdir(out)
+    read_stack(replace(stack, digests_only=not with_contents), out)
+    return Shown(
+        report=_report(program, stacks.layer_paths(_STACK, count), folder, source.data_layers),
+        layers=stacks.layer_paths(out, count), data_layers=source.data_layers,
+        blobs=f"{out}/{stacks.BLOBS}" if with_contents else None,
+    )
+
+
+def _shown_stack(word: str, layers: Sequence[str], folder: str, with_contents: bool) -> Shown:
     program = require_program(layers)
-    path = f"{word}/{stacks.CONFIG}"
-    configuration = read_configuration(path) if os.path.lexists(path) else None
+    path, blobs = f"{word}/{stacks.CONFIG}", f"{word}/{stacks.BLOBS}"
+    if with_contents and not os.path.isdir(blobs):
+        raise cannot_read(word, f"it has no folder {stacks.BLOBS}, as of --digests-only, and contents are needed")
     paths = [os.path.abspath(layer) for layer in layers]
-    return Shown(_report(program, paths, folder), paths, configuration)
+    return Shown(
+        report=_report(program, paths, folder), layers=paths, blobs=blobs if os.path.isdir(blobs) else None,
+        configuration=read_configuration(path) if os.path.lexists(path) else None,
+    )
 
 
-def _shown_image(word: str, choice: Choice, folder: str) -> Shown:
-    path, tag = image_place(word, choice.tag)
-    program = require_program([path] if path != STANDARD_INPUT else [])
-    out = f"{folder}/{_STACK}"
+@contextlib.contextmanager
+def _opened_image(source: Source, folder: str, with_contents: bool) -> Iterator[Shown]:
+    choice, out = source.choice, f"{folder}/{_STACK}"
+    path, tag = image_place(source.word, choice.tag)
+    program = require_program(paths_of_image(path))
     with opened_image(path, choice.platform, tag) as image:
         unpack_opened(UnpackOptions(
             image=path, out=out, skip_unsupported=choice.skip_unsupported, overlay_marks=choice.overlay_marks,
-            digests_only=True,
+            digests_only=not with_contents,
         ), image)
-        count, configuration = len(image.layers), image.configuration
-    report = _report(program, stacks.layer_paths(_STACK, count), folder)
-    return Shown(report, stacks.layer_paths(out, count), configuration)
+        count = len(image.layers)
+        yield Shown(
+            report=_report(program, stacks.layer_paths(_STACK, count), folder), layers=stacks.layer_paths(out, count),
+            blobs=f"{out}/{stacks.BLOBS}" if with_contents else None, configuration=image.configuration, image=image,
+        )
 
 
-def _report(program: str, layers: Sequence[str], folder: str) -> str:
+def _report(program: str, layers: Sequence[str], folder: str, data_layers: int = 0) -> str:
     """What the proved program shows of manifests, whose paths count from the folder."""
-    run_program(program, words_of("show", layers, "", ""), folder, _SHOWN, sys.stderr)
+    run_program(program, words_of("show", layers, "", "", data_layers), folder, _SHOWN, sys.stderr)
     return f"{folder}/{_SHOWN}"

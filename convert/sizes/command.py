@@ -3,14 +3,14 @@
 import os
 import sys
 import tempfile
-from collections.abc import Callable, Iterable
+from collections.abc import Callable, Iterable, Sequence
 from dataclasses import dataclass
 
 from ..common.faults import FAULTY, Fault, UsageFault, writing
 from ..common.outputs import STANDARD_OUTPUT, passing_folder
 from ..common.program import require_program, run_program, words_of
 from ..folder.stack_layers import StackOptions, read_stack, require_ordinary
-from ..image.images import Image, image_place, opened_image
+from ..image.images import Image, image_place, opened_image, paths_of_image
 from ..image.members import STANDARD_INPUT
 from ..image.unpack import UnpackOptions, unpack_opened
 from ..model import stacks
@@ -73,10 +73,9 @@ def sizes(options: SizesOptions, print_lines: Callable[[Iterable[str]], None]) -
     _require_little_waste(waste, options.max_waste)
 
 
-def _given_paths(options: SizesOptions) -> list[str]:
+def _given_paths(options: SizesOptions) -> Sequence[str]:
     """Where what is measured is, unless it is standard input."""
-    paths = options.stack.layers if options.stack else [image_place(str(options.image), options.tag)[0]]
-    return [path for path in paths if path != STANDARD_INPUT]
+    return options.stack.layers if options.stack else paths_of_image(image_place(str(options.image), options.tag)[0])
 
 
 @dataclass(frozen=True)
