@@ -92,6 +92,13 @@ _layers() {
                     '--skip-unsupported[leaves out what can'\''t be stated, with a warning each, instead of refusing it]' \
                     '--out[folder to make, absent or empty]:DIR:_files -/' \
                     '--digests-only[writes no blobs]' \
+                    '--stack[layers in place of an image, the topmost first]:LAYER:_files' \
+                    '--data-layers[with --stack]:K:' \
+                    '--userxattr[with --stack]' \
+                    '--no-userxattr[with --stack]' \
+                    '--cross-file-systems[enters other file systems too]' \
+                    '--workers[how many processes read files, 1 to 64]:N:' \
+                    '--blobs[with --stack]:DIR:_files -/' \
                     '*:IMAGE:_files'
                     ;;
                 pack)

@@ -22,9 +22,9 @@ Inspects and rewrites container images, and other stacks of overlayfs layers; wh
 What layers show comes from the proved program ovl_layers; reading and writing them is tested."""
 
 _MORE = """\
-IMAGE is an OCI image layout, what docker save wrote, or - for standard input. A layer on a disk is a folder,
-a squashfs, a tar archive, or a manifest: a JSON file that lists what is in the layer, with the contents of
-files in a folder of blobs, each named by its SHA-256 digest. The topmost layer comes first.
+IMAGE is an OCI image layout, what docker save wrote, or - for standard input; skopeo fetches docker-daemon:NAME,
+containers-storage:NAME and docker://NAME. A layer on a disk is a folder, a squashfs, a tar archive, or a
+manifest: a JSON file of what is in it, with contents in a folder of blobs. The topmost layer comes first.
 
 examples:
   docker save NAME | {name} flatten - --out - | docker load
@@ -85,11 +85,14 @@ for `pack --config`; DIR/annotations.json has the annotations of its manifest, i
 --digests-only contents are read for their digests and copied nowhere, which is enough for `ovl_layers show`.
 
 IMAGE is an OCI image layout (a folder or a tar archive of it), what `docker save` writes, or a folder of
-skopeo's dir:. It may also be named as skopeo does it (oci:DIR:TAG, docker-archive:FILE); - is an archive
-from standard input. An archive may be packed by gzip or zstd. Layers may be plain, gzip, or zstd if the
-zstd program is there. Their digests are checked. A directory that a layer leaves out is as the layers below
-show it. Names that are one file (hard links) are listed in DIR/l0.links and so on, those that all layers show
-in DIR/shown.links. A whiteout (.wh.NAME) becomes a char device 0:0, and .wh..wh..opq an opaque directory."""
+skopeo's dir:. It may also be named as skopeo does it (oci:DIR:TAG, docker-archive:FILE), and is fetched by
+skopeo if it is docker-daemon:NAME, containers-storage:NAME or docker://NAME; - is an archive from standard
+input. An archive may be packed by gzip or zstd. Layers may be plain, gzip, or zstd if the zstd program is
+there. Their digests are checked. A directory that a layer leaves out is as the layers below show it. Names
+that are one file (hard links) are listed in DIR/l0.links and so on, those that all layers show in
+DIR/shown.links. A whiteout (.wh.NAME) becomes a char device 0:0, and .wh..wh..opq an opaque directory.
+
+--stack takes layers on a disk in an image's place."""
 
 _PACK = """\
 Write manifests, the topmost first, as an OCI image layout: a folder, or one tar archive if the name ends in
@@ -156,7 +159,10 @@ Print what is in a folder, such as a mounted overlay, as `ovl_layers show` print
 can be compared."""
 
 
-_IMAGE = "OCI image layout (folder or tar), or what docker save wrote; - is standard input"
+_IMAGE = (
+    "OCI image layout (folder or tar), or what docker save wrote; - is standard input; or by skopeo docker-daemon:NAME, "
+    "containers-storage:NAME, docker://NAME"
+)
 _NEW_IMAGE = (
     "folder to make, or a file whose name ends in .tar; - is such an archive on standard output; or as skopeo "
     "names it: oci:DIR:TAG, oci-archive:FILE:TAG, docker-archive:FILE:NAME, dir:DIR"

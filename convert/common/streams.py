@@ -344,7 +344,7 @@ def unpacked(part: io.RawIOBase, name: str, *, may_wait: bool = False) -> Iterat
         else:
             for magic, program in _OTHERS.items():
                 if head.startswith(magic):
-                    raise cannot_read(name, f"it is packed by {program}, which images don't have")
+                    raise cannot_read(name, f"it is packed by {program}, which isn't read; unpack it first (`{program} -d`)")
             yield Plain(packed)
     except EOFError as error:
         raise cannot_read(name, "it is cut off: its gzip stream ends too early") from error

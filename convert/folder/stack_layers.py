@@ -18,6 +18,10 @@ from ..squashfs.layer_files import FileOptions, Form, form_of, scan_file
 from .scan import ScanOptions, scan_folder
 
 
+_IMAGES = (frozenset(["/oci-layout", "/index.json"]), frozenset(["/manifest.json", "/repositories"]))  # all in an image
+_OF_IMAGES = frozenset().union(*_IMAGES)
+
+
 @dataclass(frozen=True, kw_only=True)
 class StackOptions:
     """Which layers are read, the topmost first, and how. `blobs` has the contents of those that are manifests."""
@@ -46,10 +50,21 @@ def read_stack(options: StackOptions, out: str) -> None:
     forms = require_forms(options)
     losses, below, links = ScanLosses(), MergedTree(), itertools.count(1)
     for number, form in reversed(list(enumerate(forms))):
-        entries = _read(options, number, form, out, losses, links)
+        entries = _without_images(options.layers[number], _read(options, number, form, out, losses, links))
         below.cover(entries, has_attribute(f"{out}/{stacks.layer_name(number, len(options.layers))}", [REDIRECT]))
     write_shown_links(out, below)
     losses.report()
+
+
+def _without_images(layer: str, entries: Iterable[Named]) -> Iterator[Named]:
+    """Refuses an image's folder or archive, which isn't a layer, as its entries pass by."""
+    found = set[str]()
+    for path, entry in entries:
+        if path in _OF_IMAGES:
+            found.add(path)
+        yield path, entry
+    if any(names <= found for names in _IMAGES):
+        raise UsageFault(f"{layer} is an image and no layer: name it without --stack")
 
 
 def _read(

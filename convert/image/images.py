@@ -21,7 +21,6 @@ from .documents import (
 )
 from .fetched import fetched, is_fetched, name_of
 from .members import STANDARD_INPUT, Members, opened_members
-from .not_images import look_of_names
 from .quick_gzip import find_program, unpacked_quickly
 from .targets import TRANSPORTS
 
@@ -191,7 +190,7 @@ def _image_of(members: Members, platform: str | None, tag: str | None) -> Image:
     if members.size("index.json") is not None:
         return _Layout(documents).image(platform, tag)
     if members.size("manifest.json") is None:
-        raise cannot_read(members.path, f"it is no image: {look_of_names(members.top_names(), members.path)}")
+        raise cannot_read(members.path, f"it is no image: {members.look()}")
     manifest = documents.read("manifest.json")
     if isinstance(manifest, dict):
         return _copied_image(documents, manifest, platform)

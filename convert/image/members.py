@@ -6,17 +6,17 @@ import os
 import posixpath
 import stat
 import tempfile
-from collections.abc import Hashable, Iterator, Set
+from collections.abc import Hashable, Iterator
 from typing import Protocol
 
 from ..common.budgets import Budget, Counter, TooMuch
 from ..common.contents import PIECE, is_zeros, write_all
 from ..common.faults import EndsEarly, TarFault, cannot_read, reading, reason_of, writing
 from ..common.open_dirs import READ_WHERE_IT_LEADS
-from ..common.streams import SeekingSlice, Slice, Source, packing_of, unpacked
+from ..common.streams import SeekingSlice, Slice, Source, is_packed, unpacked
 from ..tar.headers import HARD_LINK, REGULAR_TYPES, SYMLINK
 from ..tar.reader import TarReader
-from .not_images import HEAD_BYTES, instead_of_absent, look_of_file
+from .not_images import HEAD_BYTES, instead_of_absent, look_of_file, look_of_names
 
 STANDARD_INPUT = "-"
 _INPUT = "standard input"
@@ -24,7 +24,6 @@ _MAX_HEADERS = 100_000
 _MAX_NAME = 4_095  # bytes, as Linux has them
 _MAX_NAMES = 1 << 24  # bytes of all names and of what links lead to
 _MAX_LINKS = 8
-_PACKINGS = ("gzip", "zstd")  # of an archive as a whole
 
 
 class Members(Protocol):
@@ -41,8 +40,8 @@ class Members(Protocol):
     def opened(self, name: str) -> contextlib.AbstractContextManager[Slice]:
         """The bytes of a file while it is open; fails if there is none."""
 
-    def top_names(self) -> Set[str]:
-        """The names at the top."""
+    def look(self) -> str:
+        """What it is if it is no image."""
 
 
 @contextlib.contextmanager
@@ -61,8 +60,7 @@ def opened_members(path: str, given_label: str | None = None) -> Iterator[Member
         is_pipe = stat.S_ISFIFO(status.st_mode) or stat.S_ISSOCK(status.st_mode)
         if not is_pipe and not stat.S_ISREG(status.st_mode):
             raise cannot_read(label, "it is neither a folder, nor a regular file, nor a pipe")
-        head = b"" if is_pipe else os.pread(file, HEAD_BYTES, 0)
-        if is_pipe or packing_of(head) in _PACKINGS:
+        if is_pipe or is_packed(os.pread(file, HEAD_BYTES, 0)):
             source = io.FileIO(file, closefd=False) if is_pipe else Slice(file, 0, status.st_size)
             file = _copied(source, label, files, may_wait=is_pipe)
         yield _Archive(file, label)
@@ -126,10 +124,10 @@ class _Folder:
         self.path = label
         self._root = os.path.realpath(path)
 
-    def top_names(self) -> Set[str]:
+    def look(self) -> str:
         """See `Members`."""
         with reading(self.path):
-            return set(os.listdir(self._root))
+            return look_of_names(set(os.listdir(self._root)), self.path)
 
     def size(self, name: str) -> int | None:
         """The size of a file that is inside of the folder, through links too."""
@@ -165,11 +163,16 @@ class _Folder:
         return way if is_inside and os.path.isfile(way) else None
 
 
+def _problem_text(problem: TarFault) -> str:
+    return f"it is cut off: {problem}" if isinstance(problem, EndsEarly) else f"it is no tar archive: {problem}"
+
+
 class _Archive:
     """An image in a tar archive, whose files are found once."""
 
     def __init__(self, file: int, path: str) -> None:
         self.path = path
+        self._word = "FILE" if path == _INPUT else path
         self._file = file
         self._places: dict[str, tuple[int, int]] = {}
         self._links: dict[str, str] = {}
@@ -179,21 +182,18 @@ class _Archive:
             with reading(path):
                 self._find(size)
         except TarFault as problem:
-            raise cannot_read(path, self._look(problem)) from None
+            raise cannot_read(path, self._look_of_file() or _problem_text(problem)) from None
         except TooMuch as problem:
             raise cannot_read(path, str(problem)) from None
 
-    def _look(self, problem: TarFault) -> str:
-        """What it is in place of a whole archive."""
-        word = "FILE" if self.path == _INPUT else self.path
-        look = look_of_file(os.pread(self._file, HEAD_BYTES, 0), word)
-        if look is None and isinstance(problem, EndsEarly):
-            return f"it is cut off: {problem}"
-        return look or f"it is no tar archive: {problem}"
+    def _look_of_file(self) -> str | None:
+        with reading(self.path):
+            return look_of_file(os.pread(self._file, HEAD_BYTES, 0), self._word)
 
-    def top_names(self) -> Set[str]:
+    def look(self) -> str:
         """See `Members`."""
-        return {name.partition("/")[0] for name in (*self._places, *self._links)}
+        names = {name.partition("/")[0] for name in (*self._places, *self._links)}
+        return not names and self._look_of_file() or look_of_names(names, self._word)
 
     def _find(self, size: int) -> None:
         """Finds the place of each file. A later one of the same name counts, as where an archive is unpacked."""

@@ -4,7 +4,6 @@ import os
 import re
 from collections.abc import Set
 
-from ..common.streams import packing_of
 from ..model import stacks
 from .targets import DOCKER_NAME
 
@@ -44,8 +43,6 @@ def look_of_file(head: bytes, path: str) -> str | None:
     """What a file looks like that begins with these bytes and is no tar archive."""
     if not head:
         return "it is empty"
-    if packing := packing_of(head):
-        return f"it is packed by {packing}, which no image is: say `{packing} -dc {path} | layers .. -`"
     found = next((look for begin, magic, look in _LOOKS if head.startswith(magic, begin)), None)
     if found is not None:
         return f"it is {found.format(path=path)}"
