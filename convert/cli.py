@@ -19,7 +19,7 @@ from .folder.mounted import report
 from .folder.scan import ScanOptions, scan
 from .folder.stack_layers import StackOptions, write_stack
 from .folder.stores import StoreOptions, store
-from .image.compression import COMPRESSIONS, NONE
+from .image.compression import LEVELS, NONE
 from .image.pack import PackOptions, pack
 from .image.targets import Target, target_of
 from .image.unpack import UnpackOptions, unpack
@@ -27,6 +27,7 @@ from .look.diff import DiffOptions, diff
 from .look.sources import Choice
 from .model.stacks import BLOBS, require_order, stack_in
 from .sizes.command import SizesOptions, sizes
+from .squashfs.programs import Packing
 from .words import NAME, Run, parser_of
 
 _INTERRUPTED = 128
@@ -99,7 +100,7 @@ def _store(words: argparse.Namespace) -> None:
 def _build(words: argparse.Namespace) -> None:
     build_layer(BuildOptions(
         layer=words.layer, blobs=_folder(words.blobs), out=_folder(words.out), userxattr=bool(words.userxattr),
-        compress=words.compress,
+        packing=Packing(words.compress),
     ))
 
 
@@ -170,13 +171,12 @@ def _flatten(words: argparse.Namespace) -> None:
 
 
 def _flatten_image(words: argparse.Namespace) -> None:
-    compress = words.compress or NONE
-    if compress not in COMPRESSIONS:
-        raise UsageFault(f"--compress {compress} is for a squashfs alone")
+    if words.compress and words.compress.problem(LEVELS):
+        raise UsageFault(f"--compress {words.compress} is for a squashfs alone")
     options = FlattenOptions(
         image=_folder(words.image), out=_target(words.out, words.dry_run), layers=words.layers,
         keep=words.keep and _folder(words.keep), platform=words.platform, tag=words.tag,
-        skip_unsupported=words.skip_unsupported, overlay_marks=words.overlay_marks, compress=compress,
+        skip_unsupported=words.skip_unsupported, overlay_marks=words.overlay_marks, compress=words.compress,
     )
     if words.dry_run:
         _print(flatten_commands(options))
@@ -185,7 +185,7 @@ def _flatten_image(words: argparse.Namespace) -> None:
 
 
 def _flatten_stack(words: argparse.Namespace) -> None:
-    if words.compress == NONE:
+    if words.compress and words.compress.method == NONE:
         raise UsageFault("--compress none is for images alone")
     flatten_stack(FlattenStackOptions(
         stack=_stack_of(words), out=_folder(words.out), form=words.form and OutForm(words.form), layers=words.layers,

@@ -6,7 +6,7 @@ from collections.abc import Callable, Mapping
 from . import VERSION
 from .flatten.stack import OutForm
 from .folder.build_squashfs import SUFFIX as SQUASHFS_SUFFIX
-from .image.compression import COMPRESSIONS, NONE
+from .image.compression import LEVELS, PLAIN, Compression, compression_of
 from .image.configuration import USUAL_PLATFORM
 from .look.changes import ASPECTS
 from .model.rules import MAX_LAYERS
@@ -117,6 +117,8 @@ several are to be left, it checks them (`fsck`), drops what changes nothing (`va
 directories and metacopy files (`deref`), and merges the topmost layers (`merge`). Then `pack` writes the
 image. Each step is printed with its time.
 
+A layer that is made is packed as the topmost given one, unless --compress says otherwise.
+
 Nothing is written unless the new layers, and the new image when it is read again, show what the given
 image shows, byte for byte. If the program refuses the layers, its report and its status are those of this
 command. --out is as for `pack`: with -, an archive on standard output, nothing else goes there.
@@ -168,8 +170,8 @@ _NEW_IMAGE = (
     "names it: oci:DIR:TAG, oci-archive:FILE:TAG, docker-archive:FILE:NAME, dir:DIR"
 )
 _PACKS = (
-    "packs the layers; zstd needs the program of that name, and is read by podman, buildah, containerd and "
-    "docker from 23 on, not by umoci and older dockers [default: none]"
+    "packs the layers, at a level such as gzip:9; zstd needs the program of that name, and is read by podman, buildah, "
+    "containerd and docker from 23 on, not by umoci and older dockers"
 )
 
 
@@ -240,7 +242,8 @@ def _add_build(parser: argparse.ArgumentParser) -> None:
         help=f"folder to make, absent or empty, or a file whose name ends in {SQUASHFS_SUFFIX}",
     )
     parser.add_argument(
-        "--compress", choices=squashfs.COMPRESSIONS, help="packs the squashfs [default: as tar2sqfs does it]"
+        "--compress", metavar=_methods(squashfs.LEVELS), type=_compression(squashfs.LEVELS),
+        help="packs the squashfs, at a level such as gzip:9 [default: as tar2sqfs does it]",
     )
     _add_userxattr(parser, "writes")
 
@@ -300,19 +303,27 @@ def _add_pack(parser: argparse.ArgumentParser) -> None:
 def _add_new_image(parser: argparse.ArgumentParser) -> None:
     """Which image is written."""
     _add_out(parser, _NEW_IMAGE)
-    parser.add_argument("--compress", choices=COMPRESSIONS, default=NONE, help=_PACKS)
+    parser.add_argument(
+        "--compress", metavar=_methods(LEVELS), type=_compression(LEVELS), default=PLAIN, help=f"{_PACKS} [default: none]"
+    )
 
 
 def _add_out(parser: argparse.ArgumentParser, explanation: str) -> None:
     parser.add_argument("--out", metavar="IMAGE", required=True, help=explanation)
 
 
+def _methods(levels: Mapping[str, range]) -> str:
+    """How methods of packing are written in a help text."""
+    return "|".join([*levels, "METHOD:LEVEL"])
+
+
 def _add_flatten(parser: argparse.ArgumentParser) -> None:
+    every = {**LEVELS, **squashfs.LEVELS}
     _add_image(parser, may_be_absent=True)
     _add_out(parser, f"{_NEW_IMAGE}; with --stack a folder, or a file whose name ends in {SQUASHFS_SUFFIX}")
     parser.add_argument(
-        "--compress", choices=dict.fromkeys((*COMPRESSIONS, *squashfs.COMPRESSIONS)),
-        help=f"{_PACKS}; xz and lz4 are for a squashfs, which is packed by default as tar2sqfs does it",
+        "--compress", metavar=_methods(every), type=_compression(every),
+        help=f"{_PACKS}; xz and lz4 are for a squashfs [default: as the topmost given layer, or squashfs, is packed]",
     )
     parser.add_argument(
         "--layers", metavar="N", type=_layers, default=1, help="how many layers are left at most [default: 1]"
@@ -415,6 +426,19 @@ def _workers(text: str) -> int:
     if not 1 <= number <= MOST_WORKERS:
         raise argparse.ArgumentTypeError(f"workers must be 1 to {MOST_WORKERS}")
     return number
+
+
+def _compression(levels: Mapping[str, range]) -> Callable[[str], Compression]:
+    """Reads one of these methods, with or without a level."""
+
+    def read(text: str) -> Compression:
+        found = compression_of(text)
+        problem = "it is a method, or one with its level, such as gzip:9" if found is None else found.problem(levels)
+        if found is None or problem:
+            raise argparse.ArgumentTypeError(str(problem))
+        return found
+
+    return read
 
 
 def _layers(text: str) -> int:

@@ -68,7 +68,7 @@ def _command(name: str, about: str, parser: argparse.ArgumentParser) -> Command:
 
 def _option(action: argparse.Action) -> Option:
     value = "" if action.nargs == 0 else str(action.metavar or action.dest.upper())
-    choices = tuple(map(str, action.choices)) if action.choices else ()
+    choices = tuple(map(str, action.choices or [word for word in value.split("|") if word.islower()]))
     return Option(tuple(action.option_strings), value, choices, action.help or "")
 
 

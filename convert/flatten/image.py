@@ -15,15 +15,15 @@ from ..common.disk_space import require_room
 from ..common.faults import UsageFault, cannot_write
 from ..common.outputs import NEW, folder_made, new_file, note_stages_beside, passing_folder, standard_output
 from ..common.program import NAME, find_program, makes_layers, word_of_path, words_of
-from ..common.progress import counted, note_path
+from ..common.progress import counted
 from ..common.stages import removing
-from ..image.compression import NONE
+from ..image.compression import NONE, PLAIN, Compression
 from ..image.images import Image, image_place, opened_image, paths_of_image, spellings
 from ..image.members import STANDARD_INPUT
 from ..image.new_layers import NewLayers
 from ..image.pack import PackOptions, pack
 from ..image.targets import ARCHIVE_SUFFIX, Form, Target
-from ..image.unpack import UnpackOptions, unpack
+from ..image.unpack import UnpackOptions, unpack, unpack_opened
 from ..model import stacks
 from ..tar.least_sizes import least_shown
 from .steps import AGAIN, BEFORE, REPORT, STACK, Runner, carry_out, new_layer, timed, work_folder
@@ -47,7 +47,7 @@ class FlattenOptions:
     tag: str | None = None
     skip_unsupported: bool = False
     overlay_marks: bool = False
-    compress: str = NONE
+    compress: Compression | None = None  # otherwise as the topmost given layer is packed
 
 
 def flatten(options: FlattenOptions) -> None:
@@ -60,9 +60,9 @@ def flatten(options: FlattenOptions) -> None:
     begun = time.monotonic()
     with _new_image(options.out) as stage:
         with work_folder(stage, options.keep) as folder:
-            before, after = carry_out(_ImageRunner(options, folder, f"{stage}/{NEW}"), options.layers)
-    seconds = time.monotonic() - begun
-    note_path(options.out.label, f"{counted(after, 'layer', 'layers')} in place of {before}, {seconds:.2f} s in all")
+            runner = _ImageRunner(options, folder, f"{stage}/{NEW}")
+            before, after = carry_out(runner, options.layers)
+    runner.sum_up(options.out.label, before, after, time.monotonic() - begun)
 
 
 def flatten_commands(options: FlattenOptions) -> list[str]:
@@ -122,15 +122,19 @@ class _ImageRunner(Runner):
         self._image = image
         self._name: str | None = None
         self._has_annotations = False
+        self._compress = PLAIN
 
     def unpack(self) -> int:
         """See `Plan`."""
         options = self._options
+        unpacking = UnpackOptions(
+            image=options.image, out=self.path(STACK), skip_unsupported=options.skip_unsupported,
+            overlay_marks=options.overlay_marks,
+        )
         with timed("unpack") as words:
-            image = unpack(UnpackOptions(
-                image=options.image, out=self.path(STACK), platform=options.platform, tag=options.tag,
-                skip_unsupported=options.skip_unsupported, overlay_marks=options.overlay_marks,
-            ))
+            with opened_image(options.image, options.platform, options.tag) as image:
+                unpack_opened(unpacking, image)
+                self._compress, self.bytes_given = _compression_of(image, options), image.layer_bytes()
             self._name, self.count = _name_of(image, options), len(image.layers)
             self._has_annotations = bool(image.annotations)
             words.append(counted(self.count, "layer", "layers"))
@@ -139,7 +143,7 @@ class _ImageRunner(Runner):
     def run(self, step: str, what: str, layers: Sequence[str], new: str, own: Sequence[str] = ()) -> None:
         """See `Plan`."""
         super().run(step, what, layers, new, own)
-        if new == BEFORE and self._options.compress == NONE:
+        if new == BEFORE and self._compress == PLAIN:
             require_room(self._options.out.label, self._image, least_shown(self.path(new)))
 
     def pack(self, layers: Sequence[str]) -> None:
@@ -152,13 +156,13 @@ class _ImageRunner(Runner):
                     beside.enter_context(removing(self.path(STACK), stacks.BLOBS))
 
             new_layers = None
-            if self._options.compress == NONE:
+            if self._compress == PLAIN:
                 out = self._options.out.label
                 new_layers = beside.enter_context(NewLayers(self._folder, out, len(layers), drop_blobs))
             with timed("pack") as words:
                 pack(PackOptions(
                     layers=[self.path(layer) for layer in layers], blobs=blobs, out=self._target(), tag=self._name,
-                    config=config, compress=self._options.compress, links=links, has_checked_blobs=True,
+                    config=config, compress=self._compress, links=links, has_checked_blobs=True,
                     annotations=self.path(_ANNOTATIONS) if self._has_annotations else None, new_layers=new_layers,
                 ))
                 words.append(counted(len(layers), "layer", "layers"))
@@ -178,6 +182,7 @@ class _ImageRunner(Runner):
         with self.passing(AGAIN) as again:
             options = UnpackOptions(image=image, out=again, overlay_marks=marks, digests_only=True)
             found = unpack(options, new_layers)
+            self.bytes_made = found.layer_bytes()
             return self.run_on("show", stacks.layer_paths(AGAIN, len(found.layers)), _SHOWN)
 
 
@@ -185,6 +190,11 @@ def _name_of(image: Image, options: FlattenOptions) -> str | None:
     """The name of the new image: the one that was asked for, as the given image spells it, or else its first."""
     asked = spellings(options.tag) if options.tag else image.names
     return options.out.tag or next((name for name in image.names if name in asked), options.tag)
+
+
+def _compression_of(image: Image, options: FlattenOptions) -> Compression:
+    """How the new layers are packed: as was asked for, or else as the topmost given one."""
+    return options.compress or Compression(image.layers[-1].packing() or NONE)
 
 
 class _InWork(str):
@@ -199,6 +209,7 @@ class _DryRun:
         self._program = find_program() or NAME
         self._name: str | None = None
         self._has_annotations = False
+        self._compress = PLAIN
         self._marks = ["--overlay-marks"] if options.overlay_marks else []
         self.lines = ["set -e\n"]
         if options.keep is None:
@@ -214,6 +225,7 @@ class _DryRun:
         options = self._options
         with opened_image(options.image, options.platform, options.tag) as image:
             count, self._name = len(image.layers), _name_of(image, options)
+            self._compress = _compression_of(image, options)
             self._has_annotations = bool(image.annotations)
         words = _given("--platform", options.platform) + _given("--tag", options.tag)
         if options.skip_unsupported:
@@ -254,7 +266,7 @@ class _DryRun:
         blobs, config, links = (self._path(f"{STACK}/{name}") for name in _FOR_PACK)
         self._add_tool(
             "pack", *paths, "--blobs", blobs, "--config", config, "--links", links, "--out", out,
-            "--compress", self._options.compress, *([] if self._name is None else [f"--tag={self._name}"]),
+            "--compress", str(self._compress), *([] if self._name is None else [f"--tag={self._name}"]),
             *_given("--annotations", self._path(_ANNOTATIONS) if self._has_annotations else None),
         )
         self._add_tool("unpack", out, "--out", self._path(AGAIN), "--digests-only", *self._marks)

@@ -15,6 +15,7 @@ from ..common.progress import counted, note_path
 from ..folder.build import BuildOptions, build
 from ..folder.build_squashfs import SUFFIX, build_squashfs
 from ..folder.stack_layers import StackOptions, read_stack, require_forms, require_ordinary
+from ..image.compression import Compression
 from ..model import stacks
 from ..model.attributes import require_trusted
 from ..model.entries import SOCKET, drop_host_marks, named
@@ -23,7 +24,9 @@ from ..model.links import take_links, write_layer
 from ..model.manifests import read_manifest
 from ..model.show_report import read_report, report_of
 from ..squashfs import programs as squashfs
+from ..squashfs.layer_files import Form
 from ..squashfs.limits import fitted_lines
+from ..squashfs.programs import Packing
 from .steps import AGAIN, BEFORE, STACK, Runner, carry_out, timed, work_folder
 
 _NEW = "new"
@@ -51,7 +54,7 @@ class FlattenStackOptions:
     layers: int = 1
     data_layers: int = 0
     keep: str | None = None
-    compress: str | None = None
+    compress: Compression | None = None  # of a squashfs; otherwise as the topmost given one is packed
 
     def is_squashfs(self) -> bool:
         """Whether squashfs files are written."""
@@ -63,21 +66,20 @@ def flatten_stack(options: FlattenStackOptions) -> None:
 
     Nothing is written unless that shows, read again, what the given layers show, except for what was reported.
     """
-    _require_sound(options)
+    forms = _require_sound(options)
     begun = time.monotonic()
     is_file, is_layer = options.is_squashfs() and options.layers == 1, options.layers == 1
     if is_file:
         note_stages_beside(options.out)
     with new_file(options.out) if is_file else folder_made(options.out, is_dressed=is_layer) as stage:
         with work_folder(stage.path, options.keep) as folder:
-            made = place_of(stage.file, NEW)
-            before, after = carry_out(_StackRunner(options, folder, made), options.layers, options.data_layers)
-    seconds = time.monotonic() - begun
-    note_path(options.out, f"{counted(after, 'layer', 'layers')} in place of {before}, {seconds:.2f} s in all")
+            runner = _StackRunner(options, folder, place_of(stage.file, NEW), forms)
+            before, after = carry_out(runner, options.layers, options.data_layers)
+    runner.sum_up(options.out, before, after, time.monotonic() - begun)
 
 
-def _require_sound(options: FlattenStackOptions) -> None:
-    """Refuses at once what couldn't be done in the end."""
+def _require_sound(options: FlattenStackOptions) -> list[Form]:
+    """What the layers are given as; refuses at once what couldn't be done in the end."""
     forms = require_forms(options.stack)
     require_ordinary(len(forms), options.data_layers)
     if options.layers > 1 and options.out.endswith(SUFFIX):
@@ -103,15 +105,34 @@ def _require_sound(options: FlattenStackOptions) -> None:
             raise cannot_write(options.out, "it is no regular file")
     else:
         require_empty(options.out)
+    return forms
+
+
+def _packing_of(options: FlattenStackOptions, forms: Sequence[Form]) -> Packing:
+    """How squashfs files are packed: as was asked for, or else as the topmost given one."""
+    given = [layer for layer, form in zip(options.stack.layers, forms) if form is Form.SQUASHFS]
+    packing = squashfs.packing_of(given[0]) if given else Packing()
+    return packing if options.compress is None else replace(packing, compression=options.compress)
+
+
+def _bytes_of(layers: Sequence[str], forms: Sequence[Form]) -> int | None:
+    """How many bytes layers have that are each one file with all that is in it."""
+    if not set(forms) <= {Form.SQUASHFS, Form.ARCHIVE}:
+        return None
+    return sum(map(os.path.getsize, layers))
 
 
 class _StackRunner(Runner):
     """Does the steps of a stack. `made` is where the new layer is made, or the folder of the new layers."""
 
-    def __init__(self, options: FlattenStackOptions, folder: str, made: str) -> None:
+    def __init__(self, options: FlattenStackOptions, folder: str, made: str, forms: Sequence[Form]) -> None:
         super().__init__(folder, options.keep is not None, sys.stdout, options.stack.layers)
         self._options = options
         self._made = made
+        self._packing = Packing()
+        if options.is_squashfs():
+            self._packing = _packing_of(options, forms)
+            self.bytes_given = _bytes_of(options.stack.layers, forms)
 
     def unpack(self) -> int:
         """See `Plan`."""
@@ -147,10 +168,11 @@ class _StackRunner(Runner):
         manifest = self._without_host_marks(number, layer, count)
         options = BuildOptions(
             layer=manifest, blobs=self.path(f"{STACK}/{stacks.BLOBS}"), out=out,
-            userxattr=bool(self._options.stack.userxattr), compress=self._options.compress, name=name,
+            userxattr=bool(self._options.stack.userxattr), packing=self._packing, name=name,
         )
         if self._options.is_squashfs():
             build_squashfs(options)
+            self.bytes_made = (self.bytes_made or 0) + os.path.getsize(out)
         else:
             build(options)
         return out

@@ -8,10 +8,11 @@ import time
 from collections.abc import Iterable, Iterator, Sequence
 from typing import IO, Protocol
 
+from ..common.amounts import amount_text, per_cent
 from ..common.faults import Fault, reading, writing
 from ..common.outputs import kept_folder
 from ..common.program import makes_layers, require_program, run_program, words_of
-from ..common.progress import note
+from ..common.progress import counted, note, note_path
 from ..model import stacks
 from ..model.entries import METACOPY, REDIRECT
 from ..model.links import links_path, names_in
@@ -108,6 +109,8 @@ class Runner:
         self._faults = faults
         self._program = require_program(given)
         self.count = 0  # of the given layers
+        self.bytes_given: int | None = None  # in the files of the layers, if they are in files
+        self.bytes_made: int | None = None
         self.data_layers: frozenset[str] = frozenset()  # the names of those that are data-only
 
     def path(self, name: str) -> str:
@@ -129,6 +132,15 @@ class Runner:
                 os.mkdir(self.path(new))
             report = f"{new}/{REPORT}"
         return run_program(self._program, words, self._folder, report, self._faults)
+
+    def sum_up(self, label: str, before: int, after: int, seconds: float) -> None:
+        """Says how many layers there are at a place, and how many bytes, in place of those that were given."""
+        words = [f"{counted(after, 'layer', 'layers')} in place of {before}"]
+        made, given = self.bytes_made, self.bytes_given
+        if made is not None:
+            share = "" if given is None else f" in place of {amount_text(given)} ({per_cent(made, given)})"
+            words.append(amount_text(made) + share)
+        note_path(label, ", ".join([*words, f"{seconds:.2f} s in all"]))
 
     @contextlib.contextmanager
     def passing(self, name: str) -> Iterator[str]:

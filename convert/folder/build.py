@@ -18,6 +18,7 @@ from ..model.blobs import blob_path, opened_blob
 from ..model.entries import BLOCK, CHAR, DIRECTORY, FIFO, FILE, SYMLINK, Entry, only_in_manifests
 from ..model.links import FirstNames, take_links
 from ..model.manifests import read_manifest
+from ..squashfs.programs import Packing
 
 _TYPES = {
     CHAR: stat.S_IFCHR, BLOCK: stat.S_IFBLK, FIFO: stat.S_IFIFO, "socket": stat.S_IFSOCK,
@@ -35,7 +36,7 @@ class BuildOptions:
     blobs: str
     out: str
     userxattr: bool = False
-    compress: str | None = None  # of a squashfs; if it isn't said, the program's default
+    packing: Packing = Packing()  # of a squashfs
     name: str | None = None  # what it is called in faults and notes, if it isn't made at its place
 
     @property

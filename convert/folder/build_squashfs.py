@@ -5,8 +5,8 @@ import os
 from collections.abc import Iterator
 from dataclasses import replace
 
-from ..common.contents import PIECE, PRIVATE_MODE, ZEROS
-from ..common.faults import Fault, UsageFault, cannot_write, writing
+from ..common.contents import PIECE, ZEROS
+from ..common.faults import Fault, UsageFault, cannot_write
 from ..common.omissions import Losses
 from ..common.open_dirs import place_of
 from ..common.outputs import NEW, new_file
@@ -34,7 +34,7 @@ def build_layer(options: BuildOptions) -> None:
     """Makes the folder of a manifest, or a squashfs if the name ends so."""
     if options.out.endswith(SUFFIX):
         build_squashfs(options)
-    elif options.compress is not None:
+    elif options.packing.compression is not None:
         raise UsageFault(f"--compress is of a squashfs, and --out doesn't end in {SUFFIX}")
     else:
         build(options)
@@ -45,12 +45,9 @@ def build_squashfs(options: BuildOptions) -> None:
     losses = Losses()
     entries = _fitting(options, losses)
     with new_file(options.out, options.label) as stage:
-        with squashfs.written(stage.path, NEW, options.label, options.compress) as write:
+        with squashfs.written(stage.path, NEW, options.label, options.packing) as write:
             _write_archive(entries, options, TarWriter(write))
-        path = place_of(stage.file, NEW)
-        _require_same(path, entries, options)
-        with writing(options.label):
-            os.chmod(path, PRIVATE_MODE)
+        _require_same(place_of(stage.file, NEW), entries, options)
     losses.report(options.label)
 
 

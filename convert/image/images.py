@@ -96,10 +96,14 @@ class ImageLayer:
         with self.members.opened(self.name) as part, reading(self.path):
             return part.is_gzip()
 
+    def packing(self) -> str:
+        """What its bytes in the image are packed by, or nothing."""
+        with self.members.opened(self.name) as part, reading(self.path):
+            return part.packing()
+
     def packed_size(self) -> int | None:
         """How many bytes it has in the image, if these are compressed."""
-        with self.members.opened(self.name) as part, reading(self.path):
-            return self.size if part.is_packed() else None
+        return self.size if self.packing() else None
 
 
 @dataclass(frozen=True)
@@ -110,6 +114,10 @@ class Image:
     configuration: Document
     names: tuple[str, ...] = ()
     annotations: Mapping[str, str] = field(default_factory=dict)  # but for those of the base, which new layers haven't
+
+    def layer_bytes(self) -> int:
+        """How many bytes its layers have in it, each file once."""
+        return sum({layer.identity(): layer.size for layer in self.layers}.values())
 
 
 @dataclass(frozen=True)

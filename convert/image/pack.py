@@ -25,7 +25,7 @@ from ..tar.least_sizes import least_archive
 from ..tar.headers import Header
 from ..tar.writer import TYPES, TarWriter
 from .archive_names import OPAQUE_NAME, WHITEOUT_PREFIX
-from .compression import NONE, media_type, packing, require_program
+from .compression import PLAIN, Compression, media_type, packing, require_program
 from .configuration import (
     USUAL_PLATFORM, Document, for_layers, platform_of, platform_text, read_annotations, read_configuration,
 )
@@ -53,7 +53,7 @@ class PackOptions:
     tag: str | None = None
     skip_unsupported: bool = False
     config: str | None = None
-    compress: str = NONE
+    compress: Compression = PLAIN
     links: str | None = None
     annotations: str | None = None
     has_checked_blobs: bool = False  # and what is written is read again
@@ -78,7 +78,7 @@ def pack(options: PackOptions) -> None:
     annotations = read_annotations(options.annotations) if options.annotations is not None else {}
     layers = [list(_packable(path, options)) for path in reversed(options.layers)]
     out = options.out
-    if options.compress == NONE:
+    if options.compress == PLAIN:
         require_room(out.label, out.place, sum(map(least_archive, layers)))
     if out.form is Form.ARCHIVE:
 
@@ -211,7 +211,7 @@ def _write_layer(files: ImageFiles, entries: list[Entry], options: PackOptions) 
         size = file.seek(0, os.SEEK_END) - begin
         if again is not None:
             unpacked = again.read(file.fileno(), begin, size)
-        digest = unpacked if options.compress == NONE else packer.digest() or digest_and_size(file.fileno(), begin)[0]
+        digest = unpacked if options.compress == PLAIN else packer.digest() or digest_and_size(file.fileno(), begin)[0]
         packed.append(_Packed(digest, size, unpacked))
         return digest
 

@@ -12,11 +12,12 @@ from collections.abc import Iterator, Sequence
 from dataclasses import asdict
 from pathlib import Path
 
+from ..common.amounts import per_cent, size_text
 from ..common.escaping import printable
 from ..common.outputs import write_text
 from .layer_sizes import LayerSizes, Sizes
 from .map import json_text, largest_folders, map_of, places_of
-from .texts import Origin, not_shown_text, packed_sum, per_cent, size_text
+from .texts import Origin, not_shown_text, packed_sum
 
 _HERE = Path(__file__).resolve().parent
 _TURN = 137.508  # degrees from a layer's hue to the next one's: the golden angle, so that near ones differ

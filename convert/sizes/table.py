@@ -6,10 +6,11 @@ import sys
 from collections.abc import Iterable, Iterator, Sequence
 from dataclasses import dataclass
 
+from ..common.amounts import amount_text, per_cent, size_text
 from ..common.escaping import printable
 from .history import short_command
 from .layer_sizes import LayerSizes, Sizes
-from .texts import Origin, amount_text, packed_sum, per_cent, size_text
+from .texts import Origin, packed_sum
 from .waste import Cause, Kind, Place, Waste
 
 _USUAL_WIDTH = 80

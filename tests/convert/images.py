@@ -5,6 +5,7 @@ import hashlib
 import io
 import json
 import os
+import subprocess
 import tarfile
 from collections.abc import Iterable
 
@@ -128,3 +129,8 @@ def is_document(path: str) -> bool:
 def packed(data: bytes) -> bytes:
     """By gzip."""
     return gzip.compress(data, mtime=0)
+
+
+def packed_by_zstd(data: bytes) -> bytes:
+    """By the program zstd."""
+    return subprocess.run(["zstd", "--quiet", "--stdout"], input=data, check=True, capture_output=True).stdout

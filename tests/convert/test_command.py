@@ -29,7 +29,7 @@ from support import (
 )
 
 from convert.common import open_dirs as places
-from convert.image.compression import BLOCK, GZIP, packing
+from convert.image.compression import BLOCK, GZIP, Compression, packing
 from convert.model.manifests import read_manifest
 
 A = hashlib.sha256(b"a").hexdigest()
@@ -555,7 +555,8 @@ class Packing(CommandTest):
             found = set()
             for processors in (1, 3):
                 out = io.BytesIO()
-                with mock.patch("os.sched_getaffinity", return_value=range(processors)), packing(GZIP, out) as packer:
+                affinity = mock.patch("os.sched_getaffinity", return_value=range(processors))
+                with affinity, packing(Compression(GZIP), out) as packer:
                     for at in range(0, size, 100_000):
                         packer.write(data[at:at + 100_000])
                 found.add(out.getvalue())

@@ -14,7 +14,7 @@ from collections.abc import Iterator
 from pathlib import Path
 from unittest import mock
 
-from images import archive, folder, member, put_index, put_manifest, write_layout, write_saved
+from images import archive, folder, member, packed, packed_by_zstd, put_index, put_manifest, write_layout, write_saved
 from support import ROOT, FolderTest, call, left_stage, program_words, why_no_trusted
 
 LAYERS = [
@@ -147,7 +147,7 @@ class Steps(FlattenTest):
                 "unpack: 3 layers", *steps, "show: entries 1", "show of the new layers: entries 1", f"pack: {left}",
                 "the new image, read again: entries 1", f"{self.path('all', out)}: {left} in place of 3",
             ), strict=True):
-                self.assertRegex(line, rf"^layers: {begin}, \d+\.\d\d s")
+                self.assertRegex(line, rf"^layers: {begin}(?:, .*\))?, \d+\.\d\d s")
 
     def test_layers_with_redirects_are_unfolded_first(self) -> None:
         moved = folder("new", pax={"SCHILY.xattr.trusted.overlay.redirect": "/d"})
@@ -304,17 +304,53 @@ with mock.patch("convert.common.program.find_program", return_value={self.progra
         with open(self.path("all", "own", "index.json"), encoding="utf-8") as file:
             self.assertIn('"x"', file.read())
 
+    def layers_in(self, *names: str) -> list[tuple[str, bytes]]:
+        """The media types and bytes of an image's layers, the lowest first."""
+        folder = self.path(*names)
+
+        def blob(digest: str) -> bytes:
+            return Path(folder, "blobs", *digest.split(":")).read_bytes()
+
+        with open(f"{folder}/index.json", encoding="utf-8") as file:
+            document = json.loads(blob(json.load(file)["manifests"][0]["digest"]))
+        return [(it["mediaType"].rpartition("layer.v1.")[2], blob(it["digest"])) for it in document["layers"]]
+
     def test_packed_layers(self) -> None:
-        for kind, begin in (("gzip", b"\x1f\x8b"), ("none", b"./")):
-            self.require_done(self.flatten("--compress", kind, out=kind))
-            with open(self.path("all", kind, "index.json"), encoding="utf-8") as file:
-                document = json.load(file)["manifests"][0]
-            for name in ("layers", None):
-                path = self.path("all", kind, "blobs", "sha256", document["digest"].split(":")[1])
-                with open(path, "rb") as file:
-                    data = file.read()
-                document = json.loads(data)[name][0] if name else document
-            self.assertTrue(data.startswith(begin), data[:4])
+        """As the topmost given layer is, or as is asked for, by level too; the last line says how much is saved."""
+        plain = [archive(layer) for layer in [*LAYERS[:2], [folder("d"), member("d/f", b"topmost" * 9_999)]]]
+        by = {"none": bytes, "gzip": packed, "zstd": packed_by_zstd}
+        sizes = []
+        for number, (given, words, wanted) in enumerate((
+            ("gzip", (), "tar+gzip"), ("none", (), "tar"), ("zstd", (), "tar+zstd"), ("gzip", ("--compress", "none"), "tar"),
+            ("none", ("--compress", "gzip:1"), "tar+gzip"), ("none", ("--compress", "gzip:9"), "tar+gzip"),
+            ("gzip", ("--compress", "zstd:19"), "tar+zstd"),
+        )):
+            if shutil.which("zstd") is None and "zstd" in f"{given} {words}":
+                continue
+            layers = [plain[0], packed(plain[1]), by[given](plain[2])]
+            write_layout(self.path("in", str(number)), layers)
+            for out in (f"{number}", f"{number}.tar"):
+                result = self.flatten(*words, image=self.path("in", str(number)), out=out)
+                self.require_done(result)
+                self.assertRegex(result[2], r"1 layer in place of 3, .* in place of .*B \(\d+\.\d %\), ")
+            ((kind, data),) = self.layers_in("all", str(number))
+            self.assertEqual((kind, data[:2]), (wanted, by[wanted.partition("+")[2] or "none"](plain[0])[:2]))
+            sizes.append(len(data))
+            if not words and given == "none":
+                share = 1_000 * len(data) // sum(map(len, layers))
+                self.assertIn(f" ({share // 10}.{share % 10} %), ", result[2])
+        self.assertGreater(sizes[-3], sizes[-2])
+
+    def test_levels_that_there_are(self) -> None:
+        for word, problem in (
+            ("gzip:0", "gzip has levels 1 to 9"), ("gzip:10", "gzip has levels 1 to 9"), ("none:1", "none has no levels"),
+            ("zstd:x", "it is a method, or one with its level, such as gzip:9"), ("bzip2", "bzip2 is none of none, gzip"),
+            ("gzip:", "it is a method, or"), ("zstd:22", "--compress zstd:22 is for a squashfs alone"),
+        ):
+            status, printed, messages = self.flatten("--compress", word)
+            self.assertEqual((status, printed), (2, ""), word)
+            self.assertIn(problem, messages)
+        self.left()
 
     def test_dry_run(self) -> None:
         given = self.path("in", "an image's $x")

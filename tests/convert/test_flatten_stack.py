@@ -13,7 +13,10 @@ from squashfs_files import from_archive, require
 from support import FolderTest, call, program_words, why_no_trusted
 from test_kernel import IN_A_NAMESPACE, why_no_overlay
 
+from convert.common.amounts import amount_text
+from convert.image.compression import Compression
 from convert.model.manifests import read_manifest
+from convert.squashfs.programs import Packing, packing_of
 
 STACKS = 6
 SEED = 2
@@ -110,6 +113,32 @@ class Stacks(StackTest):
             self.require_done(self.flatten("--layers", 2, out="folders"))
             self.assertEqual(self.shown(self.path("folders", "l0")), upper)
             self.require_nothing_left("flat", "folders", "in", "three")
+
+    def test_packed_as_the_given_one(self) -> None:
+        """The topmost squashfs: its compression with the level, and its blocks; the file's mode is the umask's."""
+        self.require_program()
+        words = "--compressor", "zstd", "--comp-extra", "level=3", "--block-size", "16384"
+        from_archive(archive([folder("./"), member("z", bytes(50_000))]), self.path("in", "zstd.squashfs"), *words)
+        given = Packing(Compression("zstd", 3), 16_384)
+        self.addCleanup(os.umask, os.umask(0o022))
+        for layers, more, mask, wanted in (
+            ((self.topmost, self.path("in", "zstd.squashfs"), self.lowest), (), 0o022, given),
+            ((self.path("in", "zstd.squashfs"), self.lowest), ("--compress", "gzip:1"), 0o077,
+             Packing(Compression("gzip", 1), 16_384)),
+            ((self.topmost, self.topmost), (), 0o002, Packing(Compression("xz"), 131_072)),
+        ):
+            os.umask(mask)
+            out = self.path("out.squashfs")
+            result = call("flatten", "--stack", *layers, *more, "--out", out)
+            self.require_done(result)
+            self.assertEqual(packing_of(out), wanted)
+            self.assertEqual(os.stat(out).st_mode & 0o777, 0o644 & ~mask)
+            size, whole = os.path.getsize(out), sum(map(os.path.getsize, layers))
+            self.assertIn(f", {amount_text(size)} in place of {amount_text(whole)} (", result[2])
+        data = bytearray(Path(out).read_bytes())
+        data[20:22] = b"\x03\x00"  # by lzo
+        Path(out).write_bytes(data)
+        self.assertEqual(packing_of(out), Packing())
 
     def test_data_only_layers(self) -> None:
         self.require_program()

@@ -16,12 +16,13 @@ from support import FolderTest, call, program_words, why_no_trusted
 
 from convert import cli as command
 from convert.model.entries import DIRECTORY, REDIRECT, SYMLINK, Entry, named
+from convert.common.amounts import size_text
 from convert.common.faults import ReadFault
 from convert.sizes.layer_sizes import sizes_of
 from convert.model.links import count_links, links_path
 from convert.model.manifests import read_manifest, written
 from convert.model.merged_tree import MergedTree
-from convert.sizes.texts import Origin, json_text, size_text
+from convert.sizes.texts import Origin, json_text
 
 _STACKS = 200
 _WITH_PROGRAM = 20

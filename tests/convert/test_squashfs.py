@@ -199,6 +199,7 @@ class Building(FileTest):
 
     def test_same_bytes(self) -> None:
         """Of the same input, by any number of processors and at any time; links are kept."""
+        self.addCleanup(os.umask, os.umask(0o027))
         self.scan(self.write("l.tar", layer()))
         found = set()
         for words in (("--compress", "gzip"), ("--compress", "gzip"), ("--compress", "lz4"), ()):
@@ -206,7 +207,7 @@ class Building(FileTest):
                 self.require_done(self.build(self.path("out.json"), *words))
             with open(self.path("o.squashfs"), "rb") as file:
                 found.add(file.read())
-            self.assertEqual(os.stat(self.path("o.squashfs")).st_mode & 0o777, 0o600)
+            self.assertEqual(os.stat(self.path("o.squashfs")).st_mode & 0o777, 0o640)
         self.assertEqual(len(found), 3)
         self.scan(self.path("o.squashfs"))
         with open(self.path("out.links"), encoding="utf-8") as file:
