@@ -7,6 +7,7 @@ import sys
 import traceback
 from collections.abc import Iterable, Mapping, Sequence
 
+from .check.command import CheckOptions, check
 from .common.escaping import printable
 from .common.faults import OTHER, ClosedPipe, Fault, UsageFault
 from .common.outputs import standard_output
@@ -24,7 +25,7 @@ from .image.pack import PackOptions, pack
 from .image.targets import Target, target_of
 from .image.unpack import UnpackOptions, unpack
 from .look.diff import DiffOptions, diff
-from .look.sources import Choice
+from .look.sources import Choice, Source
 from .model.stacks import BLOBS, require_order, stack_in
 from .sizes.command import SizesOptions, sizes
 from .squashfs.programs import Packing
@@ -48,7 +49,8 @@ def main(words: Sequence[str]) -> int:
     except ClosedPipe:
         return _INTERRUPTED + signal.SIGPIPE
     except Fault as fault:
-        print(f"{NAME}: {fault.text}", file=sys.stderr)
+        if fault.text:
+            print(f"{NAME}: {fault.text}", file=sys.stderr)
         return fault.status
     except KeyboardInterrupt:
         return _INTERRUPTED + signal.SIGINT
@@ -143,6 +145,11 @@ def _take_folder_of_unpack(words: argparse.Namespace) -> None:
 def _require_one_sort(words: argparse.Namespace) -> None:
     """Refuses an image beside a stack, neither of them, and what is for the other one."""
     _take_folder_of_unpack(words)
+    _require_fitting(words)
+
+
+def _require_fitting(words: argparse.Namespace) -> None:
+    """The same of words that are taken as they are given."""
     if (words.image is None) == (words.stack is None):
         raise UsageFault("name an IMAGE, or layers by --stack LAYER..")
     strange = _OF_STACKS if words.stack is None else _OF_IMAGES
@@ -204,6 +211,24 @@ def _sizes(words: argparse.Namespace) -> None:
     ), _print)
 
 
+def _check(words: argparse.Namespace) -> None:
+    check(CheckOptions(
+        source=_source(words), max_waste=words.max_waste, base=words.base and _folder(words.base),
+        is_strict=words.strict, as_json=words.json,
+    ), _print)
+
+
+def _source(words: argparse.Namespace) -> Source:
+    """What is looked at: an image, a folder that `unpack` or `store` wrote with its configuration, or layers."""
+    if words.stack is not None and len(words.stack) == 1 and stack_in(_folder(words.stack[0])) and words.image is None:
+        words.image, words.stack = words.stack[0], None
+    _require_fitting(words)
+    if words.stack is None:
+        return Source(word=_folder(words.image), choice=_choice(words))
+    require_order(words.stack)
+    return Source(stack=_stack_of(words), data_layers=words.data_layers)
+
+
 def _diff(words: argparse.Namespace) -> None:
     diff(DiffOptions(
         old=_folder(words.old), new=_folder(words.new), choice=_choice(words), ignored=words.ignore,
@@ -237,6 +262,7 @@ def _print(lines: Iterable[str]) -> None:
 
 _RUNS: Mapping[str, Run] = {
     "flatten": _flatten,
+    "check": _check,
     "sizes": _sizes,
     "diff": _diff,
     "unpack": _unpack,

@@ -33,7 +33,7 @@ examples:
 
 exit status:
   0  done
-  1  flatten: the layers have faults, on standard output; sizes: --max-waste is exceeded; diff: they differ
+  1  flatten: the layers have faults, on standard output; check: it isn't fit; sizes: over --max-waste; diff: they differ
   2  the words don't fit
   3  something can't be read, or can't be stated in a manifest or an image
   4  something can't be written
@@ -156,6 +156,20 @@ say how the layers were made, aren't compared. Neither are hard links.
 --json prints an object a line: {"layers-diff":1}, the changes, the numbers. Status 1 says that they differ.
 Two builds of one image are compared by `--ignore mtime`."""
 
+_CHECK = """\
+Print what is wrong with an image, a line each: fault, warning or note, a code, the layer (0 is the topmost), the
+path, and words; then the verdict. It looks at
+
+  - descriptors and digests, and by the proved `ovl_layers fsck` at the layers and at all contents
+  - the configuration: the entrypoint or command, and the health check, found by PATH and executable by the image's user,
+    with their interpreters and for its processor; the user and groups; the working directory
+  - waste, as `sizes` has it: bytes that were removed or replaced, and those that are there twice
+  - files whose names are those of keys and credentials: a warning if they were deleted or replaced and so are shipped
+    all the same, a note if they are shown
+
+SOURCE is an IMAGE, or a folder that `unpack` wrote with contents. All contents are written to TMPDIR meanwhile.
+Status 0 says that it is fit, 1 that it isn't: there are faults, or with --strict warnings. --json prints one object."""
+
 _MOUNTED = """\
 Print what is in a folder, such as a mounted overlay, as `ovl_layers show` prints it, so that the two
 can be compared."""
@@ -173,6 +187,7 @@ _PACKS = (
     "packs the layers, at a level such as gzip:9; zstd needs the program of that name, and is read by podman, buildah, "
     "containerd and docker from 23 on, not by umoci and older dockers"
 )
+_MORE_WASTE = "more is wasted, such as 10%%, 50MB or 50MiB"
 
 
 def parser_of(runs: Mapping[str, Run]) -> argparse.ArgumentParser:
@@ -371,17 +386,31 @@ def _add_sizes(parser: argparse.ArgumentParser) -> None:
     parser.add_argument("--json", action="store_true", help="prints it all for a program")
     parser.add_argument("--bytes", action="store_true", help="prints exact numbers of bytes")
     parser.add_argument("--html", metavar="FILE", help="page to write besides; - is standard output, in its place")
-    parser.add_argument(
-        "--base", metavar="N|IMAGE",
-        help="the lowest N layers, or those of this image, are a base, which doesn't count as waste",
-    )
+    _add_base(parser)
     limits = parser.add_mutually_exclusive_group()
     limits.add_argument(
-        "--max-waste", metavar="PERCENT|BYTES", type=_limit,
-        help="ends with status 1 if more is wasted, such as 10%%, 50MB or 50MiB",
+        "--max-waste", metavar="PERCENT|BYTES", type=_limit, help=f"ends with status 1 if {_MORE_WASTE}",
     )
     limits.add_argument(
         "--fail-over", metavar="PERCENT", type=_percent, dest="max_waste", help="the same as --max-waste PERCENT%%"
+    )
+
+
+def _add_check(parser: argparse.ArgumentParser) -> None:
+    parser.add_argument("image", metavar="SOURCE", nargs="?", help=f"{_IMAGE}; or a folder that unpack wrote")
+    parser.add_argument("--strict", action="store_true", help="takes warnings for faults")
+    parser.add_argument("--json", action="store_true", help="prints one object for a program")
+    _add_base(parser)
+    parser.add_argument("--max-waste", metavar="PERCENT|BYTES", type=_limit, help=f"takes it for a fault if {_MORE_WASTE}")
+    _add_choice(parser)
+    _add_stack_layers(parser, "reads")
+    _add_blobs(parser)
+
+
+def _add_base(parser: argparse.ArgumentParser) -> None:
+    parser.add_argument(
+        "--base", metavar="N|IMAGE",
+        help="the lowest N layers, or those of this image, are a base, which doesn't count as waste",
     )
 
 
@@ -492,6 +521,7 @@ def _name(text: str) -> str:
 
 _COMMANDS = (
     ("flatten", "write an image or a stack as one layer", _FLATTEN, _add_flatten),
+    ("check", "print whether an image is fit to ship, and why not", _CHECK, _add_check),
     ("sizes", "print what each layer holds, and what of it isn't shown", _SIZES, _add_sizes),
     ("diff", "print what differs between two images, or trees", _DIFF, _add_diff),
     ("unpack", "write an image's layers as manifests and blobs", _UNPACK, _add_unpack),

@@ -101,10 +101,11 @@ def word_of_path(path: str) -> str:
     return f"./{path}" if path.startswith("-") else path
 
 
-def run_program(program: str, words: Sequence[str], folder: str, report: str, faults: IO[str]) -> str:
+def run_program(program: str, words: Sequence[str], folder: str, report: str, faults: IO[str] | None) -> str:
     """Runs it in a folder, with its report into a new file there. Gives the report's last line, which sums it up.
 
-    What it refuses is printed as it is: its own words, or the report, among the faults, if it has any.
+    What it refuses is printed as it is: its own words, or the report, among the faults, if it has any. With no place for
+    faults the report keeps them, and they refuse nothing.
     """
     report, command = f"{folder}/{report}", [program, *words]
     with writing(report), open(report, "xb") as file, running(command, stdout=file, stderr=subprocess.PIPE, folder=folder) as process:
@@ -112,6 +113,8 @@ def run_program(program: str, words: Sequence[str], folder: str, report: str, fa
     print(messages.decode("utf-8", "replace"), end="", file=sys.stderr)
     status = process.returncode
     if status == FAULTY:
+        if faults is None:
+            return _last_line(report)
         _copy(report, faults)
     if status < 0:
         raise Refused(f"{NAME} {words[0]} was ended by signal {-status}; nothing is written", OTHER)

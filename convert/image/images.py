@@ -27,12 +27,23 @@ from .targets import TRANSPORTS
 MAX_DOCUMENTS = 1 << 24  # bytes of an image's documents together, each as often as it is named
 _MAX_DEPTH = 4
 _MOST_TOLD = 20
+_MOST_SHOWN = 20  # letters of a layer's name
 REF_NAME = "org.opencontainers.image.ref.name"
 _FULL_NAME = "io.containerd.image.name"
 _BASE = "org.opencontainers.image.base."
 _ATTESTATION = "vnd.docker.reference.type"
 BlobName = Callable[[Digest], str]
 _T = TypeVar("_T")
+
+
+class Spoilt(ReadFault):
+    """A file of an image isn't the one that the image means: it is missing, or of another size or digest."""
+
+    def __init__(self, path: str, reason: str) -> None:
+        super().__init__(cannot_read(path, reason).text)
+        self.path = path
+        self.reason = reason
+        self.layer: int | None = None  # from the topmost, 0, if it is one and that is known
 
 
 @dataclass(frozen=True)
@@ -84,6 +95,18 @@ class ImageLayer:
         """The same of a gzip stream, by a program that is quicker and less strict than zlib; see `quick_gzip`."""
         with self.members.opened(self.name) as part, unpacked_quickly(Watched(part, progress), self.digest) as stream:
             yield stream
+
+    def require_digests(self) -> None:
+        """Refuses bytes, packed or unpacked, that aren't those of its digests. It reads them all."""
+        progress = Progress(f"digesting bytes of {self.name[-_MOST_SHOWN:]}")
+        try:
+            with self.archive(progress) as stream:
+                algorithm, wanted = self.unpacked_digest or ("sha256", None)
+                found = Digesting(stream, algorithm).digest_of_all()
+        finally:
+            progress.end()
+        if wanted not in (None, found):
+            raise Spoilt(self.path, f"its unpacked bytes aren't those of {algorithm}:{wanted}")
 
     def is_checked(self) -> bool:
         """Whether the digest of its bytes in the image is that of the unpacked ones."""
@@ -261,7 +284,7 @@ class _Documents:
         """A layer that is there, of the size that is stated."""
         there = self.members.size(name)
         if there is None:
-            raise cannot_read(self.path(name), "the image has no such file")
+            raise Spoilt(self.path(name), "the image has no such file")
         if descriptor is None:
             return ImageLayer(name, self.path(name), self.members, there, None, unpacked)
         if descriptor.size != there:
@@ -279,12 +302,12 @@ class _Documents:
             raise cannot_read(self.path(name), f"its media type says {wanted}, and its bytes are {found}")
 
 
-def _wrong_bytes(path: str, digest: Digest) -> ReadFault:
-    return cannot_read(path, f"its bytes aren't those of the digest {':'.join(digest)}")
+def _wrong_bytes(path: str, digest: Digest) -> Spoilt:
+    return Spoilt(path, f"its bytes aren't those of the digest {':'.join(digest)}")
 
 
-def _wrong_size(path: str, descriptor: Descriptor) -> ReadFault:
-    return cannot_read(path, f"it has another size than the {descriptor.size:,} bytes that its descriptor says")
+def _wrong_size(path: str, descriptor: Descriptor) -> Spoilt:
+    return Spoilt(path, f"it has another size than the {descriptor.size:,} bytes that its descriptor says")
 
 
 def _blob_in_layout(digest: Digest) -> str:

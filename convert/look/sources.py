@@ -6,13 +6,14 @@ import sys
 from collections.abc import Iterator, Sequence
 from dataclasses import dataclass, replace
 
-from ..common.faults import UsageFault, cannot_read, writing
+from ..common.budgets import TooMuch
+from ..common.faults import ReadFault, TarFault, UsageFault, cannot_read, writing
 from ..common.program import require_program, run_program, words_of
 from ..common.progress import note
 from ..folder.mounted import report as report_of_folder
 from ..folder.stack_layers import StackOptions, read_stack, require_ordinary
 from ..image.configuration import Document, read_configuration
-from ..image.images import Image, image_place, opened_image, paths_of_image
+from ..image.images import Image, Spoilt, image_place, opened_image, paths_of_image
 from ..image.members import STANDARD_INPUT
 from ..image.unpack import UnpackOptions, unpack_opened
 from ..model import stacks
@@ -139,15 +140,31 @@ def _opened_image(source: Source, folder: str, with_contents: bool) -> Iterator[
     path, tag = image_place(source.word, choice.tag)
     program = require_program(paths_of_image(path))
     with opened_image(path, choice.platform, tag) as image:
-        unpack_opened(UnpackOptions(
-            image=path, out=out, skip_unsupported=choice.skip_unsupported, overlay_marks=choice.overlay_marks,
-            digests_only=not with_contents,
-        ), image)
+        try:
+            unpack_opened(UnpackOptions(
+                image=path, out=out, skip_unsupported=choice.skip_unsupported, overlay_marks=choice.overlay_marks,
+                digests_only=not with_contents,
+            ), image)
+        except ReadFault:
+            _require_digests(image)
+            raise
         count = len(image.layers)
         yield Shown(
             report=_report(program, stacks.layer_paths(_STACK, count), folder), layers=stacks.layer_paths(out, count),
             blobs=f"{out}/{stacks.BLOBS}" if with_contents else None, configuration=image.configuration, image=image,
         )
+
+
+def _require_digests(image: Image) -> None:
+    """Fails if a layer's bytes aren't those that the image means; whatever else is wrong with them isn't looked at."""
+    for number, layer in zip(reversed(range(len(image.layers))), image.layers):
+        try:
+            layer.require_digests()
+        except Spoilt as fault:
+            fault.layer = number
+            raise
+        except (ReadFault, TarFault, TooMuch):
+            continue
 
 
 def _report(program: str, layers: Sequence[str], folder: str, data_layers: int = 0) -> str:

@@ -36,6 +36,17 @@ class LayerFile:
     data: "LayerFile | None" = None  # of a metacopy file: the file whose contents it shows
     uses: int = 0
     hidden_by: int | None = None  # the layer with which it went, if nothing uses it
+    further: list[str] | None = None  # its other names there
+
+    def add_name(self, path: str) -> None:
+        """Another name in its layer."""
+        if self.further is None:
+            self.further = []
+        self.further.append(path)
+
+    def names(self) -> list[str]:
+        """All its names in its layer."""
+        return [self.path, *(self.further or ())]
 
     def contents(self) -> "LayerFile | None":
         """The file whose contents are shown at this one's place; none if they are missing."""

@@ -55,7 +55,7 @@ def read_report(path: str) -> Iterator[ShowLine]:
                 if text != f"{_COUNT}{count}\n" or file.read(1):
                     raise _broken(f"after {count} lines comes {text!r}")
                 return
-            yield _line_of(text)
+            yield line_of(text)
             count += 1
     raise _broken("its last line is missing")
 
@@ -64,7 +64,8 @@ def _broken(reason: str) -> Fault:
     return Fault(f"{NAME} show gave no whole report: {reason}; please report this")
 
 
-def _line_of(text: str) -> ShowLine:
+def line_of(text: str) -> ShowLine:
+    """A line as the report has it, with its end."""
     fields = text.removesuffix("\n").split(" ", _FIELDS)
     if len(fields) < _FIELDS:
         raise _broken(f"there is a line {text!r}")

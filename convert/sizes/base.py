@@ -4,10 +4,24 @@ from ..common.faults import UsageFault
 from ..image.configuration import platform_text
 from ..image.images import Image, ImageLayer, image_place, opened_image
 
+_MOST_DIGITS = 9
 _PLATFORM_WORDS = 2  # a variant isn't named by every base
 
 
-def base_layers(word: str, image: Image, name: str) -> int:
+def layers_of_base(base: str | None, count: int, image: Image | None, name: str) -> int:
+    """How many of this many layers are those of a base: as many as it says, or those of an image, which it names."""
+    if base is None:
+        return 0
+    if not base.isdecimal():
+        if image is None:
+            raise UsageFault("--base IMAGE is for images; of other layers say how many")
+        return _layers_of_image(base, image, name)
+    if len(base) > _MOST_DIGITS or int(base) > count:
+        raise UsageFault(f"--base is {base}, and there are {count} layers")
+    return int(base)
+
+
+def _layers_of_image(word: str, image: Image, name: str) -> int:
     """How many layers a base has, which must be the image's lowest ones."""
     path, tag = image_place(word, None)
     platform = platform_text(image.configuration)

@@ -10,11 +10,11 @@ from ..common.faults import FAULTY, Fault, UsageFault, writing
 from ..common.outputs import STANDARD_OUTPUT, passing_folder
 from ..common.program import require_program, run_program, words_of
 from ..folder.stack_layers import StackOptions, read_stack, require_ordinary
-from ..image.images import Image, image_place, opened_image, paths_of_image
+from ..image.images import image_place, opened_image, paths_of_image
 from ..image.members import STANDARD_INPUT
 from ..image.unpack import UnpackOptions, unpack_opened
 from ..model import stacks
-from .base import base_layers
+from .base import layers_of_base
 from .history import steps_of
 from .layer_sizes import sizes_of
 from .limits import Limit
@@ -25,7 +25,6 @@ from .waste import Waste, waste_of
 
 _SHOWN = "show"
 _STACK = "stack"
-_MOST_DIGITS = 9
 
 
 class TooMuchWaste(Fault):
@@ -95,7 +94,7 @@ def _given_image(options: SizesOptions, folder: str) -> _Given:
     path, tag = image_place(word, options.tag)
     out = f"{folder}/{_STACK}"
     with opened_image(path, options.platform, tag) as image:
-        base = _base_of_image(options.base, image, word)
+        base = layers_of_base(options.base, len(image.layers), image, word)
         unpack_opened(UnpackOptions(
             image=path, out=out, skip_unsupported=options.skip_unsupported, overlay_marks=options.overlay_marks,
             digests_only=True,
@@ -110,30 +109,13 @@ def _given_image(options: SizesOptions, folder: str) -> _Given:
 
 def _given_stack(options: SizesOptions, stack: StackOptions, folder: str) -> _Given:
     count = len(stack.layers)
-    if options.base is not None and not options.base.isdecimal():
-        raise UsageFault("--base IMAGE is for images; with --stack say how many layers")
-    base = 0 if options.base is None else _base_of_number(options.base, count)
+    base = layers_of_base(options.base, count, None, "")
     out = f"{folder}/{_STACK}"
     with writing(out):
         os.mkdir(out)
     read_stack(stack, out)
     origins = [Origin(made_by=layer) for layer in stack.layers]
     return _Given(f"a stack of {count}", stacks.layer_paths(out, count), origins, base)
-
-
-def _base_of_image(base: str | None, image: Image, word: str) -> int:
-    """How many layers are the base's."""
-    if base is None:
-        return 0
-    if base.isdecimal():
-        return _base_of_number(base, len(image.layers))
-    return base_layers(base, image, word)
-
-
-def _base_of_number(text: str, count: int) -> int:
-    if len(text) > _MOST_DIGITS or int(text) > count:
-        raise UsageFault(f"--base is {text}, and there are {count} layers")
-    return int(text)
 
 
 def _require_little_waste(waste: Waste, limit: Limit | None) -> None:

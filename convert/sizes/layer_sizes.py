@@ -48,6 +48,7 @@ class Sizes:
     layers: list[LayerSizes]
     sums: LayerSizes = field(default_factory=LayerSizes)
     merged: LayerSizes = field(default_factory=LayerSizes)  # of the merged tree: entries, files and bytes
+    shown: list[LayerFile] = field(default_factory=list)  # the files whose contents count as shown
     not_shown: list[NotShown] = field(default_factory=list)  # the largest first
     tree: MergedTree = field(default_factory=MergedTree)
     lowest: dict[bytes, int] = field(default_factory=dict)  # the layer that pays for some contents
@@ -101,6 +102,7 @@ class _Layer:
         """The file of an entry; the same one for the names of a hard link."""
         number = entry.link
         if number and number in self._linked:
+            self._linked[number].add_name(entry.path)
             return self._linked[number]
         blob = bytes.fromhex(entry.blob) if entry.blob is not None else b""
         is_metacopy = METACOPY in entry.attributes
@@ -174,6 +176,7 @@ def _classify(
         sizes.not_shown.append(NotShown(file, True, lowest))
     elif paying.pays(file):
         own.shown += file.size
+        sizes.shown.append(file)
     else:
         own.hidden += file.size
         is_replaced = (file.hidden_by, file.path) in replacing

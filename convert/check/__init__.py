@@ -1,0 +1,1 @@
+"""Whether an image, or a stack of layers, is fit to ship."""
