@@ -3,7 +3,7 @@ _layers() {
     local word=${COMP_WORDS[COMP_CWORD]} before=${COMP_WORDS[COMP_CWORD - 1]} command='' index
     for ((index = 1; index < COMP_CWORD; index++)); do
         case ${COMP_WORDS[index]} in
-            flatten | sizes | diff | unpack | pack | scan | store | build | mounted) command=${COMP_WORDS[index]} && break ;;
+            flatten | check | sizes | diff | unpack | pack | scan | store | build | mounted) command=${COMP_WORDS[index]} && break ;;
         esac
     done
     COMPREPLY=()
@@ -17,6 +17,13 @@ _layers() {
         flatten/--workers) compopt +o default && return ;;
         flatten/--blobs) compopt -o filenames; mapfile -t COMPREPLY < <(compgen -d -- "$word") && return ;;
         flatten/--form) mapfile -t COMPREPLY < <(compgen -W 'folder squashfs' -- "$word") && return ;;
+        check/--base) compopt +o default && return ;;
+        check/--max-waste) compopt +o default && return ;;
+        check/--platform) compopt +o default && return ;;
+        check/--tag) compopt +o default && return ;;
+        check/--data-layers) compopt +o default && return ;;
+        check/--workers) compopt +o default && return ;;
+        check/--blobs) compopt -o filenames; mapfile -t COMPREPLY < <(compgen -d -- "$word") && return ;;
         sizes/--platform) compopt +o default && return ;;
         sizes/--tag) compopt +o default && return ;;
         sizes/--data-layers) compopt +o default && return ;;
@@ -44,8 +51,9 @@ _layers() {
         build/--compress) mapfile -t COMPREPLY < <(compgen -W 'gzip xz zstd lz4' -- "$word") && return ;;
     esac
     case $command in
-        '') mapfile -t COMPREPLY < <(compgen -W 'flatten sizes diff unpack pack scan store build mounted -h --help --version --unproved' -- "$word") ;;
+        '') mapfile -t COMPREPLY < <(compgen -W 'flatten check sizes diff unpack pack scan store build mounted -h --help --version --unproved' -- "$word") ;;
         flatten) [[ $word != -* ]] || mapfile -t COMPREPLY < <(compgen -W '-h --help --platform --tag --overlay-marks --skip-unsupported --out --compress --layers --keep --dry-run --stack --data-layers --userxattr --no-userxattr --cross-file-systems --workers --blobs --form' -- "$word") ;;
+        check) [[ $word != -* ]] || mapfile -t COMPREPLY < <(compgen -W '-h --help --strict --json --base --max-waste --platform --tag --overlay-marks --skip-unsupported --stack --data-layers --userxattr --no-userxattr --cross-file-systems --workers --blobs' -- "$word") ;;
         sizes) [[ $word != -* ]] || mapfile -t COMPREPLY < <(compgen -W '-h --help --platform --tag --overlay-marks --skip-unsupported --stack --data-layers --userxattr --no-userxattr --cross-file-systems --workers --json --bytes --html --base --max-waste --fail-over' -- "$word") ;;
         diff) [[ $word != -* ]] || mapfile -t COMPREPLY < <(compgen -W '-h --help --ignore --no-config --stat --json --platform --tag --overlay-marks --skip-unsupported' -- "$word") ;;
         unpack) [[ $word != -* ]] || mapfile -t COMPREPLY < <(compgen -W '-h --help --platform --tag --overlay-marks --skip-unsupported --out --digests-only --stack --data-layers --userxattr --no-userxattr --cross-file-systems --workers --blobs' -- "$word") ;;

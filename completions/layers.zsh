@@ -4,6 +4,7 @@ _layers() {
     local curcontext=$curcontext state line
     local -a commands=(
         'flatten:write an image or a stack as one layer'
+        'check:print whether an image is fit to ship, and why not'
         'sizes:print what each layer holds, and what of it isn'\''t shown'
         'diff:print what differs between two images, or trees'
         'unpack:write an image'\''s layers as manifests and blobs'
@@ -45,6 +46,27 @@ _layers() {
                     '--blobs[with --stack]:DIR:_files -/' \
                     '--form[with --stack]:FORM:(folder squashfs)' \
                     '*:IMAGE:_files'
+                    ;;
+                check)
+                    _arguments \
+                    '-h[show this help message and exit]' \
+                    '--help[show this help message and exit]' \
+                    '--strict[takes warnings for faults]' \
+                    '--json[prints one object for a program]' \
+                    '--base[the lowest N layers, or those of this image, are a base, which doesn'\''t count as waste]:N|IMAGE:' \
+                    '--max-waste[takes it for a fault if more is wasted, such as 10%%, 50MB or 50MiB]:PERCENT|BYTES:' \
+                    '--platform[which of several images, such as linux/amd64]:OS/ARCH:' \
+                    '--tag[which of several images, by its name in the image'\''s index]:NAME:' \
+                    '--overlay-marks[takes attributes trusted.overlay.* of the image'\''s archives too, which change what the layers show]' \
+                    '--skip-unsupported[leaves out what can'\''t be stated, with a warning each, instead of refusing it]' \
+                    '--stack[layers in place of an image, the topmost first]:LAYER:_files' \
+                    '--data-layers[with --stack]:K:' \
+                    '--userxattr[with --stack]' \
+                    '--no-userxattr[with --stack]' \
+                    '--cross-file-systems[enters other file systems too]' \
+                    '--workers[how many processes read files, 1 to 64]:N:' \
+                    '--blobs[with --stack]:DIR:_files -/' \
+                    '*:SOURCE:'
                     ;;
                 sizes)
                     _arguments \
