@@ -39,7 +39,7 @@ def _secrets(sizes: Sizes, blobs: str) -> Iterator[_Secret]:
     for file in [*sizes.shown, *(one.file for one in sizes.not_shown)]:
         for path in file.names():
             what = credential_in(path) or (KEY if may_be_key(path) and _has_mark(file, blobs) else None)
-            if what and file.size:
+            if what:
                 yield _Secret(file, path, what)
 
 
