@@ -325,7 +325,8 @@ class Shipped(CheckTest):
     def test_digests_of_what_is_unpacked(self) -> None:
         self.put([_TREE])
         other = archive([member("x", b"x")])
-        put_index(self.path("image"), [put_manifest(self.path("image"), [archive(_TREE), other], [other] * 2, "linux/amd64")])
+        stated = put_manifest(self.path("image"), [archive(_TREE), other], [other] * 2, "linux/amd64")
+        put_index(self.path("image"), [stated])
         self.assertRegex(self.lines(status=1)[0], r"^fault digest 1 \S+: its unpacked bytes aren't those of sha256:")
 
     def test_json(self) -> None:
