@@ -6,6 +6,7 @@ import tempfile
 from collections.abc import Callable, Iterable, Iterator
 from dataclasses import dataclass
 
+from ..common.amounts import amount_text, per_cent
 from ..common.escaping import printable
 from ..common.faults import FAULTY, Fault, UsageFault
 from ..common.outputs import passing_folder
@@ -18,7 +19,6 @@ from ..look.sources import Shown, Source, is_tree, shown_by
 from ..sizes.base import layers_of_base
 from ..sizes.layer_sizes import sizes_of
 from ..sizes.limits import Limit
-from ..sizes.texts import amount_text, per_cent
 from ..sizes.waste import Kind, Place, Waste, waste_of
 from .configuration import configuration_findings
 from .contents import Contents
