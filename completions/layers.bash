@@ -12,6 +12,7 @@ _layers() {
         flatten/--tag) compopt +o default && return ;;
         flatten/--compress) mapfile -t COMPREPLY < <(compgen -W 'none gzip zstd xz lz4' -- "$word") && return ;;
         flatten/--layers) compopt +o default && return ;;
+        flatten/--base) compopt +o default && return ;;
         flatten/--keep) compopt -o filenames; mapfile -t COMPREPLY < <(compgen -d -- "$word") && return ;;
         flatten/--data-layers) compopt +o default && return ;;
         flatten/--workers) compopt +o default && return ;;
@@ -44,6 +45,7 @@ _layers() {
         pack/--compress) mapfile -t COMPREPLY < <(compgen -W 'none gzip zstd' -- "$word") && return ;;
         pack/--platform) compopt +o default && return ;;
         pack/--tag) compopt +o default && return ;;
+        pack/--created-by) compopt +o default && return ;;
         scan/--blobs) compopt -o filenames; mapfile -t COMPREPLY < <(compgen -d -- "$word") && return ;;
         scan/--workers) compopt +o default && return ;;
         store/--workers) compopt +o default && return ;;
@@ -52,12 +54,12 @@ _layers() {
     esac
     case $command in
         '') mapfile -t COMPREPLY < <(compgen -W 'flatten check sizes diff unpack pack scan store build mounted -h --help --version --unproved' -- "$word") ;;
-        flatten) [[ $word != -* ]] || mapfile -t COMPREPLY < <(compgen -W '-h --help --platform --tag --overlay-marks --skip-unsupported --out --compress --layers --keep --dry-run --stack --data-layers --userxattr --no-userxattr --cross-file-systems --workers --blobs --form' -- "$word") ;;
+        flatten) [[ $word != -* ]] || mapfile -t COMPREPLY < <(compgen -W '-h --help --platform --tag --overlay-marks --skip-unsupported --out --compress --layers --base --keep --dry-run --stack --data-layers --userxattr --no-userxattr --cross-file-systems --workers --blobs --form' -- "$word") ;;
         check) [[ $word != -* ]] || mapfile -t COMPREPLY < <(compgen -W '-h --help --strict --json --base --max-waste --platform --tag --overlay-marks --skip-unsupported --stack --data-layers --userxattr --no-userxattr --cross-file-systems --workers --blobs' -- "$word") ;;
         sizes) [[ $word != -* ]] || mapfile -t COMPREPLY < <(compgen -W '-h --help --platform --tag --overlay-marks --skip-unsupported --stack --data-layers --userxattr --no-userxattr --cross-file-systems --workers --json --bytes --html --base --max-waste --fail-over' -- "$word") ;;
         diff) [[ $word != -* ]] || mapfile -t COMPREPLY < <(compgen -W '-h --help --ignore --no-config --stat --json --platform --tag --overlay-marks --skip-unsupported' -- "$word") ;;
         unpack) [[ $word != -* ]] || mapfile -t COMPREPLY < <(compgen -W '-h --help --platform --tag --overlay-marks --skip-unsupported --out --digests-only --stack --data-layers --userxattr --no-userxattr --cross-file-systems --workers --blobs' -- "$word") ;;
-        pack) [[ $word != -* ]] || mapfile -t COMPREPLY < <(compgen -W '-h --help --blobs --out --compress --config --platform --tag --annotations --links --skip-unsupported' -- "$word") ;;
+        pack) [[ $word != -* ]] || mapfile -t COMPREPLY < <(compgen -W '-h --help --blobs --out --compress --config --platform --tag --annotations --links --created-by --skip-unsupported' -- "$word") ;;
         scan) [[ $word != -* ]] || mapfile -t COMPREPLY < <(compgen -W '-h --help --out --blobs --digests-only --userxattr --no-userxattr --cross-file-systems --skip-unsupported --workers' -- "$word") ;;
         store) [[ $word != -* ]] || mapfile -t COMPREPLY < <(compgen -W '-h --help --out --digests-only --userxattr --no-userxattr --cross-file-systems --skip-unsupported --workers' -- "$word") ;;
         build) [[ $word != -* ]] || mapfile -t COMPREPLY < <(compgen -W '-h --help --blobs --out --compress --userxattr --no-userxattr' -- "$word") ;;

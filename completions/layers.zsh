@@ -35,6 +35,7 @@ _layers() {
                     '--out[folder to make, or a file whose name ends in .tar]:IMAGE:_files' \
                     '--compress[packs the layers, at a level such as gzip\:9]:none|gzip|zstd|xz|lz4|METHOD:LEVEL:(none gzip zstd xz lz4)' \
                     '--layers[how many layers are left at most]:N:' \
+                    '--base[the lowest N layers, or those of this image, stay byte for byte, and all above becomes one layer]:N|IMAGE:' \
                     '--keep[folder to make, absent or empty, for all that is made on the way]:DIR:_files -/' \
                     '--dry-run[prints the commands, as a shell takes them, and runs none]' \
                     '--stack[layers in place of an image, the topmost first]:LAYER:_files' \
@@ -135,6 +136,7 @@ _layers() {
                     '--tag[name of the image in its index]:NAME:' \
                     '--annotations[annotations of the image'\''s manifest, such as the annotations.json that unpack writes]:FILE:_files' \
                     '--links[hard links of layers that have no such file beside them]:FILE:_files' \
+                    '--created-by[what the history says of layers that --config has no line for]:TEXT:' \
                     '--skip-unsupported[leaves out what can'\''t be stated, with a warning each, instead of refusing it]' \
                     '*:LAYER:_files'
                     ;;

@@ -21,6 +21,7 @@ from .folder.scan import ScanOptions, scan
 from .folder.stack_layers import StackOptions, write_stack
 from .folder.stores import StoreOptions, store
 from .image.compression import LEVELS, NONE
+from .image.configuration import Making
 from .image.pack import PackOptions, pack
 from .image.targets import Target, target_of
 from .image.unpack import UnpackOptions, unpack
@@ -125,7 +126,7 @@ def _pack(words: argparse.Namespace) -> None:
     pack(PackOptions(
         layers=words.layers, blobs=_folder(words.blobs), out=out, platform=words.platform, tag=out.tag or words.tag,
         skip_unsupported=words.skip_unsupported, config=words.config, compress=words.compress, links=words.links,
-        annotations=words.annotations,
+        annotations=words.annotations, making=Making(words.created_by),
     ))
 
 
@@ -182,6 +183,7 @@ def _flatten_image(words: argparse.Namespace) -> None:
         raise UsageFault(f"--compress {words.compress} is for a squashfs alone")
     options = FlattenOptions(
         image=_folder(words.image), out=_target(words.out, words.dry_run), layers=words.layers,
+        base=words.base and _folder(words.base),
         keep=words.keep and _folder(words.keep), platform=words.platform, tag=words.tag,
         skip_unsupported=words.skip_unsupported, overlay_marks=words.overlay_marks, compress=words.compress,
     )
@@ -192,6 +194,8 @@ def _flatten_image(words: argparse.Namespace) -> None:
 
 
 def _flatten_stack(words: argparse.Namespace) -> None:
+    if words.base is not None:
+        raise UsageFault("--base is for images alone; --layers N leaves N layers of a stack")
     if words.compress and words.compress.method == NONE:
         raise UsageFault("--compress none is for images alone")
     flatten_stack(FlattenStackOptions(

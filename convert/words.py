@@ -7,7 +7,7 @@ from . import VERSION
 from .flatten.stack import OutForm
 from .folder.build_squashfs import SUFFIX as SQUASHFS_SUFFIX
 from .image.compression import LEVELS, PLAIN, Compression, compression_of
-from .image.configuration import USUAL_PLATFORM
+from .image.configuration import MAKER, USUAL_PLATFORM
 from .look.changes import ASPECTS
 from .model.rules import MAX_LAYERS
 from .model.workers import MOST_WORKERS, usual_workers
@@ -110,6 +110,7 @@ can state them. Run `ovl_layers deref` first, or `merge` down to one layer."""
 _FLATTEN = """\
 Write an image with one layer, or at most N, that shows the same. The image's configuration, name,
 annotations and hard links stay. Contents of files that upper layers deleted or replaced aren't in it.
+With --base the layers of a base image stay byte for byte, and all above becomes one layer.
 
 The proved program ovl_layers does it: in a checkout it is built first if it must be; else it is the one beside
 this program, or on the PATH. After `unpack` it checks the layers and writes all that they show as one. If
@@ -123,7 +124,7 @@ Nothing is written unless the new layers, and the new image when it is read agai
 image shows, byte for byte. If the program refuses the layers, its report and its status are those of this
 command. --out is as for `pack`: with -, an archive on standard output, nothing else goes there.
 
---dry-run prints the commands that do the same by hand.
+--dry-run prints the commands that do the same by hand, and says what by hand can't be done.
 
 With --stack LAYER.. layers on a disk take an image's place, the topmost first: folders, squashfs files, tar
 archives of folders, or manifests with --blobs. One layer is written: a squashfs if the name of --out ends
@@ -312,6 +313,10 @@ def _add_pack(parser: argparse.ArgumentParser) -> None:
         "--links", metavar="FILE",
         help="hard links of layers that have no such file beside them: the shown.links of unpack or store",
     )
+    parser.add_argument(
+        "--created-by", metavar="TEXT", type=_name, default=MAKER,
+        help=f"what the history says of layers that --config has no line for [default: {MAKER}]",
+    )
     _add_skip(parser)
 
 
@@ -340,8 +345,14 @@ def _add_flatten(parser: argparse.ArgumentParser) -> None:
         "--compress", metavar=_methods(every), type=_compression(every),
         help=f"{_PACKS}; xz and lz4 are for a squashfs [default: as the topmost given layer, or squashfs, is packed]",
     )
-    parser.add_argument(
-        "--layers", metavar="N", type=_layers, default=1, help="how many layers are left at most [default: 1]"
+    left = parser.add_mutually_exclusive_group()
+    left.add_argument(
+        "--layers", metavar="N", type=_layers, default=1,
+        help="how many layers are left at most; lower ones that don't change stay byte for byte [default: 1]",
+    )
+    left.add_argument(
+        "--base", metavar="N|IMAGE",
+        help="the lowest N layers, or those of this image, stay byte for byte, and all above becomes one layer",
     )
     parser.add_argument(
         "--keep", metavar="DIR", help="folder to make, absent or empty, for all that is made on the way"

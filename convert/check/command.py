@@ -12,11 +12,11 @@ from ..common.faults import FAULTY, Fault, UsageFault
 from ..common.outputs import passing_folder
 from ..common.program import require_program, run_program, words_of
 from ..common.progress import counted
+from ..image.base import layers_of_base
 from ..image.images import Spoilt
 from ..image.members import STANDARD_INPUT
 from ..look.shown_tree import opened_tree
 from ..look.sources import Shown, Source, is_tree, shown_by
-from ..sizes.base import layers_of_base
 from ..sizes.layer_sizes import sizes_of
 from ..sizes.limits import Limit
 from ..sizes.waste import Kind, Place, Waste, waste_of

@@ -1,6 +1,7 @@
 """`flatten`: an image with fewer layers that shows the same."""
 
 import contextlib
+import itertools
 import os
 import shlex
 import sys
@@ -12,15 +13,17 @@ from pathlib import Path
 
 from ..common.contents import PIECE
 from ..common.disk_space import require_room
-from ..common.faults import UsageFault, cannot_write
+from ..common.faults import Fault, UsageFault, cannot_read, cannot_write
 from ..common.outputs import NEW, folder_made, new_file, note_stages_beside, passing_folder, standard_output
 from ..common.program import NAME, find_program, makes_layers, word_of_path, words_of
 from ..common.progress import counted
 from ..common.stages import removing
+from ..image.base import opened_base
 from ..image.compression import NONE, PLAIN, Compression
-from ..image.images import Image, image_place, opened_image, paths_of_image, spellings
+from ..image.configuration import Making, layer_lines
+from ..image.images import Image, ImageLayer, image_place, opened_image, paths_of_image, spellings
 from ..image.members import STANDARD_INPUT
-from ..image.new_layers import NewLayers
+from ..image.new_layers import ALGORITHM, NewLayers
 from ..image.pack import PackOptions, pack
 from ..image.targets import ARCHIVE_SUFFIX, Form, Target
 from ..image.unpack import UnpackOptions, unpack, unpack_opened
@@ -32,6 +35,8 @@ _IMAGE = "image"
 _SHOWN = f"{_IMAGE}.show"
 _ANNOTATIONS = f"{STACK}/{stacks.ANNOTATIONS}"
 _FOR_PACK = (stacks.BLOBS, stacks.CONFIG, stacks.SHOWN_LINKS)
+_MAKER = "layers flatten:"
+_SHOWN_DIGITS = 12  # of an image's digest, as docker shows it
 _TOOL = Path(__file__).resolve().parents[2] / "layers"
 
 
@@ -42,6 +47,7 @@ class FlattenOptions:
     image: str
     out: Target
     layers: int = 1
+    base: str | None = None  # the layers that stay as they are: an image, or how many, the lowest ones
     keep: str | None = None
     platform: str | None = None
     tag: str | None = None
@@ -51,7 +57,8 @@ class FlattenOptions:
 
 
 def flatten(options: FlattenOptions) -> None:
-    """Writes an image with all that the given one's layers show in one layer, or with the topmost layers merged.
+    """Writes an image with all that the given one's layers show in one layer, or with the topmost layers merged. Lower
+    layers of which nothing changes stay as they are, byte for byte.
 
     Nothing is written unless it shows, read again, what the given image shows.
     """
@@ -59,8 +66,8 @@ def flatten(options: FlattenOptions) -> None:
     _require_free(options)
     begun = time.monotonic()
     with _new_image(options.out) as stage:
-        with work_folder(stage, options.keep) as folder:
-            runner = _ImageRunner(options, folder, f"{stage}/{NEW}")
+        with work_folder(stage, options.keep) as folder, contextlib.ExitStack() as opened:
+            runner = _ImageRunner(options, folder, f"{stage}/{NEW}", opened)
             before, after = carry_out(runner, options.layers)
     runner.sum_up(options.out.label, before, after, time.monotonic() - begun)
 
@@ -74,6 +81,8 @@ def flatten_commands(options: FlattenOptions) -> list[str]:
 
 def _with_place(options: FlattenOptions) -> FlattenOptions:
     image, tag = image_place(options.image, options.tag)
+    if options.base == image == STANDARD_INPUT:
+        raise UsageFault("the image and its base can't both be standard input")
     return replace(options, image=image, tag=tag)
 
 
@@ -110,19 +119,64 @@ def _print_image(image: str) -> None:
             out.buffer.write(piece)
 
 
-class _ImageRunner(Runner):
-    """Does the steps of an image, and reports each with its time."""
+@dataclass(frozen=True)
+class _Given:
+    """What is known of the given image once it is open: how many layers it has, and what the new one has of it."""
 
-    def __init__(self, options: FlattenOptions, folder: str, image: str) -> None:
+    count: int
+    name: str | None
+    has_annotations: bool
+    compress: Compression
+    making: Making
+
+
+def _given_of(image: Image, options: FlattenOptions, base: int) -> _Given:
+    count, left = len(image.layers), max(options.layers, base + 1)
+    making = Making(_made_by(image, min(left, count) - 1), count)
+    return _Given(count, _name_of(image, options), bool(image.annotations), _compression_of(image, options), making)
+
+
+def _made_by(image: Image, kept: int) -> str:
+    """What the history says of the layer that all but the lowest ones become: which image they are of, and which lines."""
+    digest = None if image.digest is None else f"{image.digest[0]}:{image.digest[1][:_SHOWN_DIGITS]}"
+    name = next(iter(image.names), None)
+    which = [name, digest and f"({digest})"] if name else [digest]
+    places = layer_lines(image.configuration.get("history") or [])
+    lines = None
+    if len(places) == len(image.layers):
+        first, last = places[kept] + 1, places[-1] + 1
+        lines = f"line {first} of" if first == last else f"lines {first} to {last} of"
+    return " ".join(filter(None, [_MAKER, lines, *which]))
+
+
+@contextlib.contextmanager
+def _opened(options: FlattenOptions) -> Iterator[tuple[Image, int]]:
+    """The given image, with the layers of its base in place of its own if there is one, and how many these are."""
+    with opened_image(options.image, options.platform, options.tag) as image:
+        if options.base is None:
+            yield image, 0
+            return
+        with opened_base(options.base, image, options.image) as base:
+            for layer in base:
+                if not layer.can_stay(ALGORITHM):
+                    raise cannot_read(layer.path, f"it has no digest by {ALGORITHM}, so it can't stay as it is")
+            yield replace(image, layers=[*base, *image.layers[len(base):]]), len(base)
+
+
+class _ImageRunner(Runner):
+    """Does the steps of an image, and reports each with its time. The image is open until the new one is written, if
+    layers of it stay as they are."""
+
+    def __init__(self, options: FlattenOptions, folder: str, image: str, opened: contextlib.ExitStack) -> None:
         super().__init__(
             folder, options.keep is not None, sys.stderr if options.out.is_standard_output else sys.stdout,
             paths_of_image(options.image),
         )
         self._options = options
         self._image = image
-        self._name: str | None = None
-        self._has_annotations = False
-        self._compress = PLAIN
+        self._opened = opened
+        self._layers: Sequence[ImageLayer] = ()  # that may stay as they are, the lowest first
+        self._given = _Given(0, None, False, PLAIN, Making())
 
     def unpack(self) -> int:
         """See `Plan`."""
@@ -132,23 +186,27 @@ class _ImageRunner(Runner):
             overlay_marks=options.overlay_marks,
         )
         with timed("unpack") as words:
-            with opened_image(options.image, options.platform, options.tag) as image:
-                unpack_opened(unpacking, image)
-                self._compress, self.bytes_given = _compression_of(image, options), image.layer_bytes()
-            self._name, self.count = _name_of(image, options), len(image.layers)
-            self._has_annotations = bool(image.annotations)
+            image, self.base = self._opened.enter_context(_opened(options))
+            unpack_opened(unpacking, image)
+            self._given, self.bytes_given = _given_of(image, options, self.base), image.layer_bytes()
+            self.count = self._given.count
             words.append(counted(self.count, "layer", "layers"))
+        if options.base is None and options.layers == 1:
+            self._opened.close()
+        else:
+            self._layers = list(itertools.takewhile(lambda layer: layer.can_stay(ALGORITHM), image.layers))
         return self.count
 
     def run(self, step: str, what: str, layers: Sequence[str], new: str, own: Sequence[str] = ()) -> None:
         """See `Plan`."""
         super().run(step, what, layers, new, own)
-        if new == BEFORE and self._compress == PLAIN:
+        if new == BEFORE and self._given.compress == PLAIN and not self._layers:
             require_room(self._options.out.label, self._image, least_shown(self.path(new)))
 
     def pack(self, layers: Sequence[str]) -> None:
         """See `Plan`."""
-        blobs, config, links = (self.path(f"{STACK}/{name}") for name in _FOR_PACK)
+        kept = self._kept(layers)
+        made = layers[:len(layers) - len(kept)]
         with contextlib.ExitStack() as beside:
 
             def drop_blobs() -> None:
@@ -156,31 +214,48 @@ class _ImageRunner(Runner):
                     beside.enter_context(removing(self.path(STACK), stacks.BLOBS))
 
             new_layers = None
-            if self._compress == PLAIN:
+            if self._given.compress == PLAIN:
                 out = self._options.out.label
-                new_layers = beside.enter_context(NewLayers(self._folder, out, len(layers), drop_blobs))
+                new_layers = beside.enter_context(NewLayers(self._folder, out, len(made), drop_blobs))
             with timed("pack") as words:
-                pack(PackOptions(
-                    layers=[self.path(layer) for layer in layers], blobs=blobs, out=self._target(), tag=self._name,
-                    config=config, compress=self._compress, links=links, has_checked_blobs=True,
-                    annotations=self.path(_ANNOTATIONS) if self._has_annotations else None, new_layers=new_layers,
-                ))
+                pack(self._packing(made, kept, new_layers))
                 words.append(counted(len(layers), "layer", "layers"))
+                words += [f"{len(kept)} of them as before"] if kept else []
             if new_layers is None:
                 drop_blobs()
             with timed("the new image, read again") as words:
-                words.append(self._shown(self._image, new_layers))
+                words.append(self._shown(self._image, new_layers, bool(kept)))
                 self.compare(_SHOWN)
+
+    def _kept(self, layers: Sequence[str]) -> Sequence[ImageLayer]:
+        """The given layers that stay as they are, the lowest first."""
+        count = min(self.unchanged(layers), len(self._layers)) if self._layers else 0
+        if count < self.base:
+            raise Fault(
+                f"layer {self.count - 1 - count}, of the base, has redirects or metacopy files, so it can't stay as it is"
+            )
+        return self._layers[:count]
+
+    def _packing(self, made: Sequence[str], kept: Sequence[ImageLayer], new_layers: NewLayers | None) -> PackOptions:
+        """How the image is packed of layers that are made and such that stay."""
+        blobs, config, links = (self.path(f"{STACK}/{name}") for name in _FOR_PACK)
+        return PackOptions(
+            layers=[self.path(layer) for layer in made], kept=kept, blobs=blobs, out=self._target(), tag=self._given.name,
+            config=config, compress=self._given.compress, links=links, has_checked_blobs=True, new_layers=new_layers,
+            annotations=self.path(_ANNOTATIONS) if self._given.has_annotations else None, making=self._given.making,
+        )
 
     def _target(self) -> Target:
         """The image that is made, on its way to its name."""
         return replace(self._options.out, path=self._image, given=self._options.out.path)
 
-    def _shown(self, image: str, new_layers: NewLayers | None) -> str:
-        """Writes what an image shows."""
-        marks = self._options.overlay_marks
+    def _shown(self, image: str, new_layers: NewLayers | None, has_kept: bool) -> str:
+        """Writes what an image shows. Of layers that stayed it was reported already what they lose."""
         with self.passing(AGAIN) as again:
-            options = UnpackOptions(image=image, out=again, overlay_marks=marks, digests_only=True)
+            options = UnpackOptions(
+                image=image, out=again, overlay_marks=self._options.overlay_marks, digests_only=True,
+                skip_unsupported=has_kept and self._options.skip_unsupported, is_again=has_kept,
+            )
             found = unpack(options, new_layers)
             self.bytes_made = found.layer_bytes()
             return self.run_on("show", stacks.layer_paths(AGAIN, len(found.layers)), _SHOWN)
@@ -207,9 +282,8 @@ class _DryRun:
     def __init__(self, options: FlattenOptions) -> None:
         self._options = options
         self._program = find_program() or NAME
-        self._name: str | None = None
-        self._has_annotations = False
-        self._compress = PLAIN
+        self.base = 0
+        self._given = _Given(0, None, False, PLAIN, Making())
         self._marks = ["--overlay-marks"] if options.overlay_marks else []
         self.lines = ["set -e\n"]
         if options.keep is None:
@@ -223,15 +297,13 @@ class _DryRun:
     def unpack(self) -> int:
         """See `Plan`."""
         options = self._options
-        with opened_image(options.image, options.platform, options.tag) as image:
-            count, self._name = len(image.layers), _name_of(image, options)
-            self._compress = _compression_of(image, options)
-            self._has_annotations = bool(image.annotations)
+        with _opened(options) as (image, self.base):
+            self._given = _given_of(image, options, self.base)
         words = _given("--platform", options.platform) + _given("--tag", options.tag)
         if options.skip_unsupported:
             words.append("--skip-unsupported")
         self._add_tool("unpack", _word_of_image(options.image), "--out", self._path(STACK), *words, *self._marks)
-        return count
+        return self._given.count
 
     def run(self, step: str, what: str, layers: Sequence[str], new: str, own: Sequence[str] = ()) -> None:
         """See `Plan`."""
@@ -264,10 +336,14 @@ class _DryRun:
         paths, target = [self._path(layer) for layer in layers], self._options.out
         out = self._path(f"{_IMAGE}{ARCHIVE_SUFFIX}") if target.is_standard_output else word_of_path(target.word)
         blobs, config, links = (self._path(f"{STACK}/{name}") for name in _FOR_PACK)
+        given = self._given
+        if len(paths) > 1:
+            self.lines.append("# (flatten copies lower layers that stay the same, with their digests; pack packs all anew)\n")
         self._add_tool(
             "pack", *paths, "--blobs", blobs, "--config", config, "--links", links, "--out", out,
-            "--compress", str(self._compress), *([] if self._name is None else [f"--tag={self._name}"]),
-            *_given("--annotations", self._path(_ANNOTATIONS) if self._has_annotations else None),
+            "--compress", str(given.compress), *([] if given.name is None else [f"--tag={given.name}"]),
+            *_given("--annotations", self._path(_ANNOTATIONS) if given.has_annotations else None),
+            f"--created-by={given.making.made_by}",
         )
         self._add_tool("unpack", out, "--out", self._path(AGAIN), "--digests-only", *self._marks)
         again = [self._path(layer) for layer in stacks.layer_paths(AGAIN, len(layers))]

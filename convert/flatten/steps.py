@@ -2,6 +2,7 @@
 
 import contextlib
 import filecmp
+import itertools
 import os
 import shutil
 import time
@@ -30,6 +31,8 @@ _WORK = "work"
 class Plan(Protocol):
     """The steps, by names in the folder of the work."""
 
+    base: int  # how many of the given layers, the lowest ones, stay as they are; known once they are unpacked
+
     def unpack(self) -> int:
         """Unpacks the image into the folder `stack`. Gives the number of its layers."""
 
@@ -55,11 +58,13 @@ def carry_out(plan: Plan, wanted: int, data_layers: int = 0) -> tuple[int, int]:
     """Does it all: checks and makes the new layers, and then looks at what they show. Gives how many layers there
     were, and how many there are.
 
-    The lowest layers may be data-only. They go along until no file needs their contents.
+    The lowest layers may be data-only. They go along until no file needs their contents. With a base what is above it
+    becomes one layer.
     """
     count = plan.unpack()
     given = stacks.layer_paths(STACK, count)
-    is_one = min(count - data_layers, wanted) == 1
+    wanted = max(wanted, plan.base + 1)
+    is_one = plan.base == 0 and min(count - data_layers, wanted) == 1
     new = _as_one(plan, given) if is_one else _merged_down(plan, given, wanted, data_layers)
     plan.run("show", "show", given, BEFORE)
     plan.run("show of the new layers", "show", new, _AFTER)
@@ -109,6 +114,7 @@ class Runner:
         self._faults = faults
         self._program = require_program(given)
         self.count = 0  # of the given layers
+        self.base = 0
         self.bytes_given: int | None = None  # in the files of the layers, if they are in files
         self.bytes_made: int | None = None
         self.data_layers: frozenset[str] = frozenset()  # the names of those that are data-only
@@ -171,6 +177,12 @@ class Runner:
             number for number in reversed(range(len(layers)))
             if has_attribute(self.path(layers[number]), (REDIRECT, METACOPY))
         ]
+
+    def unchanged(self, layers: Sequence[str]) -> int:
+        """How many of the new layers, the lowest ones, are the given ones."""
+        pairs = zip(reversed(layers), reversed(stacks.layer_paths(STACK, self.count)))
+        same = (new == given or filecmp.cmp(self.path(new), self.path(given), shallow=False) for new, given in pairs)
+        return sum(1 for _ in itertools.takewhile(bool, same))
 
     def compare(self, report: str, wanted: str = BEFORE) -> None:
         """See `Plan`."""

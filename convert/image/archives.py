@@ -102,6 +102,7 @@ class ReadOptions:
     userxattr: bool | None = False  # for an image, whose archives have no such marks
     most_contents: int | None = None  # bytes of all its files, if they are bounded
     kept: KeptLayers | None = None  # of an image, which may name a layer again
+    is_again: bool = False  # what is lost was reported before
     attribute_sets: dict[RawAttributes, Attributes] = field(default_factory=dict)  # as records had them before
     links: Iterator[int] = field(default_factory=lambda: itertools.count(1))  # numbers for the names of one file
 
@@ -178,7 +179,8 @@ class LayerArchive:
             self._tree.settle(self._options.below.root, lambda gap, path: self._losses.add(_GAPS[gap], path))
         except TooMuch as problem:
             raise cannot_read(layer.path, str(problem)) from None
-        self._losses.report(layer.name)
+        if not self._options.is_again:
+            self._losses.report(layer.name)
         return self._tree
 
     def _take_all(self) -> None:
@@ -357,7 +359,8 @@ class LayerArchive:
         name = os.fsdecode(header.name)
         if not self._options.skip_unsupported:
             raise cannot_read(self._layer.path, f"{name}: {problem}")
-        note(f"{self._layer.path}: {name}: left out: {problem}")
+        if not self._options.is_again:
+            note(f"{self._layer.path}: {name}: left out: {problem}")
 
 
 def _known(contents: Contents) -> Store:

@@ -59,12 +59,6 @@ def compression_of(text: str) -> Compression | None:
     return Compression(method, int(level)) if level.isascii() and level.isdecimal() else None
 
 
-def media_type(compression: Compression) -> str:
-    """What an image's manifest calls a layer that is packed so."""
-    suffix = "" if compression == PLAIN else f"+{compression.method}"
-    return f"application/vnd.oci.image.layer.v1.tar{suffix}"
-
-
 def require_program(compression: Compression) -> None:
     """Refuses a way of packing whose program isn't there."""
     if compression.method == ZSTD and shutil.which("zstd") is None:

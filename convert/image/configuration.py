@@ -2,6 +2,7 @@
 
 import json
 from collections.abc import Mapping, Sequence
+from dataclasses import dataclass
 from typing import Any
 
 from ..common.faults import ReadFault, cannot_read, reading
@@ -12,7 +13,7 @@ USUAL_PLATFORM = "linux/amd64"
 Document = dict[str, Any]
 
 _PLATFORM = ("os", "architecture", "variant", "os.version", "os.features")
-_MAKER = "layers pack"
+MAKER = "layers pack"
 _MAX_FILE = 16 * MAX_BYTES  # of a configuration that a person laid out; what counts is its text without spaces
 _MAX_LAID_OUT = 1 << 20  # characters of a document that is laid out for a person; others have one line
 
@@ -88,7 +89,16 @@ def text_of(document: Mapping[str, Any]) -> str:
     return "".join(pieces) + "\n"
 
 
-def for_layers(given: Mapping[str, Any], platform: str | None, digests: Sequence[str]) -> Document:
+@dataclass(frozen=True)
+class Making:
+    """What made the layers that the history has no line for. If it has a line for each of `merged` layers, the topmost of
+    the new ones is what they were merged into, but for those that stay as they are."""
+
+    made_by: str = MAKER
+    merged: int | None = None
+
+
+def for_layers(given: Mapping[str, Any], platform: str | None, digests: Sequence[str], making: Making) -> Document:
     """A given configuration for layers of these unpacked digests, the lowest first.
 
     A platform that is asked for takes the place of the whole of the given one.
@@ -96,8 +106,8 @@ def for_layers(given: Mapping[str, Any], platform: str | None, digests: Sequence
     kept = {name: value for name, value in given.items() if name not in _PLATFORM}
     return kept | _chosen_platform(given, platform) | {
         "config": given.get("config") or {},
-        "rootfs": {"type": "layers", "diff_ids": [f"sha256:{digest}" for digest in digests]},
-        "history": _history(given.get("history") or [], len(digests)),
+        "rootfs": {"type": "layers", "diff_ids": list(digests)},
+        "history": _history(given.get("history") or [], len(digests), making),
     }
 
 
@@ -110,16 +120,24 @@ def _chosen_platform(given: Mapping[str, Any], asked: str | None) -> Document:
     return {"os": system, "architecture": architecture} | ({"variant": variant} if variant else {})
 
 
-def _history(given: Sequence[Document], layers: int) -> list[Document]:
+def layer_lines(history: Sequence[Document]) -> list[int]:
+    """The places, from 0, of those lines of a history that have a layer, the lowest first."""
+    return [place for place, line in enumerate(history) if not line.get("empty_layer")]
+
+
+def _history(given: Sequence[Document], layers: int, making: Making) -> list[Document]:
     """How the layers came to be.
 
-    If the given history has as many layers, each keeps its entry. Otherwise what it says was
-    before these layers: it stays, as entries without a layer, and each layer gets an entry of its own.
+    If the given history has as many layers, each keeps its line. Otherwise lines of layers that are no more stay without
+    one, and each layer that has none gets a line of its own.
     """
-    if sum(not entry.get("empty_layer") for entry in given) == layers:
+    places = layer_lines(given)
+    if len(places) == layers and making.merged in (None, layers):
         return list(given)
-    before = [{**entry, "empty_layer": True} for entry in given]
+    kept = layers - 1 if len(places) == making.merged else 0
+    gone = set(places[kept:])
+    before = [{**line, "empty_layer": True} if place in gone else line for place, line in enumerate(given)]
     return before + [
-        {"created_by": _MAKER, "comment": f"layer {number} of {layers}, the lowest first"}
-        for number in range(1, layers + 1)
+        {"created_by": making.made_by, "comment": f"layer {number} of {layers}, the lowest first"}
+        for number in range(kept + 1, layers + 1)
     ]

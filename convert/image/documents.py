@@ -305,6 +305,7 @@ class Descriptor:
     media_type: str | None
     annotations: Mapping[str, str]
     platform: Mapping[str, Json]
+    value: Mapping[str, Json]  # all that it has
 
 
 @dataclass(frozen=True)
@@ -389,7 +390,7 @@ def _descriptor(value: Json) -> Descriptor:
         raise Misshapen("is negative", "size")
     return Descriptor(
         _one(value, "digest", digest_parts), value["size"], value.get("mediaType"), value.get("annotations") or {},
-        value.get("platform") or {},
+        value.get("platform") or {}, value,
     )
 
 

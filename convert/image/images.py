@@ -10,6 +10,7 @@ from dataclasses import dataclass, field, replace
 from typing import Any, TypeVar
 
 from ..common.budgets import TooMuch
+from ..common.contents import PIECE, Write
 from ..common.faults import ReadFault, TarFault, UsageFault, cannot_read, reading
 from ..common.progress import Progress
 from ..common.streams import Digesting, Reader, Source, Watched, unpacked
@@ -56,6 +57,7 @@ class ImageLayer:
     size: int
     digest: Digest | None
     unpacked_digest: Digest | None
+    described: Mapping[str, Json] = field(default_factory=dict, compare=False)  # what a manifest has of it
 
     def identity(self) -> Hashable:
         """The same for two layers of the image that are one file, and must unpack to the same."""
@@ -108,6 +110,25 @@ class ImageLayer:
         if wanted not in (None, found):
             raise Spoilt(self.path, f"its unpacked bytes aren't those of {algorithm}:{wanted}")
 
+    def can_stay(self, algorithm: str) -> bool:
+        """Whether a new image, whose blobs have digests of an algorithm, can have it as it is."""
+        return self.unpacked_digest is not None and (self.digest is None or self.digest[0] == algorithm)
+
+    def copy(self, algorithm: str, write: Write) -> str:
+        """Gives its bytes on as they are, if they are those of its digest, and the digits of their digest."""
+        with self.members.opened(self.name) as part:
+            source, piece = Digesting(part, algorithm), memoryview(bytearray(PIECE))
+            while count := self._fill(source, piece):
+                write(piece[:count])
+            digest = algorithm, source.digest_of_all()
+        if self.digest not in (None, digest):
+            raise _wrong_bytes(self.path, self.digest or digest)
+        return digest[1]
+
+    def _fill(self, source: Digesting, piece: memoryview) -> int:
+        with reading(self.path):
+            return source.readinto(piece)
+
     def is_checked(self) -> bool:
         """Whether the digest of its bytes in the image is that of the unpacked ones."""
         return self.digest is not None and self.digest == self.unpacked_digest and self.packed_size() is None
@@ -137,6 +158,7 @@ class Image:
     configuration: Document
     names: tuple[str, ...] = ()
     annotations: Mapping[str, str] = field(default_factory=dict)  # but for those of the base, which new layers haven't
+    digest: Digest | None = None  # of its configuration, by which docker names it
 
     def layer_bytes(self) -> int:
         """How many bytes its layers have in it, each file once."""
@@ -290,7 +312,7 @@ class _Documents:
         if descriptor.size != there:
             raise _wrong_size(self.path(name), descriptor)
         self._require_packing(name, descriptor.media_type)
-        return ImageLayer(name, self.path(name), self.members, there, descriptor.digest, unpacked)
+        return ImageLayer(name, self.path(name), self.members, there, descriptor.digest, unpacked, descriptor.value)
 
     def _require_packing(self, name: str, media_type: str | None) -> None:
         """Refuses a layer that isn't packed as its media type says, if that says it."""
@@ -411,6 +433,7 @@ def _image(documents: _Documents, chosen: _InLayout, blob: BlobName) -> Image:
         [documents.layer(blob(own.digest), own, inner) for own, inner in zip(manifest.layers, unpacked)],
         with_platform(configuration, chosen.stated),
         annotations={key: text for key, text in manifest.annotations.items() if not key.startswith(_BASE)},
+        digest=manifest.configuration.digest,
     )
 
 
@@ -473,10 +496,9 @@ def _saved_image(documents: _Documents, value: Json, platform: str | None, tag: 
     image = chosen.image
     _require_count(documents, len(image.layers))
     digits = _digits(image.configuration)
-    configuration, digests = documents.configuration(
-        image.configuration, None, ("sha256", digits) if digits else None, len(image.layers)
-    )
+    digest = ("sha256", digits) if digits else None
+    configuration, digests = documents.configuration(image.configuration, None, digest, len(image.layers))
     return Image(
         [documents.layer(name, None, digest) for name, digest in zip(image.layers, digests)],
-        configuration, tuple(chosen.names),
+        configuration, tuple(chosen.names), digest=digest,
     )

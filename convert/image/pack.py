@@ -1,11 +1,10 @@
 """`pack`: manifests and blobs as an OCI image layout."""
 
 import hashlib
-import json
 import os
-from collections.abc import Iterator
+from collections.abc import Iterator, Mapping, Sequence
 from dataclasses import dataclass, replace
-from typing import IO, Any
+from typing import IO
 
 from ..common.contents import PIECE, PRIVATE_MODE, DigestedBeside, OtherContents, digest_and_size
 from ..common.disk_space import require_room
@@ -25,21 +24,15 @@ from ..tar.least_sizes import least_archive
 from ..tar.headers import Header
 from ..tar.writer import TYPES, TarWriter
 from .archive_names import OPAQUE_NAME, WHITEOUT_PREFIX
-from .compression import PLAIN, Compression, media_type, packing, require_program
+from .compression import NONE, PLAIN, Compression, packing, require_program
 from .configuration import (
-    USUAL_PLATFORM, Document, for_layers, platform_of, platform_text, read_annotations, read_configuration,
+    USUAL_PLATFORM, Document, Making, for_layers, platform_text, read_annotations, read_configuration,
 )
-from .image_files import BLOBS, ArchiveFiles, FolderFiles, ImageFiles
-from .images import REF_NAME
-from .new_layers import NewLayers
+from .image_files import ArchiveFiles, FolderFiles, ImageFiles
+from .images import ImageLayer
+from .new_documents import MediaTypes, NewImage, blob_name, descriptor, put_image, put_index, types_beside
+from .new_layers import ALGORITHM, NewLayers
 from .targets import Form, Target
-
-_CONFIG_TYPE = "application/vnd.oci.image.config.v1+json"
-_MANIFEST_TYPE = "application/vnd.oci.image.manifest.v1+json"
-_INDEX_TYPE = "application/vnd.oci.image.index.v1+json"
-_LAYOUT = {"imageLayoutVersion": "1.0.0"}
-_SAVED = "manifest.json"  # of docker's archives, and of skopeo's dir:
-_COPY = b"Directory Transport Version: 1.1\n"
 
 
 @dataclass(frozen=True, kw_only=True)
@@ -58,40 +51,49 @@ class PackOptions:
     annotations: str | None = None
     has_checked_blobs: bool = False  # and what is written is read again
     new_layers: NewLayers | None = None  # reads layers that aren't packed again, and so makes their digests
+    kept: Sequence[ImageLayer] = ()  # of an open image, which stay as they are, below the others; the lowest first
+    making: Making = Making()
 
 
 @dataclass(frozen=True)
-class _Packed:
-    """A layer's archive in the layout: the digest of its bytes, and of those before they were packed."""
+class _Written:
+    """A layer's archive in the image: what refers to it, and the digest of its bytes before they were packed."""
 
-    digest: str
-    size: int
+    described: Document
     unpacked_digest: str
+
+
+@dataclass(frozen=True)
+class _Given:
+    """What the image is to say of itself."""
+
+    configuration: Document
+    annotations: Mapping[str, str]
 
 
 def pack(options: PackOptions) -> None:
     """Writes the image: a folder, or one tar archive."""
-    if not 1 <= len(options.layers) <= rules.MAX_LAYERS:
+    if not 1 <= len(options.layers) + len(options.kept) <= rules.MAX_LAYERS:
         raise UsageFault(f"layers must be 1 to {rules.MAX_LAYERS}")
     require_program(options.compress)
-    given = _given_configuration(options)
     annotations = read_annotations(options.annotations) if options.annotations is not None else {}
+    given = _Given(_given_configuration(options), annotations)
     layers = [list(_packable(path, options)) for path in reversed(options.layers)]
     out = options.out
-    if options.compress == PLAIN:
-        require_room(out.label, out.place, sum(map(least_archive, layers)))
+    least = sum(map(least_archive, layers)) if options.compress == PLAIN else 0
+    require_room(out.label, out.place, least + sum(layer.size for layer in set(options.kept)))
     if out.form is Form.ARCHIVE:
 
         def fill(file: IO[bytes]) -> None:
             files = ArchiveFiles(file)
-            _write_image(files, layers, (given, annotations), options)
+            _write_image(files, layers, given, options)
             files.end()
 
         with writing(out.label):
             write_file_in_place(out.path, out.place, fill, PRIVATE_MODE)
         return
     with new_folder(out.path) as folder, writing(out.label):
-        _write_image(FolderFiles(folder, _blob_name(out, "")), layers, (given, annotations), options)
+        _write_image(FolderFiles(folder, blob_name(out, "")), layers, given, options)
 
 
 def _given_configuration(options: PackOptions) -> Document:
@@ -145,59 +147,36 @@ def _problem(entry: Entry) -> str | None:
     return problem
 
 
-def _write_image(
-    files: ImageFiles, layers: list[list[Entry]], given: tuple[Document, Document], options: PackOptions
-) -> None:
-    """The files of the image, with what is given as its configuration and annotations.
-
-    Nothing in them depends on when or where they are made.
-    """
-    packed = [_write_layer(files, layer, options) for layer in layers]
-    configuration = for_layers(given[0], options.platform, [layer.unpacked_digest for layer in packed])
-    manifest = {
-        "schemaVersion": 2, "mediaType": _MANIFEST_TYPE,
-        "config": _put(files, options.out, _CONFIG_TYPE, configuration),
-        "layers": [_descriptor(media_type(options.compress), layer.digest, layer.size) for layer in packed],
-    }
-    if given[1]:
-        manifest["annotations"] = given[1]
-    if options.out.form is Form.COPY:
-        _write_copy(files, manifest, options)
-    else:
-        _write_layout(files, manifest, platform_of(configuration), options)
+def _write_image(files: ImageFiles, layers: list[list[Entry]], given: _Given, options: PackOptions) -> None:
+    """The files of the image. Nothing in them depends on when or where they are made."""
+    types = types_beside([layer.described for layer in options.kept])
+    written = [_keep_layer(files, layer, types) for layer in options.kept]
+    written += [_write_layer(files, layer, types, options) for layer in layers]
+    digests = [layer.unpacked_digest for layer in written]
+    image = NewImage(
+        layers=[layer.described for layer in written], annotations=given.annotations, types=types, name=options.tag,
+        configuration=for_layers(given.configuration, options.platform, digests, options.making),
+    )
+    put_index(files, options.out, [put_image(files, options.out, image)])
 
 
-def _write_copy(files: ImageFiles, manifest: Document, options: PackOptions) -> None:
-    """What a folder of skopeo's `dir:` has beside the blobs."""
-    if options.tag is not None:
-        note_path(options.out.label, f"a folder dir: has no place for the name {options.tag}")
-    files.put(_SAVED, _json(manifest))
-    files.put("version", _COPY)
+def _keep_layer(files: ImageFiles, layer: ImageLayer, types: MediaTypes) -> _Written:
+    """Copies a layer of another image as it is, with all that its descriptor says of it."""
+    digests: list[str] = []
+
+    def fill(file: IO[bytes]) -> str:
+        digests.append(layer.copy(ALGORITHM, file.write))
+        return digests[0]
+
+    files.blob(fill)
+    kind = types.of_layer(Compression(layer.packing() or NONE))
+    assert layer.unpacked_digest is not None
+    return _Written({**descriptor(kind, digests[0], layer.size), **layer.described}, ":".join(layer.unpacked_digest))
 
 
-def _write_layout(files: ImageFiles, manifest: Document, platform: Document, options: PackOptions) -> None:
-    """What an OCI image layout has beside the blobs of layers, and an archive of it for docker."""
-    listed = _put(files, options.out, _MANIFEST_TYPE, manifest) | {"platform": platform}
-    if options.tag is not None:
-        listed["annotations"] = {REF_NAME: options.tag}
-    index = {"schemaVersion": 2, "mediaType": _INDEX_TYPE, "manifests": [listed]}
-    files.put("index.json", _json(index))
-    if options.out.form is Form.ARCHIVE:
-        parts = [manifest["config"], *manifest["layers"]]
-        config, *layers = (_blob_name(options.out, part["digest"].partition(":")[2]) for part in parts)
-        saved = {"Config": config, "RepoTags": options.out.docker_names(options.tag) or None, "Layers": layers}
-        files.put(_SAVED, _json([saved]))
-    files.put("oci-layout", _json(_LAYOUT))
-
-
-def _blob_name(out: Target, digest: str) -> str:
-    """Where an image has a blob."""
-    return digest if out.form is Form.COPY else f"{BLOBS}/{digest}"
-
-
-def _write_layer(files: ImageFiles, entries: list[Entry], options: PackOptions) -> _Packed:
+def _write_layer(files: ImageFiles, entries: list[Entry], types: MediaTypes, options: PackOptions) -> _Written:
     """Writes a layer's archive."""
-    packed: list[_Packed] = []
+    written: list[_Written] = []
 
     def fill(file: IO[bytes]) -> str:
         begin = file.tell()
@@ -212,11 +191,12 @@ def _write_layer(files: ImageFiles, entries: list[Entry], options: PackOptions) 
         if again is not None:
             unpacked = again.read(file.fileno(), begin, size)
         digest = unpacked if options.compress == PLAIN else packer.digest() or digest_and_size(file.fileno(), begin)[0]
-        packed.append(_Packed(digest, size, unpacked))
+        described = descriptor(types.of_layer(options.compress), digest, size)
+        written.append(_Written(described, f"{ALGORITHM}:{unpacked}"))
         return digest
 
     files.blob(fill)
-    return packed[0]
+    return written[0]
 
 
 def _write_archive(entries: list[Entry], options: PackOptions, out: DigestedBeside) -> None:
@@ -291,19 +271,3 @@ def contents_of(entry: Entry, blobs: str) -> Iterator[bytes]:
             left -= len(piece)
     if left or digest.hexdigest() != entry.blob:
         raise _other_contents(path)
-
-
-def _json(value: Any) -> bytes:
-    return json.dumps(value, separators=(",", ":"), sort_keys=True, ensure_ascii=False).encode()
-
-
-def _descriptor(kind: str, digest: str, size: int) -> dict[str, Any]:
-    return {"mediaType": kind, "digest": f"sha256:{digest}", "size": size}
-
-
-def _put(files: ImageFiles, out: Target, kind: str, document: Any) -> dict[str, Any]:
-    """Writes a document as a blob of the image; gives its descriptor."""
-    data = _json(document)
-    digest = hashlib.sha256(data).hexdigest()
-    files.put(_blob_name(out, digest), data)
-    return _descriptor(kind, digest, len(data))

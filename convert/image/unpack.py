@@ -32,6 +32,7 @@ class UnpackOptions:
     skip_unsupported: bool = False
     overlay_marks: bool = False
     digests_only: bool = False
+    is_again: bool = False  # what is lost was reported before
 
 
 def unpack(options: UnpackOptions, read: KeptLayers | None = None) -> Image:
@@ -65,7 +66,7 @@ def _unpack_layers(
     below, writer = MergedTree(), new_writer()
     read_options = ReadOptions(
         out=options.out, skip_unsupported=options.skip_unsupported, overlay_marks=options.overlay_marks, writer=writer,
-        budget=Budget(), below=below,
+        budget=Budget(), below=below, is_again=options.is_again,
     )
     try:
         with contextlib.nullcontext(read) if read else layers_read(layers, read_options, stage, new_writer) as kept:

@@ -10,11 +10,11 @@ from ..common.faults import FAULTY, Fault, UsageFault, writing
 from ..common.outputs import STANDARD_OUTPUT, passing_folder
 from ..common.program import require_program, run_program, words_of
 from ..folder.stack_layers import StackOptions, read_stack, require_ordinary
+from ..image.base import layers_of_base
 from ..image.images import image_place, opened_image, paths_of_image
 from ..image.members import STANDARD_INPUT
 from ..image.unpack import UnpackOptions, unpack_opened
 from ..model import stacks
-from .base import layers_of_base
 from .history import steps_of
 from .layer_sizes import sizes_of
 from .limits import Limit
