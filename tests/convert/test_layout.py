@@ -8,7 +8,7 @@ from pathlib import Path
 from support import ROOT
 
 _CONVERTER = ROOT / "convert"
-_PACKAGES = ("common", "model", "tar", "image", "squashfs", "folder", "flatten", "sizes", "look")
+_PACKAGES = ("common", "model", "tar", "image", "squashfs", "folder", "flatten", "sizes", "look", "check")
 
 
 def taken(module: Path) -> Iterator[str]:
