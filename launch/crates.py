@@ -12,15 +12,16 @@ PARTS = ("src", "specs", "proofs")
 
 @dataclass(frozen=True)
 class Crate:
-    """A crate: its line, the crates of the repository that it depends on, lowest first, and how long its chain is.
+    """A crate: its line, the crates of the repository that it depends on, lowest first, its length and its chain's.
 
-    A chain is the crate with the longest way from there up to the program. Its length is in lines of sources, which
+    A chain is the crate with the longest way from there up to the program. Lengths are in lines of sources, which
     say well enough how long a proof takes.
     """
 
     name: str
     line: str
     below: tuple[str, ...]
+    length: int
     chain: int
 
 
@@ -29,11 +30,12 @@ def crates_of(root: Path) -> dict[str, Crate]:
     lines = _lines_of_list(root)
     uses = {name: [it for it in line.partition(":")[2].split() if it in lines] for name, line in lines.items()}
     order = [*_below(uses, PROGRAM), PROGRAM]
+    lengths = {name: _length(root / "crates" / name) for name in order}
     chains: dict[str, int] = {}
     for name in reversed(order):
         above = [chains[it] for it in chains if name in uses[it]]
-        chains[name] = _length(root / "crates" / name) + max(above, default=0)
-    return {name: Crate(name, lines[name], _below(uses, name), chains[name]) for name in order}
+        chains[name] = lengths[name] + max(above, default=0)
+    return {name: Crate(name, lines[name], _below(uses, name), lengths[name], chains[name]) for name in order}
 
 
 def _lines_of_list(root: Path) -> dict[str, str]:

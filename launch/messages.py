@@ -9,19 +9,24 @@ _BEGUN = time.monotonic()
 
 
 def say(text: str) -> None:
-    """Tells a line."""
+    """Prints a line."""
     print(f"ovl_layers: {text}", file=sys.stderr, flush=True)
 
 
 def fail(text: str) -> NoReturn:
-    """Tells a line, and ends with the status of a program that can't be run."""
+    """Prints a line, and ends with the status of a program that can't be run."""
     say(text)
     sys.exit(FAILED)
 
 
-def so_far() -> str:
+def seconds_so_far() -> float:
     """The time since the start."""
-    return as_time(time.monotonic() - _BEGUN)
+    return time.monotonic() - _BEGUN
+
+
+def so_far() -> str:
+    """The time since the start, to be read."""
+    return as_time(seconds_so_far())
 
 
 def as_time(seconds: float) -> str:

@@ -20,8 +20,9 @@ from typing import Iterator
 
 from copies import Copies
 from crates import PROGRAM, Crate, crates_of
+from forecast import Forecast
+from messages import as_time, fail, say, seconds_so_far, so_far
 from proof import keep
-from messages import as_time, fail, say, so_far
 
 _ROOT = Path(__file__).resolve().parents[1]
 _BUILT = _ROOT / "crates" / PROGRAM / "out" / PROGRAM
@@ -52,8 +53,9 @@ class Proof:
 class Proofs:
     """All proofs of a build."""
 
-    def __init__(self, crates: dict[str, Crate], copies: Copies, held: list[int]) -> None:
+    def __init__(self, crates: dict[str, Crate], copies: Copies, held: list[int], forecast: Forecast | None) -> None:
         self._crates = crates
+        self._forecast = forecast
         self._copies = copies
         self._held = held
         self._kit = kit()
@@ -114,18 +116,23 @@ class Proofs:
             del self._running[name]
             said = proof.said.read_text(encoding="utf-8", errors="backslashreplace")
             if status != 0:
-                self._tell_failed(name, said, status)
+                self._report_failed(name, said, status)
             self._copies.take_back(name)
             if status == 0:
                 keep(_ROOT, name, said, self._kit)
-                self._tell_proved(name, proof)
+                self._report_proved(name, proof)
 
-    def _tell_proved(self, name: str, proof: Proof) -> None:
+    def _report_proved(self, name: str, proof: Proof) -> None:
         del self._left[name]
-        took = as_time(time.monotonic() - proof.begun)
-        say(f"{name} is proved, in {took}; {len(self._left)} left, {so_far()} so far")
+        now = time.monotonic()
+        took, left = as_time(now - proof.begun), len(self._left)
+        if self._forecast:
+            self._forecast.add(self._crates[name], now - proof.begun)
+        minutes = self._forecast and self._forecast.minutes(self._left.values(), seconds_so_far())
+        about = f", some {minutes} min" if left and minutes else ""
+        say(f"{name} is proved, in {took}; {left} left{about}, {so_far()} so far")
 
-    def _tell_failed(self, name: str, said: str, status: int) -> None:
+    def _report_failed(self, name: str, said: str, status: int) -> None:
         self._failed = True
         sys.stderr.write(said)
         say(f"{name} is not proved: rt ended with status {status}")
@@ -204,21 +211,22 @@ def build(crates: dict[str, Crate]) -> None:
     with alone(crates) as held:
         if _made_at() != was:
             return
-        tell_what_it_takes()
+        is_first = not any((_ROOT / "crates").glob("*/out/rlib"))
+        report_what_it_takes(is_first)
         # The program counts as old as the start of its build, so a source edited meanwhile is newer.
         begun = time.time_ns()
         copies = Copies(_ROOT, crates)
         try:
-            if not Proofs(crates, copies, held).run():
+            if not Proofs(crates, copies, held, Forecast() if is_first else None).run():
                 fail("the program could not be built")
         finally:
             copies.end()
         os.utime(_BUILT, ns=(begun, begun))
 
 
-def tell_what_it_takes() -> None:
+def report_what_it_takes(is_first: bool) -> None:
     """Says how long the build may take."""
-    if any((_ROOT / "crates").glob("*/out/rlib")):
+    if not is_first:
         say("what has changed since the last build is proved anew, which takes minutes or longer.")
         return
     say("nothing was proved here before: this takes some 65 minutes of processor time, 25 to 40 minutes on 4 processors.")

@@ -54,11 +54,11 @@ class Gate:
             number = left.pop()
             key = number, processes[number].start
             if key not in self.runs:
-                told = told_by(number)
-                if told is None:
+                found = described(number)
+                if found is None:
                     left += kids.get(number, ())
                     continue
-                self.runs[key] = Run(*told, processes[number].start)
+                self.runs[key] = Run(*found, processes[number].start)
             took = sum(processes[it].seconds for it in with_all_below(number, kids))
             self.runs[key].seconds = max(self.runs[key].seconds, took)
 
@@ -90,7 +90,7 @@ def with_all_below(number: int, kids: dict[int, list[int]]) -> list[int]:
     return found
 
 
-def told_by(number: int) -> tuple[str, str] | None:
+def described(number: int) -> tuple[str, str] | None:
     """The crate and the part that a process works for, or None."""
     try:
         with open(f"/proc/{number}/cmdline", encoding="utf-8", errors="replace") as file:

@@ -52,14 +52,14 @@ class LauncherTest(FolderTest):
         os.rename(self.path("messages"), self.path(f"messages-{launcher.pid}"))
         return launcher
 
-    def told_by(self, launcher: "subprocess.Popen[str]") -> str:
+    def messages_of(self, launcher: "subprocess.Popen[str]") -> str:
         """What one has printed so far."""
         return Path(self.path(f"messages-{launcher.pid}")).read_text(encoding="utf-8")
 
     def ended(self, launcher: "subprocess.Popen[str]") -> tuple[int, str, str]:
         """Status, standard output and standard error of one that ends."""
         printed, _ = launcher.communicate(timeout=_SECONDS)
-        return launcher.returncode, printed, self.told_by(launcher)
+        return launcher.returncode, printed, self.messages_of(launcher)
 
     def run_launcher(self, *words: str | bytes) -> tuple[int, str, str]:
         """The same of one that is started with these words."""
@@ -149,9 +149,9 @@ class Making(LauncherTest):
             self.assertLess(time.monotonic(), end)
             time.sleep(0.01)
 
-    def wait_to_tell(self, launcher: "subprocess.Popen[str]", part: str) -> None:
+    def wait_to_report(self, launcher: "subprocess.Popen[str]", part: str) -> None:
         """Waits until a launcher has printed something."""
-        self.wait_until(lambda: part in self.told_by(launcher))
+        self.wait_until(lambda: part in self.messages_of(launcher))
 
     def wait_for(self, name: str) -> int:
         """Waits until the stand-in is asked for a crate, and gives its process."""
@@ -212,7 +212,7 @@ class Build(Making):
         self.put("fail-left")
         self.put("hold-right")
         launcher = self.start("show")
-        self.wait_to_tell(launcher, "waiting for right, to keep what is proved of it\n")
+        self.wait_to_report(launcher, "waiting for right, to keep what is proved of it\n")
         os.unlink(self.notes / "hold-right")
         status, printed, messages = self.ended(launcher)
         self.assertEqual((status, printed), (126, ""), messages)
@@ -250,7 +250,7 @@ class Build(Making):
         process = self.wait_for("left")
         launcher.kill()
         second = self.start("show")
-        self.wait_to_tell(second, "waiting for another ./ovl_layers or rt")
+        self.wait_to_report(second, "waiting for another ./ovl_layers or rt")
         self.assertTrue(os.path.exists(f"/proc/{process}"), "the proof goes on, and the second launcher waits for it")
         self.assertEqual(self.times()["left"], 1)
         os.unlink(self.notes / "hold-left")
@@ -265,7 +265,7 @@ class Build(Making):
         second = self.start("show", "second")
         third = self.start("show", "third")
         for launcher in (second, third):
-            self.wait_to_tell(launcher, "waiting for another ./ovl_layers or rt")
+            self.wait_to_report(launcher, "waiting for another ./ovl_layers or rt")
         third.send_signal(signal.SIGINT)
         self.assertEqual(self.ended(third)[0], -signal.SIGINT)
         os.unlink(self.notes / "hold-left")
@@ -280,7 +280,7 @@ class Build(Making):
         self.put("hold-left")
         launcher = self.start("show")
         place = os.path.realpath(self.path("crates", "low"))
-        self.wait_to_tell(launcher, f"waiting for another ./ovl_layers or rt, which is at work in {place}\n")
+        self.wait_to_report(launcher, f"waiting for another ./ovl_layers or rt, which is at work in {place}\n")
         self.assertEqual(self.times(), {})
         fcntl.flock(folder, fcntl.LOCK_UN)
         self.wait_for("left")
