@@ -85,6 +85,7 @@ _layers() {
                     '--workers[how many processes read files, 1 to 64]:N:' \
                     '--json[prints it all for a program]' \
                     '--bytes[prints exact numbers of bytes]' \
+                    '--advice[prints what would save bytes, for each layer and kind of waste]' \
                     '--html[page to write besides]:FILE:_files' \
                     '--base[the lowest N layers, or those of this image, are a base, which doesn'\''t count as waste]:N|IMAGE:' \
                     '--max-waste[ends with status 1 if more is wasted, such as 10%%, 50MB or 50MiB]:PERCENT|BYTES:' \

@@ -210,8 +210,8 @@ def _sizes(words: argparse.Namespace) -> None:
     sizes(SizesOptions(
         image=None if words.image is None else _folder(words.image), stack=stack, data_layers=words.data_layers,
         platform=words.platform, tag=words.tag, skip_unsupported=words.skip_unsupported,
-        overlay_marks=words.overlay_marks, as_json=words.json, exact=words.bytes, page=words.html,
-        max_waste=words.max_waste, base=words.base and _folder(words.base),
+        overlay_marks=words.overlay_marks, as_json=words.json, exact=words.bytes, advice=words.advice,
+        page=words.html, max_waste=words.max_waste, base=words.base and _folder(words.base),
     ), _print)
 
 

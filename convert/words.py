@@ -137,6 +137,9 @@ and what of them is wasted: deleted but shipped (layers above remove or replace 
 layer. Then the places and the commands that waste most, and the verdict. The table is as wide as the
 terminal, or COLUMNS says, else 80. convert/README.md defines each number.
 
+--advice says for each layer what would save bytes: COPY --chown or --chmod, one RUN in place of two, no caches
+of package managers, a symlink in place of a copy.
+
 Contents are copied nowhere. What the layers show comes from the proved program ovl_layers, as in `flatten`.
 
 --stack takes layers in place of an image, the topmost first: folders, squashfs files, tar archives of folders,
@@ -396,6 +399,7 @@ def _add_sizes(parser: argparse.ArgumentParser) -> None:
     _add_stack_layers(parser, "reads")
     parser.add_argument("--json", action="store_true", help="prints it all for a program")
     parser.add_argument("--bytes", action="store_true", help="prints exact numbers of bytes")
+    parser.add_argument("--advice", action="store_true", help="prints what would save bytes, for each layer and kind of waste")
     parser.add_argument("--html", metavar="FILE", help="page to write besides; - is standard output, in its place")
     _add_base(parser)
     limits = parser.add_mutually_exclusive_group()

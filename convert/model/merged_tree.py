@@ -24,6 +24,16 @@ class Directory:
     uses: int = 0
 
 
+@dataclass(frozen=True, slots=True)
+class Rights:
+    """Who may do what with a file, and its other attributes."""
+
+    mode: int
+    uid: int
+    gid: int
+    attributes: tuple[tuple[str, bytes], ...]
+
+
 @dataclass(slots=True, eq=False)
 class LayerFile:
     """A file of a layer, with all its names there."""
@@ -34,6 +44,9 @@ class LayerFile:
     blob: bytes = b""  # the digest of its contents, if it has any
     is_metacopy: bool = False
     data: "LayerFile | None" = None  # of a metacopy file: the file whose contents it shows
+    rights: Rights | None = None
+    is_new: bool = True  # whether the layers below show nothing at its path
+    over: "LayerFile | None" = None  # the file that they show there
     uses: int = 0
     hidden_by: int | None = None  # the layer with which it went, if nothing uses it
     further: list[str] | None = None  # its other names there
@@ -54,10 +67,11 @@ class LayerFile:
 
 
 Node = Directory | LayerFile | Entry
-LeafOf = Callable[[str, Entry], LayerFile | Entry]  # what the tree has for an entry that is no directory
+# What the tree has for an entry that is no directory, and is put over what the layers below show there.
+LeafOf = Callable[[Entry, Node | None], LayerFile | Entry]
 
 
-def _entry_itself(_: str, entry: Entry) -> Entry:
+def _entry_itself(entry: Entry, _: Node | None) -> Entry:
     return entry
 
 
@@ -163,7 +177,7 @@ class _Covering:
             self._place(place.folder, name, folder)
             self._open.append(_Open(path, folder, lower))
         else:
-            leaf = leaf_of(path, entry)
+            leaf = leaf_of(entry, place.folder.children.get(name))
             if isinstance(leaf, LayerFile) and leaf.is_metacopy:
                 leaf.data = self._data(entry, place, name)
             self._place(place.folder, name, leaf)

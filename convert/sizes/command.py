@@ -15,6 +15,7 @@ from ..image.images import image_place, opened_image, paths_of_image
 from ..image.members import STANDARD_INPUT
 from ..image.unpack import UnpackOptions, unpack_opened
 from ..model import stacks
+from .advice import advice_of, json_members
 from .history import steps_of
 from .layer_sizes import sizes_of
 from .limits import Limit
@@ -46,6 +47,7 @@ class SizesOptions:
     overlay_marks: bool = False
     as_json: bool = False
     exact: bool = False
+    advice: bool = False
     page: str | None = None
     max_waste: Limit | None = None
     base: str | None = None  # an image, or how many of the layers, the lowest ones
@@ -62,12 +64,13 @@ def sizes(options: SizesOptions, print_lines: Callable[[Iterable[str]], None]) -
         run_program(program, words, folder, _SHOWN, sys.stderr)
         found = sizes_of(given.layers, options.data_layers, f"{folder}/{_SHOWN}")
     waste = waste_of(found, given.base)
+    advice = advice_of(found, waste.layers, given.origins) if options.advice else None
     if options.page is not None:
         write_page(options.page, found, given.origins, given.name)
     if options.page != STANDARD_OUTPUT:
         print_lines(
-            json_text(found, given.origins) if options.as_json
-            else table(found, given.origins, waste, options.exact, screen_width())
+            json_text(found, given.origins, json_members(advice)) if options.as_json
+            else table(found, given.origins, waste, advice, options.exact, screen_width())
         )
     _require_little_waste(waste, options.max_waste)
 

@@ -5,10 +5,10 @@ from dataclasses import dataclass, field, fields
 
 from ..common.faults import Fault
 from ..common.program import NAME
-from ..model.entries import DIRECTORY, FILE, METACOPY, REDIRECT, Entry, is_opaque, is_whiteout, named
+from ..model.entries import DIRECTORY, FILE, METACOPY, OVERLAY, REDIRECT, Entry, is_opaque, is_whiteout, named
 from ..model.links import take_links
 from ..model.manifests import read_manifest
-from ..model.merged_tree import Directory, LayerFile, MergedTree, Node
+from ..model.merged_tree import Directory, LayerFile, MergedTree, Node, Rights
 from ..model.show_report import MISSING, NONE, ShowLine, escaped_path, read_report
 
 
@@ -38,7 +38,7 @@ class NotShown:
     file: LayerFile
     is_repeated: bool
     by: int | None  # the layer that hides it, or the one whose contents it repeats
-    is_replaced: bool = False  # whether the layer that hides it has a file in its place
+    replacing: LayerFile | None = None  # the file that the hiding layer has in its place
 
 
 @dataclass(slots=True)
@@ -61,6 +61,7 @@ class _Stack:
         self.layers = [LayerSizes() for _ in range(count)]
         self.files: list[list[LayerFile]] = [[] for _ in range(count)]  # those with contents, by their first names
         self.lowest: dict[bytes, int] = {}  # the lowest layer that has some contents
+        self._rights: dict[object, Rights] = {}
         self._ordinary = count - data_layers
         self._data: list[dict[str, LayerFile]] = [{} for _ in range(data_layers)]
         self.tree = MergedTree(self._data)
@@ -69,7 +70,7 @@ class _Stack:
         """Puts the next layer on top, that of a manifest."""
         entries = read_manifest(layer)
         take_links(layer, entries)
-        taking = _Layer(number, self.layers[number], self.files[number])
+        taking = _Layer(number, self.layers[number], self.files[number], self._rights)
         if number < self._ordinary:
             has_redirects = any(REDIRECT in entry.attributes for entry in entries)
             self.tree.cover(named(entries), has_redirects, number, taking.leaf_of)
@@ -88,17 +89,18 @@ class _Stack:
 class _Layer:
     """The files of one layer, as its entries pass by."""
 
-    def __init__(self, number: int, sizes: LayerSizes, files: list[LayerFile]) -> None:
+    def __init__(self, number: int, sizes: LayerSizes, files: list[LayerFile], rights: dict[object, Rights]) -> None:
         self._number = number
         self._sizes = sizes
         self._files = files
+        self._rights = rights
         self._linked: dict[int, LayerFile] = {}
 
-    def leaf_of(self, _: str, entry: Entry) -> LayerFile | Entry:
+    def leaf_of(self, entry: Entry, before: Node | None) -> LayerFile | Entry:
         """What the tree has for what is no directory."""
-        return self.file_of(entry) if entry.kind == FILE else entry
+        return self.file_of(entry, before) if entry.kind == FILE else entry
 
-    def file_of(self, entry: Entry) -> LayerFile:
+    def file_of(self, entry: Entry, before: Node | None = None) -> LayerFile:
         """The file of an entry; the same one for the names of a hard link."""
         number = entry.link
         if number and number in self._linked:
@@ -106,7 +108,10 @@ class _Layer:
             return self._linked[number]
         blob = bytes.fromhex(entry.blob) if entry.blob is not None else b""
         is_metacopy = METACOPY in entry.attributes
-        file = LayerFile(self._number, entry.path, 0 if is_metacopy else entry.size, blob, is_metacopy)
+        file = LayerFile(
+            self._number, entry.path, 0 if is_metacopy else entry.size, blob, is_metacopy, rights=self._rights_of(entry),
+            is_new=before is None, over=before if isinstance(before, LayerFile) else None,
+        )
         if number and not is_metacopy:
             self._linked[number] = file
         self._sizes.files += 1
@@ -114,6 +119,15 @@ class _Layer:
             self._files.append(file)
             self._sizes.bytes += file.size
         return file
+
+    def _rights_of(self, entry: Entry) -> Rights:
+        """Those of an entry; equal ones are held once."""
+        own = tuple(sorted(item for item in entry.attributes.items() if not item[0].startswith(OVERLAY)))
+        key = (entry.mode, entry.uid, entry.gid, own)
+        rights = self._rights.get(key)
+        if rights is None:
+            rights = self._rights[key] = Rights(*key)
+        return rights
 
     def count(self, entries: Iterable[Entry]) -> None:
         """Counts what isn't a file."""
@@ -161,15 +175,16 @@ class _Paying:
         return file.uses > 0
 
 
-def _replacing(files: Sequence[Sequence[LayerFile]]) -> set[tuple[int | None, str]]:
-    """The files that are in the place of one that they hide: their layers and paths."""
+_Replacing = dict[tuple[int | None, str], LayerFile]
+
+
+def _replacing(files: Sequence[Sequence[LayerFile]]) -> _Replacing:
+    """The files that are in the place of one that they hide, by their layers and paths."""
     hidden = {(file.hidden_by, file.path) for layer in files for file in layer}
-    return hidden & {(file.layer, file.path) for layer in files for file in layer if (file.layer, file.path) in hidden}
+    return {(file.layer, file.path): file for layer in files for file in layer if (file.layer, file.path) in hidden}
 
 
-def _classify(
-    sizes: Sizes, own: LayerSizes, file: LayerFile, paying: _Paying, replacing: set[tuple[int | None, str]],
-) -> None:
+def _classify(sizes: Sizes, own: LayerSizes, file: LayerFile, paying: _Paying, replacing: _Replacing) -> None:
     lowest = paying.lowest[file.blob]
     if lowest != file.layer:
         own.repeated += file.size
@@ -179,8 +194,7 @@ def _classify(
         sizes.shown.append(file)
     else:
         own.hidden += file.size
-        is_replaced = (file.hidden_by, file.path) in replacing
-        sizes.not_shown.append(NotShown(file, False, file.hidden_by, is_replaced))
+        sizes.not_shown.append(NotShown(file, False, file.hidden_by, replacing.get((file.hidden_by, file.path))))
 
 
 def _take_merged(sizes: Sizes, report: str) -> None:

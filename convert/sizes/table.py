@@ -1,16 +1,18 @@
-"""The table of `sizes`, as wide as the terminal: layers, then the largest wastes, and the verdict last."""
+"""The table of `sizes`, as wide as the terminal: layers, then the largest wastes, advice, and the verdict last."""
 
 import os
 import re
 import sys
+import textwrap
 from collections.abc import Iterable, Iterator, Sequence
 from dataclasses import dataclass
 
 from ..common.amounts import amount_text, per_cent, size_text
 from ..common.escaping import printable
+from .advice import Advice
 from .history import short_command
 from .layer_sizes import LayerSizes, Sizes
-from .texts import Origin, packed_sum
+from .texts import Origin, layer_text, packed_sum
 from .waste import Cause, Kind, Place, Waste
 
 _USUAL_WIDTH = 80
@@ -18,9 +20,12 @@ _LEAST_TEXT = 10  # columns of a command or a path
 _WIDE_TEXT = 40  # that a command keeps if further columns are added
 _MOST_PLACES = 7
 _MOST_CAUSES = 5
+_MOST_ADVICE = 10
+_LEAST_ADVICE = 1_000  # advice is listed from this part of all bytes on
 _VERDICT_LINES = 2
 _GAP = "  "
 _CUT = ".."
+_REMEDY = "-> "
 _NONE = "-"
 _MORE = (("SHOWN", "DELETED", "DUPLICATE"), ("FILES", "ENTRIES"), ("WHITEOUTS", "OPAQUE"))
 
@@ -52,7 +57,9 @@ def screen_width() -> int:
     return _USUAL_WIDTH
 
 
-def table(sizes: Sizes, origins: Sequence[Origin], waste: Waste, exact: bool, width: int) -> Iterator[str]:
+def table(
+    sizes: Sizes, origins: Sequence[Origin], waste: Waste, advice: Sequence[Advice] | None, exact: bool, width: int,
+) -> Iterator[str]:
     """The lines for a person."""
     drawn = _Table(sizes, origins, waste, exact, width)
     yield from drawn.layers()
@@ -60,6 +67,8 @@ def table(sizes: Sizes, origins: Sequence[Origin], waste: Waste, exact: bool, wi
         yield from drawn.wastes("place", "PATH", [(it, _path_text(it)) for it in waste.places], _MOST_PLACES)
         commands = [(it, _command(origins[cause.layer])) for cause, it in waste.causes.items()]
         yield from drawn.wastes("command", "COMMAND", commands, _MOST_CAUSES)
+    if advice is not None:
+        yield from drawn.advice(advice)
     yield from drawn.end()
 
 
@@ -169,6 +178,37 @@ class _Table:
         step = self._origins[cause.layer].step
         return f"{cause.kind.value} in {step or f'layer {cause.layer}'}"
 
+    def advice(self, advice: Sequence[Advice]) -> Iterator[str]:
+        """What saves most, two lines or more each, and a line for the rest."""
+        listed = [it for it in advice[:_MOST_ADVICE] if it.bytes * _LEAST_ADVICE >= self._waste.total]
+        if listed:
+            yield "\nAdvice, by what it saves:\n"
+            yield from self._advice_lines(listed)
+        if left := advice[len(listed):]:
+            yield f"{len(left):,} smaller, {self._size(sum(it.bytes for it in left))} in all\n"
+        elif not listed:
+            yield "\nAdvice: none\n"
+        if not self._waste.has_base and (saved := self._waste.total - self._sizes.merged.bytes) > 0:
+            yield f"layers flatten saves {self._size(saved)} of what is wasted at once\n"
+
+    def _advice_lines(self, listed: Sequence[Advice]) -> Iterator[str]:
+        steps = [self._origins[it.layer].step for it in listed]
+        columns = [
+            _Column("BYTES", [self._size(it.bytes) for it in listed]),
+            _Column("FILES", [f"{it.file_count:,}" for it in listed]),
+            _Column("STEP", list(map(str, steps))) if all(steps) else _Column("LAYER", [f"{it.layer}" for it in listed]),
+        ]
+        room = self._room(columns)
+        indent = " " * sum(column.width() + len(_GAP) for column in columns)
+        head, *lines = _lines(columns, "WHAT AND WHERE", [_advice_text(it, room) for it in listed])
+        yield head
+        for line, it in zip(lines, listed):
+            yield line
+            yield textwrap.fill(
+                _REMEDY + it.remedy, len(indent) + max(room, _WIDE_TEXT), initial_indent=indent,
+                subsequent_indent=indent + " " * len(_REMEDY),
+            ) + "\n"
+
     def end(self) -> Iterator[str]:
         """The sums, and the verdict."""
         waste = self._waste
@@ -176,6 +216,11 @@ class _Table:
         yield f"\n{self._size(shown)} shown, {self._size(waste.deleted)} deleted but shipped, "
         yield f"{self._size(waste.duplicate)} duplicate; one layer would take {self._size(self._sizes.merged.bytes)}\n"
         yield f"{verdict(waste, self._origins, self._exact, _VERDICT_LINES * self._width)}\n"
+
+
+def _advice_text(advice: Advice, room: int) -> str:
+    """What is wasted and where, in as many columns."""
+    return f"{advice.what}: {_cut(_path_text(advice.place()), max(_LEAST_TEXT, room - len(advice.what) - 2))}"
 
 
 def _path_text(place: Place) -> str:
@@ -200,8 +245,7 @@ def _deed(cause: Cause | None, origins: Sequence[Origin]) -> str:
     """What was done to bytes that are wasted, and at which step or layer."""
     if cause is None:
         return "by several commands"
-    step = origins[cause.layer].step
-    return f"{cause.kind.value} in " + (f"step {step.number}" if step else f"layer {cause.layer}")
+    return f"{cause.kind.value} in {layer_text(origins, cause.layer)}"
 
 
 def _lines(columns: Sequence[_Column], head: str, texts: Sequence[str]) -> Iterator[str]:

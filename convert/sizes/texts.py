@@ -1,8 +1,9 @@
 """Texts of what `sizes` found, for a person and for a program."""
 
 import json
-from collections.abc import Iterator, Sequence
+from collections.abc import Iterator, Mapping, Sequence
 from dataclasses import asdict, dataclass
+from types import MappingProxyType
 from typing import Any
 
 from .history import Step
@@ -20,6 +21,12 @@ class Origin:
     step: Step | None = None
 
 
+def layer_text(origins: Sequence[Origin], layer: int | None) -> str:
+    """A layer in a sentence: its step, if the image's history has it."""
+    step = None if layer is None else origins[layer].step
+    return "" if layer is None else f"step {step.number}" if step else f"layer {layer}"
+
+
 def not_shown_text(one: NotShown) -> str:
     """Why a file's contents count as not shown."""
     if one.is_repeated:
@@ -33,8 +40,8 @@ def packed_sum(origins: Sequence[Origin]) -> int | None:
     return sum(sizes) if sizes else None
 
 
-def json_text(sizes: Sizes, origins: Sequence[Origin]) -> Iterator[str]:
-    """The same for a program; README.md has its members."""
+def json_text(sizes: Sizes, origins: Sequence[Origin], more: Mapping[str, Any] = MappingProxyType({})) -> Iterator[str]:
+    """The same for a program, and more members; README.md has them all."""
     layers = [
         {"layer": number, "made-by": origin.made_by, "packed": origin.packed, **asdict(own)}
         for number, (own, origin) in enumerate(zip(sizes.layers, origins))
@@ -51,6 +58,7 @@ def json_text(sizes: Sizes, origins: Sequence[Origin]) -> Iterator[str]:
             }
             for one in sizes.not_shown
         ],
+        **more,
     }
     yield from json.JSONEncoder(indent=1).iterencode(value)
     yield "\n"

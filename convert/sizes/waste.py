@@ -86,12 +86,12 @@ def _places_of(by_cause: Mapping[Cause, Mapping[str, Place]], least: int) -> lis
     found = list[Place]()
     rest = dict[str, Place]()
     for files in by_cause.values():
-        large = list(_large_places(files, least))
+        large = list(large_places(files, least))
         found += large
         for path, place in files.items():
             if not any(_is_in(path, it) for it in large):
                 rest.setdefault(path, Place(None, path)).add(place)
-    found += _large_places(rest, least)
+    found += large_places(rest, least)
     return sorted(found, key=lambda place: (-place.bytes, place.path))
 
 
@@ -104,7 +104,7 @@ def _cause_of(one: NotShown) -> Cause:
         return Cause(Kind.DUPLICATE, one.file.layer)
     if one.by is None:
         return Cause(Kind.UNUSED, one.file.layer)
-    return Cause(Kind.REPLACED if one.is_replaced else Kind.REMOVED, one.by)
+    return Cause(Kind.REMOVED if one.replacing is None else Kind.REPLACED, one.by)
 
 
 def _sum_of(cause: Cause, places: Iterable[Place]) -> Place:
@@ -114,7 +114,7 @@ def _sum_of(cause: Cause, places: Iterable[Place]) -> Place:
     return total
 
 
-def _large_places(files: Mapping[str, Place], least: int) -> Iterator[Place]:
+def large_places(files: Mapping[str, Place], least: int) -> Iterator[Place]:
     """The deepest places of at least so many bytes, each without those in it; smaller ones count for their directory."""
     levels = dict[int, dict[str, Place]]()
     for path, place in files.items():

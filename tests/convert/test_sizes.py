@@ -101,6 +101,16 @@ class SizesTest(FolderTest):
         )])
         return len(small)
 
+    def put(self, name: str, layers: list[bytes], commands: list[str]) -> str:
+        """Writes an image, the lowest layer first."""
+        path = self.path(name)
+        os.mkdir(path)
+        history = [{"created_by": text} for text in commands]
+        put_index(path, [put_manifest(
+            path, layers, layers, "linux/amd64", {"os": "linux", "architecture": "amd64", "history": history},
+        )])
+        return path
+
 
 class StacksTest(FolderTest):
     """A test with stacks of small layers."""

@@ -9,7 +9,7 @@ import termios
 import unittest
 from unittest import mock
 
-from images import archive, folder, member, put_index, put_manifest
+from images import archive, folder, member
 from plain_stacks import PlainStack, random_stack
 from support import call
 from test_sizes import SizesTest, StacksTest
@@ -104,16 +104,6 @@ class Numbers(StacksTest):
 
 class OfImages(SizesTest):
     """What is printed of images."""
-
-    def put(self, name: str, layers: list[bytes], commands: list[str]) -> str:
-        """Writes an image, the lowest layer first."""
-        path = self.path(name)
-        os.mkdir(path)
-        history = [{"created_by": text} for text in commands]
-        put_index(path, [put_manifest(
-            path, layers, layers, "linux/amd64", {"os": "linux", "architecture": "amd64", "history": history},
-        )])
-        return path
 
     def test_places(self) -> None:
         """Small files count for their directory, large ones by themselves, each for the layer that hid it."""
