@@ -89,15 +89,22 @@ class Advice(SizesTest):
 
     def test_clean(self) -> None:
         """Nothing is advised if nothing is wasted, or if a cache's file has another name too."""
-        link = member("var/cache/apt/x", kind=LINK, target="usr/x")
-        layers = [archive([member("usr/x", b"x" * 9_000), link]), _data(), _data(_OTHER, name="opt/other")]
+        link = member("var/cache/apt/x", kind=LINK, target="var/lib/x")
+        layers = [archive([member("var/lib/x", b"x" * 9_000), link]), _data(), _data(_OTHER, name="opt/other")]
         commands = [_RUN, _COPY, _COPY]
         self.assertEqual(self.advice("image", layers, commands), [])
         self.assertIn("\nAdvice: none\n\n", call("sizes", self.path("image"), "--advice")[1])
 
+    def test_right_after_one_another(self) -> None:
+        """A file whose owner and then mode is changed: each step names the one before."""
+        found = self.advice("image", [_data(), _data(uid=5), _data(uid=5, mode=0o700)], [_COPY, "RUN chown", "RUN chmod"])
+        self.assertEqual([(one["rule"], one["layer"], one["other"]) for one in found], [("mode", 0, 1), ("owner", 1, 2)])
+        self.assertEqual(found[0]["remedy"], "chmod in the RUN of step 2")
+
     def test_of_a_base(self) -> None:
         """Advice is for the layers over the base."""
-        self.put("image", [_data(), _gone(), _data(_OTHER), _gone()], [_COPY, "rm", _COPY, "rm"])
+        below = archive([member("var/cache/apt/x", b"x" * 9), member("opt/data.bin", _BIG)])
+        self.put("image", [below, _gone(), _data(_OTHER), _gone()], [_COPY, "rm", _COPY, "rm"])
         found = json.loads(call("sizes", self.path("image"), "--advice", "--json", "--base", "2")[1])["advice"]
         self.assertEqual([(one["rule"], one["layer"], one["bytes"]) for one in found], [("removed", 1, 30_000)])
 
