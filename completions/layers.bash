@@ -9,8 +9,9 @@ _layers() {
     COMPREPLY=()
     case $command/$before in
         flatten/--platform) compopt +o default && return ;;
-        flatten/--tag) compopt +o default && return ;;
+        flatten/--from-tag) compopt +o default && return ;;
         flatten/--compress) mapfile -t COMPREPLY < <(compgen -W 'none gzip zstd xz lz4' -- "$word") && return ;;
+        flatten/-t | flatten/--name) compopt +o default && return ;;
         flatten/--layers) compopt +o default && return ;;
         flatten/--base) compopt +o default && return ;;
         flatten/--keep) compopt -o filenames; mapfile -t COMPREPLY < <(compgen -d -- "$word") && return ;;
@@ -21,12 +22,12 @@ _layers() {
         check/--base) compopt +o default && return ;;
         check/--max-waste) compopt +o default && return ;;
         check/--platform) compopt +o default && return ;;
-        check/--tag) compopt +o default && return ;;
+        check/--from-tag) compopt +o default && return ;;
         check/--data-layers) compopt +o default && return ;;
         check/--workers) compopt +o default && return ;;
         check/--blobs) compopt -o filenames; mapfile -t COMPREPLY < <(compgen -d -- "$word") && return ;;
         sizes/--platform) compopt +o default && return ;;
-        sizes/--tag) compopt +o default && return ;;
+        sizes/--from-tag) compopt +o default && return ;;
         sizes/--data-layers) compopt +o default && return ;;
         sizes/--workers) compopt +o default && return ;;
         sizes/--base) compopt +o default && return ;;
@@ -34,9 +35,9 @@ _layers() {
         sizes/--fail-over) compopt +o default && return ;;
         diff/--ignore) compopt +o default && return ;;
         diff/--platform) compopt +o default && return ;;
-        diff/--tag) compopt +o default && return ;;
+        diff/--from-tag) compopt +o default && return ;;
         unpack/--platform) compopt +o default && return ;;
-        unpack/--tag) compopt +o default && return ;;
+        unpack/--from-tag) compopt +o default && return ;;
         unpack/--out) compopt -o filenames; mapfile -t COMPREPLY < <(compgen -d -- "$word") && return ;;
         unpack/--data-layers) compopt +o default && return ;;
         unpack/--workers) compopt +o default && return ;;
@@ -44,7 +45,7 @@ _layers() {
         pack/--blobs) compopt -o filenames; mapfile -t COMPREPLY < <(compgen -d -- "$word") && return ;;
         pack/--compress) mapfile -t COMPREPLY < <(compgen -W 'none gzip zstd' -- "$word") && return ;;
         pack/--platform) compopt +o default && return ;;
-        pack/--tag) compopt +o default && return ;;
+        pack/-t | pack/--name | pack/--tag) compopt +o default && return ;;
         pack/--created-by) compopt +o default && return ;;
         scan/--blobs) compopt -o filenames; mapfile -t COMPREPLY < <(compgen -d -- "$word") && return ;;
         scan/--workers) compopt +o default && return ;;
@@ -54,12 +55,12 @@ _layers() {
     esac
     case $command in
         '') mapfile -t COMPREPLY < <(compgen -W 'flatten check sizes diff unpack pack scan store build mounted -h --help --version --unproved' -- "$word") ;;
-        flatten) [[ $word != -* ]] || mapfile -t COMPREPLY < <(compgen -W '-h --help --platform --tag --overlay-marks --skip-unsupported --out --compress --layers --base --keep --dry-run --stack --data-layers --userxattr --no-userxattr --cross-file-systems --workers --blobs --form' -- "$word") ;;
-        check) [[ $word != -* ]] || mapfile -t COMPREPLY < <(compgen -W '-h --help --strict --json --base --max-waste --platform --tag --overlay-marks --skip-unsupported --stack --data-layers --userxattr --no-userxattr --cross-file-systems --workers --blobs' -- "$word") ;;
-        sizes) [[ $word != -* ]] || mapfile -t COMPREPLY < <(compgen -W '-h --help --platform --tag --overlay-marks --skip-unsupported --stack --data-layers --userxattr --no-userxattr --cross-file-systems --workers --json --bytes --advice --html --base --max-waste --fail-over' -- "$word") ;;
-        diff) [[ $word != -* ]] || mapfile -t COMPREPLY < <(compgen -W '-h --help --ignore --no-config --stat --json --platform --tag --overlay-marks --skip-unsupported' -- "$word") ;;
-        unpack) [[ $word != -* ]] || mapfile -t COMPREPLY < <(compgen -W '-h --help --platform --tag --overlay-marks --skip-unsupported --out --digests-only --stack --data-layers --userxattr --no-userxattr --cross-file-systems --workers --blobs' -- "$word") ;;
-        pack) [[ $word != -* ]] || mapfile -t COMPREPLY < <(compgen -W '-h --help --blobs --out --compress --config --platform --tag --annotations --links --created-by --skip-unsupported' -- "$word") ;;
+        flatten) [[ $word != -* ]] || mapfile -t COMPREPLY < <(compgen -W '-h --help --platform --from-tag --overlay-marks --skip-unsupported --out --compress -t --name --layers --base --keep --dry-run --stack --data-layers --userxattr --no-userxattr --cross-file-systems --workers --blobs --form' -- "$word") ;;
+        check) [[ $word != -* ]] || mapfile -t COMPREPLY < <(compgen -W '-h --help --strict --json --base --max-waste --platform --from-tag --overlay-marks --skip-unsupported --stack --data-layers --userxattr --no-userxattr --cross-file-systems --workers --blobs' -- "$word") ;;
+        sizes) [[ $word != -* ]] || mapfile -t COMPREPLY < <(compgen -W '-h --help --platform --from-tag --overlay-marks --skip-unsupported --stack --data-layers --userxattr --no-userxattr --cross-file-systems --workers --json --bytes --advice --html --base --max-waste --fail-over' -- "$word") ;;
+        diff) [[ $word != -* ]] || mapfile -t COMPREPLY < <(compgen -W '-h --help --ignore --no-config --stat --json --platform --from-tag --overlay-marks --skip-unsupported' -- "$word") ;;
+        unpack) [[ $word != -* ]] || mapfile -t COMPREPLY < <(compgen -W '-h --help --platform --from-tag --overlay-marks --skip-unsupported --out --digests-only --stack --data-layers --userxattr --no-userxattr --cross-file-systems --workers --blobs' -- "$word") ;;
+        pack) [[ $word != -* ]] || mapfile -t COMPREPLY < <(compgen -W '-h --help --blobs --out --compress --config --platform -t --name --tag --annotations --links --created-by --skip-unsupported' -- "$word") ;;
         scan) [[ $word != -* ]] || mapfile -t COMPREPLY < <(compgen -W '-h --help --out --blobs --digests-only --userxattr --no-userxattr --cross-file-systems --skip-unsupported --workers' -- "$word") ;;
         store) [[ $word != -* ]] || mapfile -t COMPREPLY < <(compgen -W '-h --help --out --digests-only --userxattr --no-userxattr --cross-file-systems --skip-unsupported --workers' -- "$word") ;;
         build) [[ $word != -* ]] || mapfile -t COMPREPLY < <(compgen -W '-h --help --blobs --out --compress --userxattr --no-userxattr' -- "$word") ;;

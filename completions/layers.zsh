@@ -29,11 +29,13 @@ _layers() {
                     '-h[show this help message and exit]' \
                     '--help[show this help message and exit]' \
                     '--platform[which of several images, such as linux/amd64]:OS/ARCH:' \
-                    '--tag[which of several images, by its name in the image'\''s index]:NAME:' \
+                    '--from-tag[which of several images, by its name in the image'\''s index]:NAME:' \
                     '--overlay-marks[takes attributes trusted.overlay.* of the image'\''s archives too, which change what the layers show]' \
                     '--skip-unsupported[leaves out what can'\''t be stated, with a warning each, instead of refusing it]' \
                     '--out[folder to make, or a file whose name ends in .tar]:IMAGE:_files' \
                     '--compress[packs the layers, at a level such as gzip\:9]:none|gzip|zstd|xz|lz4|METHOD:LEVEL:(none gzip zstd xz lz4)' \
+                    '-t[name of the new image, such as shop\:2]:NAME:' \
+                    '--name[name of the new image, such as shop\:2]:NAME:' \
                     '--layers[how many layers are left at most]:N:' \
                     '--base[the lowest N layers, or those of this image, stay byte for byte, and all above becomes one layer]:N|IMAGE:' \
                     '--keep[folder to make, absent or empty, for all that is made on the way]:DIR:_files -/' \
@@ -57,7 +59,7 @@ _layers() {
                     '--base[the lowest N layers, or those of this image, are a base, which doesn'\''t count as waste]:N|IMAGE:' \
                     '--max-waste[takes it for a fault if more is wasted, such as 10%%, 50MB or 50MiB]:PERCENT|BYTES:' \
                     '--platform[which of several images, such as linux/amd64]:OS/ARCH:' \
-                    '--tag[which of several images, by its name in the image'\''s index]:NAME:' \
+                    '--from-tag[which of several images, by its name in the image'\''s index]:NAME:' \
                     '--overlay-marks[takes attributes trusted.overlay.* of the image'\''s archives too, which change what the layers show]' \
                     '--skip-unsupported[leaves out what can'\''t be stated, with a warning each, instead of refusing it]' \
                     '--stack[layers in place of an image, the topmost first]:LAYER:_files' \
@@ -74,7 +76,7 @@ _layers() {
                     '-h[show this help message and exit]' \
                     '--help[show this help message and exit]' \
                     '--platform[which of several images, such as linux/amd64]:OS/ARCH:' \
-                    '--tag[which of several images, by its name in the image'\''s index]:NAME:' \
+                    '--from-tag[which of several images, by its name in the image'\''s index]:NAME:' \
                     '--overlay-marks[takes attributes trusted.overlay.* of the image'\''s archives too, which change what the layers show]' \
                     '--skip-unsupported[leaves out what can'\''t be stated, with a warning each, instead of refusing it]' \
                     '--stack[layers in place of an image, the topmost first]:LAYER:_files' \
@@ -101,7 +103,7 @@ _layers() {
                     '--stat[prints only numbers]' \
                     '--json[prints objects for a program, one a line]' \
                     '--platform[which of several images, such as linux/amd64]:OS/ARCH:' \
-                    '--tag[which of several images, by its name in the image'\''s index]:NAME:' \
+                    '--from-tag[which of several images, by its name in the image'\''s index]:NAME:' \
                     '--overlay-marks[takes attributes trusted.overlay.* of the image'\''s archives too, which change what the layers show]' \
                     '--skip-unsupported[leaves out what can'\''t be stated, with a warning each, instead of refusing it]' \
                     '*:OLD:'
@@ -111,7 +113,7 @@ _layers() {
                     '-h[show this help message and exit]' \
                     '--help[show this help message and exit]' \
                     '--platform[which of several images, such as linux/amd64]:OS/ARCH:' \
-                    '--tag[which of several images, by its name in the image'\''s index]:NAME:' \
+                    '--from-tag[which of several images, by its name in the image'\''s index]:NAME:' \
                     '--overlay-marks[takes attributes trusted.overlay.* of the image'\''s archives too, which change what the layers show]' \
                     '--skip-unsupported[leaves out what can'\''t be stated, with a warning each, instead of refusing it]' \
                     '--out[folder to make, absent or empty]:DIR:_files -/' \
@@ -134,7 +136,9 @@ _layers() {
                     '--compress[packs the layers, at a level such as gzip\:9]:none|gzip|zstd|METHOD:LEVEL:(none gzip zstd)' \
                     '--config[what the image runs, as whom and on which platform, such as the config.json that unpack writes]:FILE:_files' \
                     '--platform[what the image says that it is for]:OS/ARCH:' \
-                    '--tag[name of the image in its index]:NAME:' \
+                    '-t[name of the new image, such as shop\:2]:NAME:' \
+                    '--name[name of the new image, such as shop\:2]:NAME:' \
+                    '--tag[name of the new image, such as shop\:2]:NAME:' \
                     '--annotations[annotations of the image'\''s manifest, such as the annotations.json that unpack writes]:FILE:_files' \
                     '--links[hard links of layers that have no such file beside them]:FILE:_files' \
                     '--created-by[what the history says of layers that --config has no line for]:TEXT:' \

@@ -12,6 +12,7 @@ from .common.escaping import printable
 from .common.faults import OTHER, ClosedPipe, Fault, UsageFault
 from .common.outputs import standard_output
 from .common.program import choose_program
+from .common.progress import note
 from .flatten.image import FlattenOptions, flatten, flatten_commands
 from .flatten.stack import FlattenStackOptions, OutForm, flatten_stack
 from .folder.build import BuildOptions
@@ -23,7 +24,7 @@ from .folder.stores import StoreOptions, store
 from .image.compression import LEVELS, NONE
 from .image.configuration import Making
 from .image.pack import PackOptions, pack
-from .image.targets import Target, target_of
+from .image.targets import Form, Target, target_of
 from .image.unpack import UnpackOptions, unpack
 from .look.diff import DiffOptions, diff
 from .look.sources import Choice, Source
@@ -33,7 +34,7 @@ from .squashfs.programs import Packing
 from .words import NAME, Run, parser_of
 
 _INTERRUPTED = 128
-_OF_IMAGES = ("platform", "tag", "overlay_marks", "dry_run")  # words of commands that take an image or a stack
+_OF_IMAGES = ("platform", "from_tag", "overlay_marks", "dry_run")  # words of commands that take an image or a stack
 _OF_STACKS = ("blobs", "data_layers", "form", "userxattr", "cross_file_systems")
 
 
@@ -113,7 +114,7 @@ def _unpack(words: argparse.Namespace) -> None:
         write_stack(_stack_of(words, words.digests_only), _folder(words.out))
         return
     unpack(UnpackOptions(
-        image=_folder(words.image), out=_folder(words.out), platform=words.platform, tag=words.tag,
+        image=_folder(words.image), out=_folder(words.out), platform=words.platform, tag=words.from_tag,
         skip_unsupported=words.skip_unsupported, overlay_marks=words.overlay_marks, digests_only=words.digests_only,
     ))
 
@@ -121,13 +122,20 @@ def _unpack(words: argparse.Namespace) -> None:
 def _pack(words: argparse.Namespace) -> None:
     require_order(words.layers)
     out = _target(words.out)
-    if None not in (out.tag, words.tag) and out.tag != words.tag:
-        raise UsageFault(f"{words.out} and --tag give two names")
     pack(PackOptions(
-        layers=words.layers, blobs=_folder(words.blobs), out=out, platform=words.platform, tag=out.tag or words.tag,
+        layers=words.layers, blobs=_folder(words.blobs), out=out, platform=words.platform, name=_name(out, words.name),
         skip_unsupported=words.skip_unsupported, config=words.config, compress=words.compress, links=words.links,
         annotations=words.annotations, making=Making(words.created_by),
     ))
+
+
+def _name(out: Target, name: str | None) -> str | None:
+    """The name of a new image, which the word of its place may have too."""
+    if None not in (out.tag, name) and out.tag != name:
+        raise UsageFault(f"{out.word}:{out.tag} and --name give two names")
+    if name is not None and out.form is Form.ARCHIVE and out.is_path and not out.docker_names(name):
+        note(f"docker takes no name {name}" + ("" if ":" in name else f"; {name}:latest is one"))
+    return out.tag or name
 
 
 def _take_folder_of_unpack(words: argparse.Namespace) -> None:
@@ -181,10 +189,11 @@ def _flatten(words: argparse.Namespace) -> None:
 def _flatten_image(words: argparse.Namespace) -> None:
     if words.compress and words.compress.problem(LEVELS):
         raise UsageFault(f"--compress {words.compress} is for a squashfs alone")
+    out = _target(words.out, words.dry_run)
     options = FlattenOptions(
-        image=_folder(words.image), out=_target(words.out, words.dry_run), layers=words.layers,
+        image=_folder(words.image), out=out, name=_name(out, words.name), layers=words.layers,
         base=words.base and _folder(words.base),
-        keep=words.keep and _folder(words.keep), platform=words.platform, tag=words.tag,
+        keep=words.keep and _folder(words.keep), platform=words.platform, tag=words.from_tag,
         skip_unsupported=words.skip_unsupported, overlay_marks=words.overlay_marks, compress=words.compress,
     )
     if words.dry_run:
@@ -194,6 +203,8 @@ def _flatten_image(words: argparse.Namespace) -> None:
 
 
 def _flatten_stack(words: argparse.Namespace) -> None:
+    if words.name is not None:
+        raise UsageFault("--name is for images alone")
     if words.base is not None:
         raise UsageFault("--base is for images alone; --layers N leaves N layers of a stack")
     if words.compress and words.compress.method == NONE:
@@ -209,7 +220,7 @@ def _sizes(words: argparse.Namespace) -> None:
     stack = None if words.stack is None else _stack_of(words, True)
     sizes(SizesOptions(
         image=None if words.image is None else _folder(words.image), stack=stack, data_layers=words.data_layers,
-        platform=words.platform, tag=words.tag, skip_unsupported=words.skip_unsupported,
+        platform=words.platform, tag=words.from_tag, skip_unsupported=words.skip_unsupported,
         overlay_marks=words.overlay_marks, as_json=words.json, exact=words.bytes, advice=words.advice,
         page=words.html, max_waste=words.max_waste, base=words.base and _folder(words.base),
     ), _print)
@@ -242,7 +253,7 @@ def _diff(words: argparse.Namespace) -> None:
 
 def _choice(words: argparse.Namespace) -> Choice:
     return Choice(
-        platform=words.platform, tag=words.tag, skip_unsupported=words.skip_unsupported,
+        platform=words.platform, tag=words.from_tag, skip_unsupported=words.skip_unsupported,
         overlay_marks=words.overlay_marks,
     )
 

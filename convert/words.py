@@ -4,6 +4,7 @@ import argparse
 from collections.abc import Callable, Mapping
 
 from . import VERSION
+from .common.progress import note
 from .flatten.stack import OutForm
 from .folder.build_squashfs import SUFFIX as SQUASHFS_SUFFIX
 from .image.compression import LEVELS, PLAIN, Compression, compression_of
@@ -287,7 +288,8 @@ def _add_image(parser: argparse.ArgumentParser, may_be_absent: bool = False) -> 
 def _add_choice(parser: argparse.ArgumentParser) -> None:
     """Which of several images is read, and how."""
     parser.add_argument("--platform", metavar="OS/ARCH", help="which of several images, such as linux/amd64")
-    parser.add_argument("--tag", metavar="NAME", help="which of several images, by its name in the image's index")
+    parser.add_argument("--from-tag", metavar="NAME", help="which of several images, by its name in the image's index")
+    parser.add_argument("--tag", dest="from_tag", action=_OldTag, help=argparse.SUPPRESS)
     parser.add_argument(
         "--overlay-marks", action="store_true",
         help="takes attributes trusted.overlay.* of the image's archives too, which change what the layers show",
@@ -307,7 +309,7 @@ def _add_pack(parser: argparse.ArgumentParser) -> None:
         "--platform", metavar="OS/ARCH", type=_platform,
         help=f"what the image says that it is for [default: that of --config, or {USUAL_PLATFORM}]",
     )
-    parser.add_argument("--tag", metavar="NAME", type=_name, help="name of the image in its index")
+    _add_name(parser, "--tag")
     parser.add_argument(
         "--annotations", metavar="FILE",
         help="annotations of the image's manifest, such as the annotations.json that unpack writes",
@@ -331,6 +333,23 @@ def _add_new_image(parser: argparse.ArgumentParser) -> None:
     )
 
 
+def _add_name(parser: argparse.ArgumentParser, *others: str) -> None:
+    """How a new image is called."""
+    parser.add_argument(
+        "-t", "--name", *others, metavar="NAME", type=_name, dest="name", help="name of the new image, such as shop:2",
+    )
+
+
+class _OldTag(argparse.Action):
+    """The old word of --from-tag, which says so."""
+
+    def __call__(
+        self, parser: argparse.ArgumentParser, namespace: argparse.Namespace, values: object, option_string: str | None = None,
+    ) -> None:
+        note("--tag is --from-tag: which of several images is read; --name names a new one")
+        setattr(namespace, self.dest, values)
+
+
 def _add_out(parser: argparse.ArgumentParser, explanation: str) -> None:
     parser.add_argument("--out", metavar="IMAGE", required=True, help=explanation)
 
@@ -348,6 +367,7 @@ def _add_flatten(parser: argparse.ArgumentParser) -> None:
         "--compress", metavar=_methods(every), type=_compression(every),
         help=f"{_PACKS}; xz and lz4 are for a squashfs [default: as the topmost given layer, or squashfs, is packed]",
     )
+    _add_name(parser)
     left = parser.add_mutually_exclusive_group()
     left.add_argument(
         "--layers", metavar="N", type=_layers, default=1,

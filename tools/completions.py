@@ -61,7 +61,7 @@ def words_of_layers() -> tuple[Command, list[Command]]:
 
 
 def _command(name: str, about: str, parser: argparse.ArgumentParser) -> Command:
-    given = [it for it in parser._actions if it.option_strings]
+    given = [it for it in parser._actions if it.option_strings and it.help != argparse.SUPPRESS]
     arguments = [str(it.metavar) for it in parser._actions if not it.option_strings]
     return Command(name, about, tuple(map(_option, given)), arguments[0] if arguments else "")
 

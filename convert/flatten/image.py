@@ -46,6 +46,7 @@ class FlattenOptions:
 
     image: str
     out: Target
+    name: str | None = None  # of the new image, if it isn't that of the given one
     layers: int = 1
     base: str | None = None  # the layers that stay as they are: an image, or how many, the lowest ones
     keep: str | None = None
@@ -240,7 +241,7 @@ class _ImageRunner(Runner):
         """How the image is packed of layers that are made and such that stay."""
         blobs, config, links = (self.path(f"{STACK}/{name}") for name in _FOR_PACK)
         return PackOptions(
-            layers=[self.path(layer) for layer in made], kept=kept, blobs=blobs, out=self._target(), tag=self._given.name,
+            layers=[self.path(layer) for layer in made], kept=kept, blobs=blobs, out=self._target(), name=self._given.name,
             config=config, compress=self._given.compress, links=links, has_checked_blobs=True, new_layers=new_layers,
             annotations=self.path(_ANNOTATIONS) if self._given.has_annotations else None, making=self._given.making,
         )
@@ -264,7 +265,7 @@ class _ImageRunner(Runner):
 def _name_of(image: Image, options: FlattenOptions) -> str | None:
     """The name of the new image: the one that was asked for, as the given image spells it, or else its first."""
     asked = spellings(options.tag) if options.tag else image.names
-    return options.out.tag or next((name for name in image.names if name in asked), options.tag)
+    return options.name or next((name for name in image.names if name in asked), options.tag)
 
 
 def _compression_of(image: Image, options: FlattenOptions) -> Compression:
@@ -299,7 +300,7 @@ class _DryRun:
         options = self._options
         with _opened(options) as (image, self.base):
             self._given = _given_of(image, options, self.base)
-        words = _given("--platform", options.platform) + _given("--tag", options.tag)
+        words = _given("--platform", options.platform) + _given("--from-tag", options.tag)
         if options.skip_unsupported:
             words.append("--skip-unsupported")
         self._add_tool("unpack", _word_of_image(options.image), "--out", self._path(STACK), *words, *self._marks)
@@ -341,7 +342,7 @@ class _DryRun:
             self.lines.append("# (flatten copies lower layers that stay the same, with their digests; pack packs all anew)\n")
         self._add_tool(
             "pack", *paths, "--blobs", blobs, "--config", config, "--links", links, "--out", out,
-            "--compress", str(given.compress), *([] if given.name is None else [f"--tag={given.name}"]),
+            "--compress", str(given.compress), *([] if given.name is None else [f"--name={given.name}"]),
             *_given("--annotations", self._path(_ANNOTATIONS) if given.has_annotations else None),
             f"--created-by={given.making.made_by}",
         )

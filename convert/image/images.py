@@ -210,14 +210,14 @@ def image_place(word: str, tag: str | None) -> tuple[str, str | None]:
     """The path and the tag of an image that a word names, as a path or as skopeo has it: `oci:PATH:TAG`."""
     if is_fetched(word):
         if tag is not None:
-            raise UsageFault(f"{word} and --tag name two images")
+            raise UsageFault(f"{word} and --from-tag name two images")
         return word, None
     transport, colon, rest = word.partition(":")
     if not colon or transport not in TRANSPORTS or os.path.lexists(word):
         return word, tag
     path, _, own = (rest, "", "") if transport == "dir" else rest.partition(":")
     if own and tag not in (None, own):
-        raise UsageFault(f"{word} and --tag name two images")
+        raise UsageFault(f"{word} and --from-tag name two images")
     return path, own or tag
 
 
@@ -457,14 +457,14 @@ def _one_of(path: str, choices: Sequence[_C], platform: str | None, tag: str | N
     fitting = [choice for choice in choices if choice.matches(platform, tag)]
     if len(fitting) == 1:
         return fitting[0]
-    asked = " and ".join([f"{word} {value}" for word, value in (("--tag", tag), ("--platform", platform)) if value])
+    asked = " and ".join([f"{word} {value}" for word, value in (("--from-tag", tag), ("--platform", platform)) if value])
     raise _not_one(path, list(map(str, choices)), f"none of them is {asked}" if not fitting else None)
 
 
 def _not_one(path: str, there: list[str], none: str | None) -> ReadFault:
     if not there:
         return cannot_read(path, "it has no image whose manifest is there")
-    which = none or "say which by --platform or --tag"
+    which = none or "say which by --platform or --from-tag"
     more = "; .." if len(there) > _MOST_TOLD else ""
     return cannot_read(path, f"it has {len(there)} images ({'; '.join(there[:_MOST_TOLD])}{more}); {which}")
 

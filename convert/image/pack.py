@@ -43,7 +43,7 @@ class PackOptions:
     blobs: str
     out: Target
     platform: str | None = None
-    tag: str | None = None
+    name: str | None = None
     skip_unsupported: bool = False
     config: str | None = None
     compress: Compression = PLAIN
@@ -154,7 +154,7 @@ def _write_image(files: ImageFiles, layers: list[list[Entry]], given: _Given, op
     written += [_write_layer(files, layer, types, options) for layer in layers]
     digests = [layer.unpacked_digest for layer in written]
     image = NewImage(
-        layers=[layer.described for layer in written], annotations=given.annotations, types=types, name=options.tag,
+        layers=[layer.described for layer in written], annotations=given.annotations, types=types, name=options.name,
         configuration=for_layers(given.configuration, options.platform, digests, options.making),
     )
     put_index(files, options.out, [put_image(files, options.out, image)])

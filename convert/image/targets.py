@@ -55,6 +55,11 @@ class Target:
         return self.form is Form.ARCHIVE and self.path == STANDARD_OUTPUT
 
     @property
+    def is_path(self) -> bool:
+        """Whether it is named as a path, and not as skopeo does it."""
+        return self.word.partition(":")[0] not in TRANSPORTS
+
+    @property
     def label(self) -> str:
         """Its place as a person named it."""
         path = self.given or self.path

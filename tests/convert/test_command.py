@@ -607,7 +607,7 @@ class Packing(CommandTest):
         layer = self.write_manifest({"path": "/x", "xattrs": marks})
         words = ("--blobs", self.path("blobs"), "--out", self.path("image"), "--tag", "t")
         self.require_done(call("pack", layer, *words))
-        more = ("--tag", "t", "--overlay-marks")
+        more = ("--from-tag", "t", "--overlay-marks")
         self.require_done(call("unpack", self.path("image"), "--out", self.path("out"), *more))
         self.assertEqual(read_manifest(self.path("out", "l0.json")), read_manifest(layer))
 

@@ -286,8 +286,12 @@ with mock.patch("convert.common.program.find_program", return_value={self.progra
         put_index(self.image, [
             {**one, "annotations": {"org.opencontainers.image.ref.name": name}} for one, name in zip(described, "ab")
         ])
-        self.require_done(self.flatten("--tag", "b"))
-        self.require_done(self.flatten("--tag", "b", image=self.path("all", "flat"), out="again"))
+        result = self.flatten("--tag", "b")
+        self.require_done(result)
+        self.assertEqual(result[2].splitlines()[0], (
+            "layers: --tag is --from-tag: which of several images is read; --name names a new one"
+        ))
+        self.require_done(self.flatten("--from-tag", "b", image=self.path("all", "flat"), out="again"))
         self.require_done(self.flatten(image=self.path("all", "flat"), out="more"))
         for name in ("flat", "again", "more"):
             with open(self.path("all", name, "index.json"), encoding="utf-8") as file:
@@ -297,12 +301,39 @@ with mock.patch("convert.common.program.find_program", return_value={self.progra
         with open(self.path("all", "named", "index.json"), encoding="utf-8") as file:
             self.assertIn('"a"', file.read())
         write_saved(self.path("in", "saved"), [archive(LAYERS[0])])
-        self.require_done(self.flatten("--tag", "small", image=self.path("in", "saved"), out="saved"))
+        self.require_done(self.flatten("--from-tag", "small", image=self.path("in", "saved"), out="saved"))
         with open(self.path("all", "saved", "index.json"), encoding="utf-8") as file:
             self.assertIn('"small:latest"', file.read())
         self.require_done(call("flatten", self.path("in", "saved"), "--out", f"oci:{self.path('all', 'own')}:x"))
         with open(self.path("all", "own", "index.json"), encoding="utf-8") as file:
             self.assertIn('"x"', file.read())
+
+    def test_a_name_for_the_new_image(self) -> None:
+        """That of --name or -t, or of --out; docker's list has it if docker takes it."""
+        for words, out, name, docker, said in (
+            (("--name", "shop:2"), "new.tar", "shop:2", ["shop:2"], None), (("-t", "shop"), "x", "shop", None, None),
+            (("-t", "shop"), "x.tar", "shop", None, "layers: docker takes no name shop; shop:latest is one"),
+            (("-t", "S:1"), "x.tar", "S:1", None, "layers: docker takes no name S:1"),
+            (("-t", "a"), "oci-archive:o", "a", None, None), (("--name", "r/a"), "docker-archive:d", "r/a", ["r/a:latest"], None),
+        ):
+            transport, colon, path = out.rpartition(":")
+            place = self.path("all", path)
+            result = call("flatten", self.image, "--out", f"{transport}{colon}{place}", *words)
+            self.require_done(result)
+            self.assertEqual(next((line for line in result[2].splitlines() if "docker takes" in line), None), said)
+            with contextlib.chdir(self.path("all")):
+                if not os.path.isdir(path):
+                    shutil.unpack_archive(path, "of", "tar")
+                    os.unlink(path)
+                folder = path if os.path.isdir(path) else "of"
+                (listed,) = json.loads(Path(folder, "index.json").read_bytes())["manifests"]
+                saved = Path(folder, "manifest.json")
+                names = json.loads(saved.read_bytes())[0]["RepoTags"] if saved.exists() else None
+                shutil.rmtree(folder)
+            self.assertEqual((listed["annotations"], names), ({"org.opencontainers.image.ref.name": name}, docker))
+        result = call("flatten", self.image, "--out", f"oci:{self.path('all', 'x')}:y", "--name", "z")
+        self.require_fault(result, 2, ":y and --name give two names")
+        self.left()
 
     def layers_in(self, *names: str) -> list[tuple[str, bytes]]:
         """The media types and bytes of an image's layers, the lowest first."""

@@ -181,7 +181,7 @@ class Stacks(StackTest):
 
     def test_words_that_do_not_fit(self) -> None:
         for words, messages in (
-            (("--tag", "x"), "--tag is for images alone"), (("--dry-run",), "--dry-run is for images alone"),
+            (("--from-tag", "x"), "--from-tag is for images alone"), (("-t", "x"), "--name is for images alone"), (("--dry-run",), "--dry-run is for images alone"),
             (("--compress", "none"), "--compress none is for images alone"), ((self.topmost,), "name an IMAGE"),
             (("--layers", 2), "--form squashfs makes them squashfs files"), (("--data-layers", 3), "of 3 layers 3 can't"),
             (("--keep", self.path("flat.squashfs")), "--keep and --out must be two places"),

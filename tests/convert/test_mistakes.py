@@ -259,7 +259,7 @@ class Names(FolderTest):
                     ["sh", "-c", f"tool() {{ printf '%s\\0' \"$@\"; }}; work=w; {line.replace(line.split()[0], 'tool', 1)}"],
                     capture_output=True, check=True,
                 ).stdout.split(b"\0")
-                self.assertIn(f"--tag={name}".encode(), words)
+                self.assertIn(f"--name={name}".encode(), words)
                 self.empty()
 
 

@@ -265,7 +265,7 @@ class Telling(SizesTest):
             (2, ("-", "--base", "-"), "can't both be standard input"),
             (3, (image, "--base", self.path("none")), "none"),
             (2, (image, "--data-layers", "1"), "--data-layers is for --stack alone"),
-            (2, ("--tag", "x", "--stack", lone), "--tag is for images alone"),
+            (2, ("--from-tag", "x", "--stack", lone), "--from-tag is for images alone"),
             (2, ("--data-layers", "1", "--stack", lone), "of 1 layer 1 can't be data-only"),
             (3, ("--stack", lone), f"cannot read {lone}: "),
             (3, (self.path("absent"),), "absent"),

@@ -102,7 +102,7 @@ class Fetched(FolderTest):
         self.require_fault(self.unpack("docker://x"), 3, "cannot read docker://x: skopeo: skopeo ended with status 7")
         self.put_skopeo(_COPIES)
         self.require_fault(self.unpack("docker://x", "--platform", "linux/arm64"), 3, "none of them is --platform linux/arm64")
-        self.require_fault(self.unpack("docker://x:1", "--tag", "2"), 2, "docker://x:1 and --tag name two images")
+        self.require_fault(self.unpack("docker://x:1", "--from-tag", "2"), 2, "docker://x:1 and --from-tag name two images")
         with open(self.path("copy", "manifest.json"), encoding="utf-8") as file:
             layer = json.load(file)["layers"][0]["digest"].removeprefix("sha256:")
         with open(self.path("copy", layer), "r+b") as file:
@@ -236,7 +236,7 @@ class Layers(FolderTest):
         again = ["--stack", *layer_paths(self.path("out"), 2), "--blobs", self.path("out", "blobs"), "--out", self.path("again")]
         self.require_done(call("unpack", *again))
         self.require_fault(call("unpack", "image", *words), 2, "name an IMAGE, or layers by --stack")
-        self.require_fault(call("unpack", *words[:3], "--tag", "x", *words[3:]), 2, "--tag is for images")
+        self.require_fault(call("unpack", *words[:3], "--from-tag", "x", *words[3:]), 2, "--from-tag is for images")
 
 
 if __name__ == "__main__":

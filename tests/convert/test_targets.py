@@ -58,14 +58,14 @@ class Targets(FolderTest):
         for word, more, path, names, name, docker in (
             ("new", (), "new", LAYOUT, None, None), ("new/", (), "new", LAYOUT, None, None),
             ("new.tar", (), "new.tar", saved, None, None), ("new.d", (), "new.d", LAYOUT, None, None),
-            ("new", ("--tag", "x"), "new", LAYOUT, "x", None), ("oci:new", (), "new", LAYOUT, None, None),
+            ("new", ("--name", "x"), "new", LAYOUT, "x", None), ("oci:new", (), "new", LAYOUT, None, None),
             ("oci:new.tar:x", (), "new.tar", LAYOUT, "x", None), ("oci:new.gz", (), "new.gz", LAYOUT, None, None),
             ("oci-archive:new:x", (), "new", saved, "x", None),
             ("oci-archive:new.tar:x/y", (), "new.tar", saved, "x/y", "x/y:latest"),
             ("docker-archive:new:x", (), "new", saved, "x", "x:latest"),
             ("docker-archive:new:localhost:5000/x:1", (), "new", saved, "localhost:5000/x:1", "localhost:5000/x:1"),
             ("docker-archive:new", ("--tag", "x"), "new", saved, "x", "x:latest"),
-            ("docker-archive:new", ("--tag", "X"), "new", saved, "X", None),
+            ("docker-archive:new", ("-t", "X"), "new", saved, "X", None),
             ("new.tar", ("--tag", "x"), "new.tar", saved, "x", None),
             ("new.tar", ("--tag", "x:1"), "new.tar", saved, "x:1", "x:1"),
             ("dir:new", (), "new", ["manifest.json", "version"], None, None),
@@ -94,7 +94,7 @@ class Targets(FolderTest):
         with tarfile.open("new.tar") as file:
             file.extractall("saved")
         os.unlink("saved/index.json")
-        self.require_done(call("unpack", "saved", "--out", "again", "--tag", "x"))
+        self.require_done(call("unpack", "saved", "--out", "again", "--from-tag", "x"))
         with open("again/config.json", "rb") as new, open("stack/config.json", "rb") as old:
             self.assertEqual(json.load(new)["os"], json.load(old)["os"])
 
@@ -102,7 +102,7 @@ class Targets(FolderTest):
         hint = "an archive isn't packed as a whole; name a .tar, --compress packs its layers"
         for word, reason in (
             ("x.tar.gz", hint), ("x.tgz", hint), ("x.tar.zst", hint), ("oci-archive:x.gz", hint),
-            ("docker-archive:x.tar:A", "A is no name that docker takes"), ("oci:x:y", "oci:x:y and --tag give two names"),
+            ("docker-archive:x.tar:A", "A is no name that docker takes"), ("oci:x:y", "oci:x:y and --name give two names"),
         ):
             for words in (self.words, ["flatten", "image"]):
                 if word != "oci:x:y" or words[0] == "pack":

@@ -145,11 +145,11 @@ class Forms(ToolTest):
 
     def test_words_of_skopeo(self) -> None:
         image = self.path("image")
-        for words in ((f"oci:{image}",), (f"oci:{image}:t",), (f"oci:{image}", "--tag", "t")):
+        for words in ((f"oci:{image}",), (f"oci:{image}:t",), (f"oci:{image}", "--from-tag", "t")):
             self.require_same(*words)
         result = call("unpack", f"oci:{image}:u", "--out", self.path("out"))
-        self.require_fault(result, 3, "1 images (linux/amd64 t); none of them is --tag u")
-        result = call("unpack", f"oci:{image}:t", "--tag", "u", "--out", self.path("out"))
+        self.require_fault(result, 3, "1 images (linux/amd64 t); none of them is --from-tag u")
+        result = call("unpack", f"oci:{image}:t", "--from-tag", "u", "--out", self.path("out"))
         self.require_fault(result, 2, "name two images")
 
     def test_copies_of_skopeo(self) -> None:
