@@ -300,8 +300,8 @@ class _Worker:
             if not poll.poll(None if seconds is None else seconds * 1_000):
                 return None
             size = int.from_bytes(self._received(_NUMBER_BYTES), "little")
-            number, *read = marshal.loads(self._received(size))
-            self.read[number] = _Read(*read)
+            done, *read = marshal.loads(self._received(size))
+            self.read[done] = _Read(*read)
         return self.read[number]
 
     def _received(self, count: int) -> bytes:
