@@ -8,11 +8,10 @@ import traceback
 from collections.abc import Iterable, Mapping, Sequence
 
 from .check.command import CheckOptions, check
-from .common.escaping import printable
 from .common.faults import OTHER, ClosedPipe, Fault, UsageFault
 from .common.outputs import standard_output
 from .common.program import choose_program
-from .common.progress import note
+from .common.progress import complain, note
 from .flatten.image import FlattenOptions, flatten, flatten_commands
 from .flatten.stack import FlattenStackOptions, OutForm, flatten_stack
 from .folder.build import BuildOptions
@@ -31,7 +30,7 @@ from .look.sources import Choice, Source
 from .model.stacks import BLOBS, require_order, stack_in
 from .sizes.command import SizesOptions, sizes
 from .squashfs.programs import Packing
-from .words import NAME, Run, parser_of
+from .words import Run, parser_of
 
 _INTERRUPTED = 128
 _OF_IMAGES = ("platform", "from_tag", "overlay_marks", "dry_run")  # words of commands that take an image or a stack
@@ -52,18 +51,18 @@ def main(words: Sequence[str]) -> int:
         return _INTERRUPTED + signal.SIGPIPE
     except Fault as fault:
         if fault.text:
-            print(f"{NAME}: {fault.text}", file=sys.stderr)
+            complain(fault.text)
         return fault.status
     except KeyboardInterrupt:
         return _INTERRUPTED + signal.SIGINT
     except MemoryError:
-        print(f"{NAME}: out of memory", file=sys.stderr)
+        complain("out of memory")
         return OTHER
     except OSError as error:
-        print(f"{NAME}: {printable(str(error))}", file=sys.stderr)
+        complain(str(error))
         return OTHER
     except Exception as error:  # pylint: disable=broad-except
-        print(f"{NAME}: unforeseen, please report it: {printable(_description(error))}", file=sys.stderr)
+        complain(f"unforeseen, please report it: {_description(error)}")
         return OTHER
 
 

@@ -1,6 +1,8 @@
 """The proved program, run on manifests."""
 
+import contextlib
 import os
+import shlex
 import shutil
 import signal
 import subprocess
@@ -10,7 +12,9 @@ from pathlib import Path
 from typing import IO
 
 from .faults import FAULTY, OTHER, Fault, ReadFault, UsageFault, reading, writing
+from .huge_pages import with_huge_pages
 from .processes import running
+from .progress import Progress, detail
 
 NAME = "ovl_layers"
 _HERE = Path(__file__).resolve().parents[2]
@@ -108,8 +112,13 @@ def run_program(program: str, words: Sequence[str], folder: str, report: str, fa
     faults the report keeps them, and they refuse nothing.
     """
     report, command = f"{folder}/{report}", [program, *words]
-    with writing(report), open(report, "xb") as file, running(command, stdout=file, stderr=subprocess.PIPE, folder=folder) as process:
-        messages = process.communicate()[1]
+    environment = with_huge_pages(os.environ)
+    detail(f"runs {shlex.join(command)}")
+    with (
+        writing(report), open(report, "xb") as file,
+        running(command, stdout=file, stderr=subprocess.PIPE, folder=folder, environment=environment) as process,
+    ):
+        messages = _messages(process, Progress(f"{NAME} {words[0]}"))
     print(messages.decode("utf-8", "replace"), end="", file=sys.stderr)
     status = process.returncode
     if status == FAULTY:
@@ -121,6 +130,17 @@ def run_program(program: str, words: Sequence[str], folder: str, report: str, fa
     if status > 0:
         raise Refused(f"{NAME} {words[0]} ended with status {status}; nothing is written", status)
     return _last_line(report)
+
+
+def _messages(process: "subprocess.Popen[bytes]", progress: Progress) -> bytes:
+    """All that a process prints as messages, while the progress says how long it takes."""
+    try:
+        while True:
+            with contextlib.suppress(subprocess.TimeoutExpired):
+                return process.communicate(timeout=progress.seconds())[1]
+            progress.step(0)
+    finally:
+        progress.end()
 
 
 def _copy(report: str, out: IO[str]) -> None:

@@ -11,7 +11,7 @@ from ..common.faults import UsageFault, cannot_write, writing
 from ..common.omissions import Loss, Losses
 from ..common.open_dirs import place_of
 from ..common.outputs import NEW, folder_made, new_file, note_stages_beside, require_empty, write_text
-from ..common.progress import counted, note_path
+from ..common.progress import counted, layers_at_work, note_path
 from ..folder.build import BuildOptions, build
 from ..folder.build_squashfs import SUFFIX, build_squashfs
 from ..folder.stack_layers import StackOptions, read_stack, require_forms, require_ordinary
@@ -151,7 +151,7 @@ class _StackRunner(Runner):
         with writing(self.path(_NEW)):
             os.mkdir(self.path(_NEW))
         with timed("build") as words:
-            built = [self._build(number, layer, len(layers)) for number, layer in enumerate(layers)]
+            built = [self._build(number, layer, len(layers)) for number, layer in layers_at_work(enumerate(layers))]
             words.append(counted(len(layers), "layer", "layers"))
         with timed("the new layers, read again") as words:
             words.append(self._show(built))

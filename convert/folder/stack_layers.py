@@ -7,7 +7,7 @@ from dataclasses import dataclass
 from ..common.faults import UsageFault, cannot_read, reading
 from ..common.omissions import ScanLosses
 from ..common.outputs import new_folder
-from ..common.progress import counted
+from ..common.progress import counted, layers_at_work
 from ..model import rules, stacks
 from ..model.blobs import blob_path, opened_blob, writers
 from ..model.entries import REDIRECT, Entry, Named, named, without_paths
@@ -49,7 +49,7 @@ def read_stack(options: StackOptions, out: str) -> None:
     """
     forms = require_forms(options)
     losses, below, links = ScanLosses(), MergedTree(), itertools.count(1)
-    for number, form in reversed(list(enumerate(forms))):
+    for number, form in layers_at_work(reversed(list(enumerate(forms)))):
         entries = _without_images(options.layers[number], _read(options, number, form, out, losses, links))
         below.cover(entries, has_attribute(f"{out}/{stacks.layer_name(number, len(options.layers))}", [REDIRECT]))
     write_shown_links(out, below)

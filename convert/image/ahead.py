@@ -91,7 +91,7 @@ class _LayersAhead:
         self._workers: dict[int, _Worker] = {}  # by the numbers of the layers that each of them reads
         self._taken: set[int] = set()
         bytes_read = sum(layers[number].size for number in self._numbers.values())
-        self._progress = Progress("reading bytes of the layers", bytes_read)
+        self._progress = Progress("unpacking", bytes_read)
 
     def start(self, new_writer: NewWriter) -> None:
         """Starts the processes."""

@@ -117,7 +117,7 @@ class ArchiveReader:
 
     def read(self, take: Take) -> None:
         """Gives each entry on, if the layer's bytes are those that the image names."""
-        progress = Progress(f"unpacking bytes of {self._layer.name[-20:]}")
+        progress = Progress("unpacking")
         try:
             with self._layer.archive(progress) as stream:
                 self._read_checked(stream, take)

@@ -28,7 +28,6 @@ from .targets import TRANSPORTS
 MAX_DOCUMENTS = 1 << 24  # bytes of an image's documents together, each as often as it is named
 _MAX_DEPTH = 4
 _MOST_TOLD = 20
-_MOST_SHOWN = 20  # letters of a layer's name
 REF_NAME = "org.opencontainers.image.ref.name"
 _FULL_NAME = "io.containerd.image.name"
 _BASE = "org.opencontainers.image.base."
@@ -100,7 +99,7 @@ class ImageLayer:
 
     def require_digests(self) -> None:
         """Refuses bytes, packed or unpacked, that aren't those of its digests. It reads them all."""
-        progress = Progress(f"digesting bytes of {self.name[-_MOST_SHOWN:]}")
+        progress = Progress("digesting")
         try:
             with self.archive(progress) as stream:
                 algorithm, wanted = self.unpacked_digest or ("sha256", None)

@@ -10,7 +10,7 @@ from ..common.contents import PIECE, PRIVATE_MODE, DigestedBeside, OtherContents
 from ..common.disk_space import require_room
 from ..common.faults import ReadFault, UsageFault, cannot_read, reading, writing
 from ..common.outputs import new_folder, write_file_in_place
-from ..common.progress import Progress, counted, note, note_path
+from ..common.progress import Progress, counted, layers_at_work, note, note_path
 from ..model import rules
 from ..model.blobs import blob_path, open_blob, opened_blob
 from ..model.entries import (
@@ -151,7 +151,7 @@ def _write_image(files: ImageFiles, layers: list[list[Entry]], given: _Given, op
     """The files of the image. Nothing in them depends on when or where they are made."""
     types = types_beside([layer.described for layer in options.kept])
     written = [_keep_layer(files, layer, types) for layer in options.kept]
-    written += [_write_layer(files, layer, types, options) for layer in layers]
+    written += [_write_layer(files, layer, types, options) for layer in layers_at_work(layers)]
     digests = [layer.unpacked_digest for layer in written]
     image = NewImage(
         layers=[layer.described for layer in written], annotations=given.annotations, types=types, name=options.name,
@@ -202,7 +202,7 @@ def _write_layer(files: ImageFiles, entries: list[Entry], types: MediaTypes, opt
 def _write_archive(entries: list[Entry], options: PackOptions, out: DigestedBeside) -> None:
     """The archive of a layer. A directory's `.wh..wh..opq` comes right after it."""
     archive, firsts = TarWriter(out.write), FirstNames()
-    progress = Progress("packing entries", len(entries))
+    progress = Progress("packing", sum(tar.BLOCK_BYTES + entry.size for entry in entries))
     for entry in entries:
         first = firsts.before(entry)
         archive.entry(_header(entry) if first is None else _link_header(entry, first))
@@ -212,7 +212,7 @@ def _write_archive(entries: list[Entry], options: PackOptions, out: DigestedBesi
         if is_opaque(entry):
             name = f"{entry.path[1:]}/{OPAQUE_NAME}".encode()
             archive.entry(Header(name, b"0", 0, entry.uid, entry.gid, 0, entry.mtime_ns, b"", 0, 0))
-        progress.step()
+        progress.step(tar.BLOCK_BYTES + entry.size)
     archive.end()
     progress.end()
 

@@ -8,6 +8,7 @@ from ..common.budgets import Budget
 from ..common.disk_space import require_room
 from ..common.faults import cannot_read
 from ..common.outputs import new_folder, write_text
+from ..common.progress import layers_at_work
 from ..model import rules, stacks
 from ..model.blobs import staged_writers
 from ..model.entries import REDIRECT
@@ -79,7 +80,7 @@ def _unpack_layers(
 def _take_layers(layers: list[ImageLayer], read_options: ReadOptions, stage: str) -> None:
     """Writes the manifest of each layer, and its links, and puts it above those below."""
     written = 0
-    for number, layer in zip(reversed(range(len(layers))), layers):
+    for number, layer in layers_at_work(zip(reversed(range(len(layers))), layers)):
         tree = LayerArchive(layer, read_options).tree()
         path, names = f"{stage}/{stacks.layer_name(number, len(layers))}", LinkNames()
         write_manifest(path, names.passing(tree.entries()), layer.path)
