@@ -3,7 +3,7 @@ _layers() {
     local word=${COMP_WORDS[COMP_CWORD]} before=${COMP_WORDS[COMP_CWORD - 1]} command='' index
     for ((index = 1; index < COMP_CWORD; index++)); do
         case ${COMP_WORDS[index]} in
-            flatten | check | sizes | diff | unpack | pack | scan | store | build | mounted) command=${COMP_WORDS[index]} && break ;;
+            flatten | check | sizes | diff | vacuum | deref | merge | unpack | pack | scan | store | build | mounted) command=${COMP_WORDS[index]} && break ;;
         esac
     done
     COMPREPLY=()
@@ -36,6 +36,25 @@ _layers() {
         diff/--ignore) compopt +o default && return ;;
         diff/--platform) compopt +o default && return ;;
         diff/--from-tag) compopt +o default && return ;;
+        vacuum/--compress) mapfile -t COMPREPLY < <(compgen -W 'gzip xz zstd lz4' -- "$word") && return ;;
+        vacuum/--keep) compopt -o filenames; mapfile -t COMPREPLY < <(compgen -d -- "$word") && return ;;
+        vacuum/--data-layers) compopt +o default && return ;;
+        vacuum/--workers) compopt +o default && return ;;
+        vacuum/--blobs) compopt -o filenames; mapfile -t COMPREPLY < <(compgen -d -- "$word") && return ;;
+        vacuum/--form) mapfile -t COMPREPLY < <(compgen -W 'folder squashfs' -- "$word") && return ;;
+        deref/--compress) mapfile -t COMPREPLY < <(compgen -W 'gzip xz zstd lz4' -- "$word") && return ;;
+        deref/--keep) compopt -o filenames; mapfile -t COMPREPLY < <(compgen -d -- "$word") && return ;;
+        deref/--data-layers) compopt +o default && return ;;
+        deref/--workers) compopt +o default && return ;;
+        deref/--blobs) compopt -o filenames; mapfile -t COMPREPLY < <(compgen -d -- "$word") && return ;;
+        deref/--form) mapfile -t COMPREPLY < <(compgen -W 'folder squashfs' -- "$word") && return ;;
+        merge/--down-to) compopt +o default && return ;;
+        merge/--compress) mapfile -t COMPREPLY < <(compgen -W 'gzip xz zstd lz4' -- "$word") && return ;;
+        merge/--keep) compopt -o filenames; mapfile -t COMPREPLY < <(compgen -d -- "$word") && return ;;
+        merge/--data-layers) compopt +o default && return ;;
+        merge/--workers) compopt +o default && return ;;
+        merge/--blobs) compopt -o filenames; mapfile -t COMPREPLY < <(compgen -d -- "$word") && return ;;
+        merge/--form) mapfile -t COMPREPLY < <(compgen -W 'folder squashfs' -- "$word") && return ;;
         unpack/--platform) compopt +o default && return ;;
         unpack/--from-tag) compopt +o default && return ;;
         unpack/--out) compopt -o filenames; mapfile -t COMPREPLY < <(compgen -d -- "$word") && return ;;
@@ -54,11 +73,14 @@ _layers() {
         build/--compress) mapfile -t COMPREPLY < <(compgen -W 'gzip xz zstd lz4' -- "$word") && return ;;
     esac
     case $command in
-        '') mapfile -t COMPREPLY < <(compgen -W 'flatten check sizes diff unpack pack scan store build mounted -h --help --version --unproved' -- "$word") ;;
+        '') mapfile -t COMPREPLY < <(compgen -W 'flatten check sizes diff vacuum deref merge unpack pack scan store build mounted -h --help --version --unproved' -- "$word") ;;
         flatten) [[ $word != -* ]] || mapfile -t COMPREPLY < <(compgen -W '-h --help --platform --from-tag --overlay-marks --skip-unsupported --out --compress -t --name --layers --base --keep --dry-run --stack --data-layers --userxattr --no-userxattr --cross-file-systems --workers --blobs --form' -- "$word") ;;
         check) [[ $word != -* ]] || mapfile -t COMPREPLY < <(compgen -W '-h --help --strict --json --base --max-waste --platform --from-tag --overlay-marks --skip-unsupported --stack --data-layers --userxattr --no-userxattr --cross-file-systems --workers --blobs' -- "$word") ;;
         sizes) [[ $word != -* ]] || mapfile -t COMPREPLY < <(compgen -W '-h --help --platform --from-tag --overlay-marks --skip-unsupported --stack --data-layers --userxattr --no-userxattr --cross-file-systems --workers --json --bytes --advice --html --base --max-waste --fail-over' -- "$word") ;;
         diff) [[ $word != -* ]] || mapfile -t COMPREPLY < <(compgen -W '-h --help --ignore --no-config --stat --json --platform --from-tag --overlay-marks --skip-unsupported' -- "$word") ;;
+        vacuum) [[ $word != -* ]] || mapfile -t COMPREPLY < <(compgen -W '-h --help --out --compress --keep --stack --data-layers --userxattr --no-userxattr --cross-file-systems --workers --blobs --form --skip-unsupported' -- "$word") ;;
+        deref) [[ $word != -* ]] || mapfile -t COMPREPLY < <(compgen -W '-h --help --out --compress --keep --stack --data-layers --userxattr --no-userxattr --cross-file-systems --workers --blobs --form --skip-unsupported' -- "$word") ;;
+        merge) [[ $word != -* ]] || mapfile -t COMPREPLY < <(compgen -W '-h --help --down-to --out --compress --keep --stack --data-layers --userxattr --no-userxattr --cross-file-systems --workers --blobs --form --skip-unsupported' -- "$word") ;;
         unpack) [[ $word != -* ]] || mapfile -t COMPREPLY < <(compgen -W '-h --help --platform --from-tag --overlay-marks --skip-unsupported --out --digests-only --stack --data-layers --userxattr --no-userxattr --cross-file-systems --workers --blobs' -- "$word") ;;
         pack) [[ $word != -* ]] || mapfile -t COMPREPLY < <(compgen -W '-h --help --blobs --out --compress --config --platform -t --name --tag --annotations --links --created-by --skip-unsupported' -- "$word") ;;
         scan) [[ $word != -* ]] || mapfile -t COMPREPLY < <(compgen -W '-h --help --out --blobs --digests-only --userxattr --no-userxattr --cross-file-systems --skip-unsupported --workers' -- "$word") ;;

@@ -7,6 +7,9 @@ _layers() {
         'check:print whether an image is fit to ship, and why not'
         'sizes:print what each layer holds, and what of it isn'\''t shown'
         'diff:print what differs between two images, or trees'
+        'vacuum:write a stack'\''s topmost layer without what changes nothing'
+        'deref:write a stack'\''s topmost layer without redirects and metacopy'
+        'merge:write a stack'\''s two topmost layers as one'
         'unpack:write an image'\''s layers as manifests and blobs'
         'pack:write manifests and blobs as an image'
         'scan:write a layer as a manifest and blobs'
@@ -107,6 +110,61 @@ _layers() {
                     '--overlay-marks[takes attributes trusted.overlay.* of the image'\''s archives too, which change what the layers show]' \
                     '--skip-unsupported[leaves out what can'\''t be stated, with a warning each, instead of refusing it]' \
                     '*:OLD:'
+                    ;;
+                vacuum)
+                    _arguments \
+                    '-h[show this help message and exit]' \
+                    '--help[show this help message and exit]' \
+                    '--out[folder to make, absent or empty, or a file whose name ends in .squashfs]:OUT:_files' \
+                    '--compress[packs the squashfs, at a level such as gzip\:9]:gzip|xz|zstd|lz4|METHOD:LEVEL:(gzip xz zstd lz4)' \
+                    '--keep[folder to make, absent or empty, for all that is made on the way]:DIR:_files -/' \
+                    '--stack[layers, the topmost first]:LAYER:_files' \
+                    '--data-layers[how many of the layers, the lowest ones, are data-only]:K:' \
+                    '--userxattr[reads and writes marks as user.overlay.*, as the mount option of this name does]' \
+                    '--no-userxattr[reads and writes marks as user.overlay.*, as the mount option of this name does]' \
+                    '--cross-file-systems[enters other file systems too]' \
+                    '--workers[how many processes read files, 1 to 64]:N:' \
+                    '--blobs[folder with the contents of manifests]:DIR:_files -/' \
+                    '--form[what layers are written as]:FORM:(folder squashfs)' \
+                    '--skip-unsupported[leaves out what can'\''t be stated, with a warning each, instead of refusing it]' \
+                    '*::'
+                    ;;
+                deref)
+                    _arguments \
+                    '-h[show this help message and exit]' \
+                    '--help[show this help message and exit]' \
+                    '--out[folder to make, absent or empty, or a file whose name ends in .squashfs]:OUT:_files' \
+                    '--compress[packs the squashfs, at a level such as gzip\:9]:gzip|xz|zstd|lz4|METHOD:LEVEL:(gzip xz zstd lz4)' \
+                    '--keep[folder to make, absent or empty, for all that is made on the way]:DIR:_files -/' \
+                    '--stack[layers, the topmost first]:LAYER:_files' \
+                    '--data-layers[how many of the layers, the lowest ones, are data-only]:K:' \
+                    '--userxattr[reads and writes marks as user.overlay.*, as the mount option of this name does]' \
+                    '--no-userxattr[reads and writes marks as user.overlay.*, as the mount option of this name does]' \
+                    '--cross-file-systems[enters other file systems too]' \
+                    '--workers[how many processes read files, 1 to 64]:N:' \
+                    '--blobs[folder with the contents of manifests]:DIR:_files -/' \
+                    '--form[what layers are written as]:FORM:(folder squashfs)' \
+                    '--skip-unsupported[leaves out what can'\''t be stated, with a warning each, instead of refusing it]' \
+                    '*::'
+                    ;;
+                merge)
+                    _arguments \
+                    '-h[show this help message and exit]' \
+                    '--help[show this help message and exit]' \
+                    '--down-to[how many layers are left]:N:' \
+                    '--out[folder to make, absent or empty, or a file whose name ends in .squashfs]:OUT:_files' \
+                    '--compress[packs the squashfs, at a level such as gzip\:9]:gzip|xz|zstd|lz4|METHOD:LEVEL:(gzip xz zstd lz4)' \
+                    '--keep[folder to make, absent or empty, for all that is made on the way]:DIR:_files -/' \
+                    '--stack[layers, the topmost first]:LAYER:_files' \
+                    '--data-layers[how many of the layers, the lowest ones, are data-only]:K:' \
+                    '--userxattr[reads and writes marks as user.overlay.*, as the mount option of this name does]' \
+                    '--no-userxattr[reads and writes marks as user.overlay.*, as the mount option of this name does]' \
+                    '--cross-file-systems[enters other file systems too]' \
+                    '--workers[how many processes read files, 1 to 64]:N:' \
+                    '--blobs[folder with the contents of manifests]:DIR:_files -/' \
+                    '--form[what layers are written as]:FORM:(folder squashfs)' \
+                    '--skip-unsupported[leaves out what can'\''t be stated, with a warning each, instead of refusing it]' \
+                    '*::'
                     ;;
                 unpack)
                     _arguments \

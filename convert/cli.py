@@ -13,7 +13,8 @@ from .common.outputs import standard_output
 from .common.program import choose_program
 from .common.progress import complain, note
 from .flatten.image import FlattenOptions, flatten, flatten_commands
-from .flatten.stack import FlattenStackOptions, OutForm, flatten_stack
+from .flatten.rewrite import RewriteOptions, Rewriting, rewrite
+from .flatten.stack import NewLayersOptions, OutForm, flatten_stack
 from .folder.build import BuildOptions
 from .folder.build_squashfs import build_layer
 from .folder.mounted import report
@@ -139,7 +140,8 @@ def _name(out: Target, name: str | None) -> str | None:
 
 def _take_folder_of_unpack(words: argparse.Namespace) -> None:
     """Takes a folder that `unpack` or `store` wrote, in place of an image or as the only layer, as the stack that it is."""
-    given = words.stack or [words.image] if words.image or words.stack else []
+    image = getattr(words, "image", None)
+    given = words.stack or [image] if image or words.stack else []
     layers = stack_in(_folder(given[0])) if len(given) == 1 else []
     if layers:
         words.image, words.stack = None, layers
@@ -208,10 +210,32 @@ def _flatten_stack(words: argparse.Namespace) -> None:
         raise UsageFault("--base is for images alone; --layers N leaves N layers of a stack")
     if words.compress and words.compress.method == NONE:
         raise UsageFault("--compress none is for images alone")
-    flatten_stack(FlattenStackOptions(
-        stack=_stack_of(words), out=_folder(words.out), form=words.form and OutForm(words.form), layers=words.layers,
+    flatten_stack(_new_layers(words, words.layers))
+
+
+def _new_layers(words: argparse.Namespace, layers: int) -> NewLayersOptions:
+    return NewLayersOptions(
+        stack=_stack_of(words), out=_folder(words.out), form=words.form and OutForm(words.form), layers=layers,
         data_layers=words.data_layers, keep=words.keep and _folder(words.keep), compress=words.compress,
-    ))
+    )
+
+
+def _vacuum(words: argparse.Namespace) -> None:
+    _rewrite(words, Rewriting.VACUUM)
+
+
+def _deref(words: argparse.Namespace) -> None:
+    _rewrite(words, Rewriting.DEREF)
+
+
+def _merge(words: argparse.Namespace) -> None:
+    _rewrite(words, Rewriting.MERGE)
+
+
+def _rewrite(words: argparse.Namespace, rewriting: Rewriting) -> None:
+    _take_folder_of_unpack(words)
+    down_to = words.down_to if rewriting is Rewriting.MERGE else None
+    rewrite(RewriteOptions(rewriting=rewriting, new=_new_layers(words, 1), down_to=down_to), _print)
 
 
 def _sizes(words: argparse.Namespace) -> None:
@@ -279,6 +303,9 @@ _RUNS: Mapping[str, Run] = {
     "check": _check,
     "sizes": _sizes,
     "diff": _diff,
+    "vacuum": _vacuum,
+    "deref": _deref,
+    "merge": _merge,
     "unpack": _unpack,
     "pack": _pack,
     "scan": _scan,

@@ -34,7 +34,7 @@ examples:
 
 exit status:
   0  done
-  1  flatten: the layers have faults, on standard output; check: it isn't fit; sizes: over --max-waste; diff: they differ
+  1  the layers have faults, on standard output; check: it isn't fit; sizes: over --max-waste; diff: they differ
   2  the words don't fit
   3  something can't be read, or can't be stated in a manifest or an image
   4  something can't be written
@@ -175,6 +175,39 @@ path, and words; then the verdict. It looks at
 SOURCE is an IMAGE, or a folder that `unpack` wrote with contents. All contents are written to TMPDIR meanwhile.
 Status 0 says that it is fit, 1 that it isn't: there are faults, or with --strict warnings. --json prints one object."""
 
+_REWRITING = """\
+The proved program ovl_layers does it, and first checks the layers; its report
+goes to standard output. LAYER is a folder, a squashfs, a tar archive of a
+folder, or a manifest with --blobs, the topmost first. The new layer is a
+squashfs if the name of --out ends in .squashfs, else a folder. It is written
+only if all layers, with it read again in place of those given, show the same;
+the given ones stay as they are. Names that are one file (hard links) stay so,
+except with names in layers below. Sockets, and times below a second, aren't in
+a squashfs, which is counted and printed."""
+
+_VACUUM = f"""\
+Write the topmost layer of a stack without what changes nothing: files and
+directories that only repeat what the layers below show, such as those that an
+upgrade wrote again. Each is printed as a line `removed PATH`. For the upper
+directory of a live system, or an overlay of firmware, that is to be smaller.
+
+{_REWRITING}"""
+
+_DEREF = f"""\
+Write the topmost layer of a stack without redirects and metacopy files, which
+mean nothing outside of an overlay: a directory that was moved becomes one with
+all that is shown in it, and a file without its contents gets them.
+
+{_REWRITING}"""
+
+_MERGE = f"""\
+Write the two topmost layers of a stack as one, such as an upper directory and
+the layer below it. The new layer takes the place of both. With --down-to N
+merging goes on until N layers are left: the new one, and the N - 1 lowest of
+those given; data-only layers aren't counted.
+
+{_REWRITING}"""
+
 _MOUNTED = """\
 Print what is in a folder, such as a mounted overlay, as `ovl_layers show` prints it, so that the two
 can be compared."""
@@ -184,6 +217,7 @@ _IMAGE = (
     "OCI image layout (folder or tar), or what docker save wrote; - is standard input; or by skopeo docker-daemon:NAME, "
     "containers-storage:NAME, docker://NAME"
 )
+_WITH_STACK = "with --stack: "
 _NEW_IMAGE = (
     "folder to make, or a file whose name ends in .tar; - is such an archive on standard output; or as skopeo "
     "names it: oci:DIR:TAG, oci-archive:FILE:TAG, docker-archive:FILE:NAME, dir:DIR"
@@ -377,41 +411,68 @@ def _add_flatten(parser: argparse.ArgumentParser) -> None:
         "--base", metavar="N|IMAGE",
         help="the lowest N layers, or those of this image, stay byte for byte, and all above becomes one layer",
     )
-    parser.add_argument(
-        "--keep", metavar="DIR", help="folder to make, absent or empty, for all that is made on the way"
-    )
+    _add_keep(parser)
     parser.add_argument(
         "--dry-run", action="store_true", help="prints the commands, as a shell takes them, and runs none"
     )
-    _add_stack(parser)
+    _add_stack(parser, _WITH_STACK)
 
 
-def _add_stack(parser: argparse.ArgumentParser) -> None:
-    """Which layers are read in place of an image's, and how."""
-    _add_stack_layers(parser, "reads and writes")
-    _add_blobs(parser)
+def _add_stack(parser: argparse.ArgumentParser, only: str) -> None:
+    """Which layers are read, and how, and as what layers are written; `only` says when that counts."""
+    _add_stack_layers(parser, "reads and writes", only)
+    _add_blobs(parser, only)
     parser.add_argument(
         "--form", choices=[form.value for form in OutForm],
-        help="with --stack: what layers are written as [default: what the name of --out says]",
+        help=f"{only}what layers are written as [default: what the name of --out says]",
     )
 
 
-def _add_blobs(parser: argparse.ArgumentParser) -> None:
-    parser.add_argument("--blobs", metavar="DIR", help="with --stack: folder with the contents of manifests")
+def _add_blobs(parser: argparse.ArgumentParser, only: str = _WITH_STACK) -> None:
+    parser.add_argument("--blobs", metavar="DIR", help=f"{only}folder with the contents of manifests")
 
 
-def _add_stack_layers(parser: argparse.ArgumentParser, does: str) -> None:
+def _add_stack_layers(parser: argparse.ArgumentParser, does: str, only: str = _WITH_STACK) -> None:
+    instead = "layers in place of an image" if only else "layers"
     parser.add_argument(
-        "--stack", metavar="LAYER", nargs="+",
-        help="layers in place of an image, the topmost first: folders, squashfs files, tar archives or manifests",
+        "--stack", metavar="LAYER", nargs="+", required=not only,
+        help=f"{instead}, the topmost first: folders, squashfs files, tar archives or manifests",
     )
     parser.add_argument(
         "--data-layers", metavar="K", type=_data_layers, default=0,
-        help="with --stack: how many of the layers, the lowest ones, are data-only [default: 0]",
+        help=f"{only}how many of the layers, the lowest ones, are data-only [default: 0]",
     )
-    _add_userxattr(parser, f"with --stack: {does}")
+    _add_userxattr(parser, f"{only}{does}")
     _add_cross(parser)
     _add_workers(parser)
+
+
+def _add_rewriting(parser: argparse.ArgumentParser) -> None:
+    """The options of a command that writes a layer of a stack anew."""
+    parser.add_argument(
+        "--out", metavar="OUT", required=True,
+        help=f"folder to make, absent or empty, or a file whose name ends in {SQUASHFS_SUFFIX}",
+    )
+    parser.add_argument(
+        "--compress", metavar=_methods(squashfs.LEVELS), type=_compression(squashfs.LEVELS),
+        help="packs the squashfs, at a level such as gzip:9 [default: as the topmost given one is packed]",
+    )
+    _add_keep(parser)
+    _add_stack(parser, "")
+    _add_skip(parser)
+
+
+def _add_merge(parser: argparse.ArgumentParser) -> None:
+    parser.add_argument(
+        "--down-to", metavar="N", type=_layers, help="how many layers are left [default: one less than there are]"
+    )
+    _add_rewriting(parser)
+
+
+def _add_keep(parser: argparse.ArgumentParser) -> None:
+    parser.add_argument(
+        "--keep", metavar="DIR", help="folder to make, absent or empty, for all that is made on the way"
+    )
 
 
 def _add_sizes(parser: argparse.ArgumentParser) -> None:
@@ -559,6 +620,9 @@ _COMMANDS = (
     ("check", "print whether an image is fit to ship, and why not", _CHECK, _add_check),
     ("sizes", "print what each layer holds, and what of it isn't shown", _SIZES, _add_sizes),
     ("diff", "print what differs between two images, or trees", _DIFF, _add_diff),
+    ("vacuum", "write a stack's topmost layer without what changes nothing", _VACUUM, _add_rewriting),
+    ("deref", "write a stack's topmost layer without redirects and metacopy", _DEREF, _add_rewriting),
+    ("merge", "write a stack's two topmost layers as one", _MERGE, _add_merge),
     ("unpack", "write an image's layers as manifests and blobs", _UNPACK, _add_unpack),
     ("pack", "write manifests and blobs as an image", _PACK, _add_pack),
     ("scan", "write a layer as a manifest and blobs", _SCAN, _add_scan),

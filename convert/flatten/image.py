@@ -319,7 +319,7 @@ class _DryRun:
     def vacuum(self, step: str, layers: Sequence[str], new: str) -> str:
         """See `Plan`."""
         self.run(step, "vacuum", layers, new)
-        self.lines.append("# where it takes away names that a file of links has, go on with the layer before it\n")
+        self.lines.append("# `layers flatten` keeps names here that would else become one file with others\n")
         return new_layer(new)
 
     def moved(self, layers: Sequence[str]) -> list[int]:

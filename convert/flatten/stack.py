@@ -1,9 +1,10 @@
-"""`flatten --stack`: layers on a disk as fewer ones that show the same, as folders or squashfs files."""
+"""Layers on a disk as new ones that show the same, which are folders or squashfs files; `flatten --stack`."""
 
+import contextlib
 import os
 import sys
 import time
-from collections.abc import Sequence
+from collections.abc import Iterable, Iterator, Sequence
 from dataclasses import dataclass, replace
 from enum import Enum
 
@@ -12,17 +13,18 @@ from ..common.omissions import Loss, Losses
 from ..common.open_dirs import place_of
 from ..common.outputs import NEW, folder_made, new_file, note_stages_beside, require_empty, write_text
 from ..common.progress import counted, layers_at_work, note_path
+from ..common.stages import Stage
 from ..folder.build import BuildOptions, build
 from ..folder.build_squashfs import SUFFIX, build_squashfs
 from ..folder.stack_layers import StackOptions, read_stack, require_forms, require_ordinary
 from ..image.compression import Compression
 from ..model import stacks
 from ..model.attributes import require_trusted
-from ..model.entries import SOCKET, drop_host_marks, named
+from ..model.entries import SOCKET, Entry, drop_host_marks, is_whiteout, named
 from ..model.layer_tree import whiteout
 from ..model.links import take_links, write_layer
 from ..model.manifests import read_manifest
-from ..model.show_report import read_report, report_of
+from ..model.show_report import ShowLine, escaped_path, read_report, report_of
 from ..squashfs import programs as squashfs
 from ..squashfs.layer_files import Form
 from ..squashfs.limits import fitted_lines
@@ -45,8 +47,8 @@ class OutForm(Enum):
 
 
 @dataclass(frozen=True, kw_only=True)
-class FlattenStackOptions:
-    """What the words of `flatten --stack` say."""
+class NewLayersOptions:
+    """Which layers are read, and where new ones are written, and as what. Of several, --out is a folder."""
 
     stack: StackOptions
     out: str
@@ -60,33 +62,40 @@ class FlattenStackOptions:
         """Whether squashfs files are written."""
         return self.form is OutForm.SQUASHFS if self.form else self.out.endswith(SUFFIX)
 
+    def is_file(self) -> bool:
+        """Whether --out is one squashfs file."""
+        return self.is_squashfs() and self.layers == 1
 
-def flatten_stack(options: FlattenStackOptions) -> None:
+
+def flatten_stack(options: NewLayersOptions) -> None:
     """Writes all that the layers show as one layer, or the layers with the topmost ones merged.
 
     Nothing is written unless that shows, read again, what the given layers show, except for what was reported.
     """
-    forms = _require_sound(options)
+    forms = require_sound(options)
     begun = time.monotonic()
-    is_file, is_layer = options.is_squashfs() and options.layers == 1, options.layers == 1
-    if is_file:
-        note_stages_beside(options.out)
-    with new_file(options.out) if is_file else folder_made(options.out, is_dressed=is_layer) as stage:
-        with work_folder(stage.path, options.keep) as folder:
-            runner = _StackRunner(options, folder, place_of(stage.file, NEW), forms)
-            before, after = carry_out(runner, options.layers, options.data_layers)
+    with new_layers_stage(options) as stage, work_folder(stage.path, options.keep) as folder:
+        runner = StackRunner(options, folder, place_of(stage.file, NEW), forms)
+        before, after = carry_out(runner, options.layers, options.data_layers)
     runner.sum_up(options.out, before, after, time.monotonic() - begun)
 
 
-def _require_sound(options: FlattenStackOptions) -> list[Form]:
+@contextlib.contextmanager
+def new_layers_stage(options: NewLayersOptions) -> Iterator[Stage]:
+    """A stage for what --out is to be."""
+    if options.is_file():
+        note_stages_beside(options.out)
+    with new_file(options.out) if options.is_file() else folder_made(options.out, is_dressed=options.layers == 1) as stage:
+        yield stage
+
+
+def require_sound(options: NewLayersOptions) -> list[Form]:
     """What the layers are given as; refuses at once what couldn't be done in the end."""
     forms = require_forms(options.stack)
     require_ordinary(len(forms), options.data_layers)
     if options.layers > 1 and options.out.endswith(SUFFIX):
         raise UsageFault("with --layers over 1 --out is a folder of layers; --form squashfs makes them squashfs files")
-    for layer in options.stack.layers:
-        if os.path.exists(layer) and os.path.exists(options.out) and os.path.samefile(layer, options.out):
-            raise UsageFault(f"--out {options.out} is a layer that is read: name another place")
+    _require_outside(options)
     if options.form is None and options.out.endswith(_OF_OTHERS):
         raise UsageFault(
             f"--out {options.out}: layers are written as folders, or as a file whose name ends in {SUFFIX}; "
@@ -100,7 +109,7 @@ def _require_sound(options: FlattenStackOptions) -> list[Form]:
         raise UsageFault(f"--compress is of squashfs, and --out doesn't end in {SUFFIX}")
     elif not options.stack.userxattr:
         require_trusted(options.out)
-    if options.is_squashfs() and options.layers == 1:
+    if options.is_file():
         if os.path.lexists(options.out) and not os.path.isfile(options.out):
             raise cannot_write(options.out, "it is no regular file")
     else:
@@ -108,7 +117,7 @@ def _require_sound(options: FlattenStackOptions) -> list[Form]:
     return forms
 
 
-def _packing_of(options: FlattenStackOptions, forms: Sequence[Form]) -> Packing:
+def _packing_of(options: NewLayersOptions, forms: Sequence[Form]) -> Packing:
     """How squashfs files are packed: as was asked for, or else as the topmost given one."""
     given = [layer for layer, form in zip(options.stack.layers, forms) if form is Form.SQUASHFS]
     packing = squashfs.packing_of(given[0]) if given else Packing()
@@ -122,10 +131,30 @@ def _bytes_of(layers: Sequence[str], forms: Sequence[Form]) -> int | None:
     return sum(map(os.path.getsize, layers))
 
 
-class _StackRunner(Runner):
+def _require_outside(options: NewLayersOptions) -> None:
+    """Refuses a place for what is made that is read, or in a folder that is read."""
+    places = {"--out": options.out} | ({} if options.keep is None else {"--keep": options.keep})
+    for word, place in places.items():
+        for layer in options.stack.layers:
+            if os.path.exists(place) and os.path.samefile(place, layer):
+                raise UsageFault(f"{word} {place} is a layer that is read: name another place")
+            if any(os.path.samefile(folder, layer) for folder in _folders_above(place)):
+                raise UsageFault(f"{word} {place} is in the layer {layer}, which is read: name another place")
+
+
+def _folders_above(path: str) -> Iterator[str]:
+    """The folders that a path is in, as far as they are there."""
+    place = os.path.realpath(path)
+    while place != os.path.dirname(place):
+        place = os.path.dirname(place)
+        if os.path.exists(place):
+            yield place
+
+
+class StackRunner(Runner):
     """Does the steps of a stack. `made` is where the new layer is made, or the folder of the new layers."""
 
-    def __init__(self, options: FlattenStackOptions, folder: str, made: str, forms: Sequence[Form]) -> None:
+    def __init__(self, options: NewLayersOptions, folder: str, made: str, forms: Sequence[Form]) -> None:
         super().__init__(folder, options.keep is not None, sys.stdout, options.stack.layers)
         self._options = options
         self._made = made
@@ -140,34 +169,37 @@ class _StackRunner(Runner):
         with timed("scan") as words:
             with writing(stack):
                 os.mkdir(stack)
-            read_stack(self._options.stack, stack)
+            read_stack(self._options.stack, stack, self._options.data_layers)
             words.append(counted(self.count, "layer", "layers"))
         paths = stacks.layer_paths(STACK, self.count)
         self.data_layers = frozenset(paths[self.count - self._options.data_layers:])
         return self.count
 
-    def pack(self, layers: Sequence[str]) -> None:
-        """See `Plan`."""
+    def pack(self, layers: Sequence[str], below: Sequence[str] = ()) -> None:
+        """See `Plan`. New layers may be over others, which stay."""
         with writing(self.path(_NEW)):
             os.mkdir(self.path(_NEW))
+        manifests = stacks.layer_paths(_NEW, len(layers))
         with timed("build") as words:
-            built = [self._build(number, layer, len(layers)) for number, layer in layers_at_work(enumerate(layers))]
+            hides = [bool(below) or number < len(layers) - 1 for number in range(len(layers))]
+            work = list(zip(layers, manifests, hides))
+            built = [self._build(number, *each) for number, each in layers_at_work(enumerate(work))]
             words.append(counted(len(layers), "layer", "layers"))
-        with timed("the new layers, read again") as words:
-            words.append(self._show(built))
-            self.compare(_SHOWN, self._wanted())
+        with timed(f"the new {'layer' if below else 'layers'}, read again") as words:
+            words.append(self._show(built, below))
+            self.compare(_SHOWN, self._wanted(layers[0] if below else None))
 
-    def _build(self, number: int, layer: str, count: int) -> str:
-        """Writes a layer in its form; gives its path."""
+    def _build(self, number: int, layer: str, manifest: str, hides: bool) -> str:
+        """Writes a new layer in its form; gives its path."""
         out, name = self._made, self._options.out
         if self._options.layers > 1:
             suffix = SUFFIX if self._options.is_squashfs() else ""
             with writing(name):
                 os.makedirs(out, 0o700, exist_ok=True)
             out, name = f"{out}/l{number}{suffix}", f"{name}/l{number}{suffix}"
-        manifest = self._without_host_marks(number, layer, count)
+        self._write_without_host_marks(layer, manifest, hides)
         options = BuildOptions(
-            layer=manifest, blobs=self.path(f"{STACK}/{stacks.BLOBS}"), out=out,
+            layer=self.path(manifest), blobs=self.path(f"{STACK}/{stacks.BLOBS}"), out=out,
             userxattr=bool(self._options.stack.userxattr), packing=self._packing, name=name,
         )
         if self._options.is_squashfs():
@@ -177,37 +209,54 @@ class _StackRunner(Runner):
             build(options)
         return out
 
-    def _without_host_marks(self, number: int, layer: str, count: int) -> str:
-        """Writes the manifest of one of this many new layers as it is to be built; gives its path.
+    def _write_without_host_marks(self, layer: str, manifest: str, hides: bool) -> None:
+        """Writes the manifest of a new layer as it is to be built.
 
-        A socket that can't be had hides what is below it all the same.
+        A socket that can't be had hides what is below it all the same, if anything is.
         """
         losses, marks = Losses(), 0
         entries = read_manifest(self.path(layer))
         take_links(self.path(layer), entries, self.path(f"{STACK}/{stacks.SHOWN_LINKS}"))
         for place, entry in enumerate(entries):
             marks += drop_host_marks(entry)
-            if entry.kind == SOCKET and self._options.is_squashfs() and number < count - 1:
+            if entry.kind == SOCKET and self._options.is_squashfs() and hides:
                 losses.add(Loss.SOCKET, entry.path)
                 entries[place] = replace(whiteout(), path=entry.path)
         losses.report(self._options.out)
         if marks:
             note_path(self._options.out, counted(marks, "mark", "marks") + " of the host's overlay left out")
-        path = self.path(f"{_NEW}/{stacks.layer_name(number, count)}")
+        path = self.path(manifest)
         write_layer(path, lambda: named(entries), path, True)
-        return path
 
-    def _show(self, built: Sequence[str]) -> str:
-        """Writes what the new layers show."""
+    def _show(self, built: Sequence[str], below: Sequence[str]) -> str:
+        """Writes what the new layers show, over others."""
         with self.passing(AGAIN) as folder:
             with writing(folder):
                 os.mkdir(folder)
             read_stack(replace(self._options.stack, layers=built, digests_only=True), folder)
-            return self.run_on("show", stacks.layer_paths(AGAIN, len(built)), _SHOWN)
+            return self.run_on("show", [*stacks.layer_paths(AGAIN, len(built)), *below], _SHOWN)
 
-    def _wanted(self) -> str:
-        """The report that the new layers are to show: that of the given ones, as far as their form can hold it."""
+    def _wanted(self, topmost: str | None) -> str:
+        """The report that the new layers are to show: that of the given ones, as far as the form of the new ones can hold
+        it. If they are over others, only what the topmost one has is of that form."""
         if not self._options.is_squashfs():
             return BEFORE
-        write_text(self.path(_FITTED), report_of(fitted_lines(read_report(self.path(BEFORE)))))
+        lines = read_report(self.path(BEFORE))
+        fitting = fitted_lines(lines) if topmost is None else _fitted_above(lines, read_manifest(self.path(topmost)))
+        write_text(self.path(_FITTED), report_of(fitting))
         return _FITTED
+
+
+def _fitted_above(lines: Iterable[ShowLine], entries: Iterable[Entry]) -> Iterator[ShowLine]:
+    """The lines of a report of `show`, those of the entries of the topmost layer as a squashfs can hold them.
+
+    Each of its entries but whiteouts is shown at its path; both are in path order.
+    """
+    paths = (escaped_path(entry.path) for entry in entries if not is_whiteout(entry))
+    path = next(paths, None)
+    for line in lines:
+        if line.path == path:
+            path = next(paths, None)
+            yield from fitted_lines([line])
+        else:
+            yield line

@@ -11,14 +11,15 @@ from typing import IO, Protocol
 
 from ..common.amounts import amount_text, per_cent
 from ..common.faults import Fault, reading, writing
-from ..common.outputs import kept_folder
+from ..common.outputs import kept_folder, write_text
 from ..common.program import makes_layers, require_program, run_program, words_of
 from ..common.progress import counted, note, note_path
 from ..model import stacks
-from ..model.entries import METACOPY, REDIRECT
-from ..model.links import links_path, names_in
-from ..model.manifests import has_attribute
+from ..model.entries import METACOPY, REDIRECT, Entry, named
+from ..model.links import links_path, numbered_names
+from ..model.manifests import has_attribute, read_manifest, write_manifest
 from ..model.show_report import escaped_path
+from ..model.shown_files import Files, files_in, shown_files
 
 STACK = "stack"
 AGAIN = "again"
@@ -26,6 +27,7 @@ BEFORE = "before.show"
 _AFTER = "after.show"
 REPORT = "report"
 _WORK = "work"
+_REMOVED = "removed "  # how each line of the report of `vacuum` begins
 
 
 class Plan(Protocol):
@@ -41,8 +43,8 @@ class Plan(Protocol):
         a folder `new` with them."""
 
     def vacuum(self, step: str, layers: Sequence[str], new: str) -> str:
-        """The topmost layer without what changes nothing, or as it is if that takes away a name of a hard link, or
-        shows one: below is the same, but not as the same file."""
+        """The topmost layer without what changes nothing, but with each name that would else be one file with others than
+        before: below is the same, but not as the same file."""
 
     def moved(self, layers: Sequence[str]) -> list[int]:
         """The layers with redirects or metacopy files, which no image can state; the lowest first."""
@@ -66,11 +68,16 @@ def carry_out(plan: Plan, wanted: int, data_layers: int = 0) -> tuple[int, int]:
     wanted = max(wanted, plan.base + 1)
     is_one = plan.base == 0 and min(count - data_layers, wanted) == 1
     new = _as_one(plan, given) if is_one else _merged_down(plan, given, wanted, data_layers)
+    require_same(plan, given, new)
+    plan.pack(new)
+    return count, len(new)
+
+
+def require_same(plan: Plan, given: Sequence[str], new: Sequence[str]) -> None:
+    """Goes on only if the new layers show what the given ones do."""
     plan.run("show", "show", given, BEFORE)
     plan.run("show of the new layers", "show", new, _AFTER)
     plan.compare(_AFTER)
-    plan.pack(new)
-    return count, len(new)
 
 
 def _as_one(plan: Plan, layers: Sequence[str]) -> list[str]:
@@ -98,6 +105,11 @@ def _merged_down(plan: Plan, given: Sequence[str], wanted: int, data_layers: int
     if merges:
         layers[0] = plan.vacuum("vacuum of the merged layer", layers, "vacuum-merged")
     return layers
+
+
+def amount_in_place_of(made: int, given: int) -> str:
+    """How many bytes are made in place of how many."""
+    return f"{amount_text(made)} in place of {amount_text(given)} ({per_cent(made, given)})"
 
 
 def new_layer(folder: str, number: int = 0) -> str:
@@ -144,8 +156,7 @@ class Runner:
         words = [f"{counted(after, 'layer', 'layers')} in place of {before}"]
         made, given = self.bytes_made, self.bytes_given
         if made is not None:
-            share = "" if given is None else f" in place of {amount_text(given)} ({per_cent(made, given)})"
-            words.append(amount_text(made) + share)
+            words.append(amount_text(made) if given is None else amount_in_place_of(made, given))
         note_path(label, ", ".join([*words, f"{seconds:.2f} s in all"]))
 
     @contextlib.contextmanager
@@ -159,17 +170,48 @@ class Runner:
     def vacuum(self, step: str, layers: Sequence[str], new: str) -> str:
         """See `Plan`."""
         self.run(step, "vacuum", layers, new)
-        removed = _removed_in(self.path(f"{new}/{REPORT}"))
-        if removed and any(escaped_path(name) in removed for name in self._linked()):
-            note(f"{step}: not used, since it takes away names of hard links")
-            return layers[0]
+        made, removed = new_layer(new), _removed_in(self.path(f"{new}/{REPORT}"))
+        if not removed or not self.has_links():
+            return made
+        before, after = self.files_before(), self.files_of([made, *layers[1:]])
+        changed = {name for name in before.keys() | after.keys() if before.get(name) != after.get(name)}
+        linked = removed & set(map(escaped_path, changed))
+        if not linked:
+            return made
+        note(f"{step}: {counted(len(linked), 'name of a hard link stays', 'names of hard links stay')}")
+        return self._put_back(layers[0], removed - _with_parents(linked), f"{new}-linked")
+
+    def _put_back(self, layer: str, removed: set[str], new: str) -> str:
+        """A layer with less removed, and the report of that, in a folder as the program writes it."""
+        with writing(self.path(new)):
+            os.mkdir(self.path(new))
+        kept, gone = list[Entry](), list[str]()
+        for entry in read_manifest(self.path(layer)):
+            path = escaped_path(entry.path)
+            if path in removed:
+                gone.append(f"{_REMOVED}{path}\n")
+            else:
+                kept.append(entry)
+        write_manifest(self.path(new_layer(new)), named(kept), layer)
+        write_text(self.path(f"{new}/{REPORT}"), [*gone, f"{_REMOVED}{len(gone)} kept {len(kept)}\n"])
         return new_layer(new)
 
-    def _linked(self) -> Iterator[str]:
-        """The names of the hard links that the given layers have or show."""
-        yield from names_in(self.path(f"{STACK}/{stacks.SHOWN_LINKS}"))
-        for layer in map(self.path, stacks.layer_paths(STACK, self.count)):
-            yield from names_in(links_path(layer), layer)
+    def has_links(self) -> bool:
+        """Whether the given layers have or show hard links."""
+        layers = map(self.path, stacks.layer_paths(STACK, self.count))
+        files = [(self._shown_links(), None), *((links_path(layer), layer) for layer in layers)]
+        return any(True for path, layer in files for _ in numbered_names(path, layer))
+
+    def files_before(self) -> Files:
+        """The names that the given layers show as one file."""
+        return files_in(self._shown_links())
+
+    def files_of(self, layers: Iterable[str]) -> Files:
+        """The same of others, data-only ones of which show none."""
+        return shown_files([self.path(layer) for layer in layers if layer not in self.data_layers], self._shown_links())
+
+    def _shown_links(self) -> str:
+        return self.path(f"{STACK}/{stacks.SHOWN_LINKS}")
 
     def moved(self, layers: Sequence[str]) -> list[int]:
         """See `Plan`."""
@@ -194,8 +236,19 @@ class Runner:
 
 def _removed_in(report: str) -> set[str]:
     """The paths, as reports write them, that `vacuum` took away."""
+    start = f"{_REMOVED}/"
     with reading(report), open(report, encoding="ascii") as lines:
-        return {words[1] for words in map(str.split, lines) if words[0] == "removed" and words[1].startswith("/")}
+        return {line[len(_REMOVED):-1] for line in lines if line.startswith(start)}
+
+
+def _with_parents(paths: Iterable[str]) -> set[str]:
+    """Paths, and those of the directories that they are in."""
+    found: set[str] = set()
+    for path in paths:
+        while path and path not in found:
+            found.add(path)
+            path = path.rpartition("/")[0]
+    return found
 
 
 @contextlib.contextmanager

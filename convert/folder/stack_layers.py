@@ -42,16 +42,21 @@ def write_stack(options: StackOptions, out: str) -> None:
         read_stack(options, stage)
 
 
-def read_stack(options: StackOptions, out: str) -> None:
+def read_stack(options: StackOptions, out: str, data_layers: int = 0) -> None:
     """Writes `l0.json`, the topmost layer, and so on, their links, and the folder `blobs` unless digests are enough.
 
-    `out` is a folder that is there. A socket that a layer's file can't give hides what is below it all the same.
+    `out` is a folder that is there. A socket that a layer's file can't give hides what is below it all the same. Names
+    in the lowest layers aren't shown if they are data-only.
     """
     forms = require_forms(options)
     losses, below, links = ScanLosses(), MergedTree(), itertools.count(1)
     for number, form in layers_at_work(reversed(list(enumerate(forms)))):
         entries = _without_images(options.layers[number], _read(options, number, form, out, losses, links))
-        below.cover(entries, has_attribute(f"{out}/{stacks.layer_name(number, len(options.layers))}", [REDIRECT]))
+        if number < len(forms) - data_layers:
+            below.cover(entries, has_attribute(f"{out}/{stacks.layer_name(number, len(options.layers))}", [REDIRECT]))
+        else:
+            for _ in entries:
+                pass
     write_shown_links(out, below)
     losses.report()
 

@@ -150,11 +150,10 @@ def take_links(layer: str, entries: list[Entry], shown: str | None = None) -> No
             raise cannot_read(shown, str(problem)) from None
 
 
-def names_in(path: str, layer: str | None = None) -> Iterator[str]:
-    """The names in a file of links, of a manifest or of what layers show together."""
+def numbered_names(path: str, layer: str | None = None) -> Iterator[tuple[str, int]]:
+    """The names in a file of links, of a manifest or of what layers show together, each with its file's number."""
     try:
-        for name, _ in _names(path, layer and _digest(layer)):
-            yield name
+        yield from _names(path, layer and _digest(layer))
     except NotTaken as problem:
         raise cannot_read(path, str(problem)) from None
 

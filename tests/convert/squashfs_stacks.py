@@ -19,8 +19,8 @@ from difflib import unified_diff
 from kernel_stacks import Stack, count_different, linked_names, mounted_overlay
 from support import call
 
-_LOOKING = "redirect_dir=follow,metacopy=on"
-_Tree = tuple[str, list[str]]
+LOOKING = "redirect_dir=follow,metacopy=on"
+Tree = tuple[str, list[str]]
 
 
 @contextlib.contextmanager
@@ -71,7 +71,7 @@ class StackOfFiles(Stack):
         done("build", manifest, "--blobs", blobs, "--out", f"{self._folder}/{number}.squashfs")
         return f"{self._folder}/{number}.squashfs"
 
-    def _overlay_of(self, files: list[str]) -> _Tree:
+    def _overlay_of(self, files: list[str]) -> Tree:
         """What the kernel shows of squashfs files, the topmost first."""
         with contextlib.ExitStack() as mounts:
             layers = [
@@ -80,7 +80,7 @@ class StackOfFiles(Stack):
             if len(layers) == 1:  # an overlay has two layers at least
                 return tree_of(layers[0])
             place = self._new("mnt")
-            mounts.enter_context(mounted_overlay(place, layers, [], _LOOKING))
+            mounts.enter_context(mounted_overlay(place, layers, [], LOOKING))
             return tree_of(place)
 
     def _shown_otherwise(self, program: list[str], files: list[str], wanted: str) -> list[str]:
@@ -92,12 +92,12 @@ class StackOfFiles(Stack):
         return list(unified_diff(wanted.splitlines(), (shown.stdout + shown.stderr).splitlines(), lineterm=""))
 
 
-def tree_of(place: str) -> _Tree:
+def tree_of(place: str) -> Tree:
     """A tree as the kernel shows it, and the names in it that are one file."""
     return done("mounted", place), linked_names(place)
 
 
-def difference(one: _Tree, other: _Tree) -> Iterator[str]:
+def difference(one: Tree, other: Tree) -> Iterator[str]:
     """What differs in two trees."""
     yield from unified_diff(one[0].splitlines(), other[0].splitlines(), lineterm="")
     yield from unified_diff(one[1], other[1], lineterm="")
