@@ -28,7 +28,7 @@ from support import call
 from convert.model.times import ONE_SECOND
 
 _NAMES = ("a", "b", "c", "d", "e f", "é", "back\\slash")
-_MAKING = "redirect_dir=on,metacopy=on"
+MAKING = "redirect_dir=on,metacopy=on"
 _LOOKING = "redirect_dir=follow,metacopy=on"
 _ALLOWED = (errno.EEXIST, errno.ENOTEMPTY, errno.EINVAL, errno.EXDEV, errno.ENOENT, errno.EISDIR, errno.ENOTDIR)
 
@@ -204,7 +204,7 @@ class Stack:
         self._put_on_top(f"{self._top}/diff")
         for _ in range(self._pick.randrange(1, 4)):
             upper, place = self._begin_layer(), self._new("mnt")
-            with mounted_overlay(place, [upper, *self._layers], self._data_only, _MAKING, f"{self._top}/work"):
+            with mounted_overlay(place, [upper, *self._layers], self._data_only, MAKING, f"{self._top}/work"):
                 Worker(self._pick, place).work(20)
             self._put_on_top(upper)
 

@@ -8,10 +8,12 @@ must be what it shows of the stack; and names are one file with others as before
 """
 
 import ast
+import os
+import stat
 import sys
 from collections.abc import Callable, Iterator
 
-from kernel_stacks import count_different, mounted_overlay
+from kernel_stacks import MAKING, count_different, mounted_overlay
 from squashfs_stacks import LOOKING, StackOfFiles, Tree, difference, done, tree_of
 
 
@@ -19,6 +21,19 @@ class Rewritten(StackOfFiles):
     """A stack whose topmost layers are written anew."""
 
     removed = 0  # by `vacuum`, of all stacks
+
+    def make(self) -> None:
+        """Makes the layers; the topmost one also has files as they are below, with and without their contents."""
+        super().make()
+        place = self._new("mnt")
+        with mounted_overlay(place, self._layers, [], MAKING, f"{self._top}/work"):
+            for folder, _, names in os.walk(place):
+                for path in (os.path.join(folder, name) for name in sorted(names)):
+                    mode = os.lstat(path).st_mode
+                    if stat.S_ISREG(mode) and self._pick.random() < 0.5:
+                        os.chmod(path, stat.S_IMODE(mode))
+                    elif stat.S_ISREG(mode) and self._pick.random() < 0.5:
+                        os.close(os.open(path, os.O_RDWR))
 
     def compare(self, program: list[str]) -> list[str]:
         """What differs, line by line."""

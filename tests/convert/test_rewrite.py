@@ -2,6 +2,7 @@
 
 import os
 import signal
+import socket
 import subprocess
 import sys
 import tarfile
@@ -84,13 +85,15 @@ ROWS = (
         {"/": "dir", "/m": "4"}, ["leaf /m", "entries 2"]),
     Row(("merge",), [[folder("./"), removed("h"), folder("e")], _MOVED, _BASE],
         {"/": "dir", "/d": "whiteout", "/e": "dir", "/h": "whiteout", "/n": "dir redirect", "/n/x": "3"},
-        ["whiteout /d", "plain /e", "whiteout /h", "moved /n /d", "leaf /n/x", "entries 6"], taken=2),
+        ["whiteout /d", "plain /e", "whiteout /h", "moved /n d", "leaf /n/x", "entries 6"], taken=2),
     Row(("merge",), [_MOVED, _BASE], {"/": "dir", "/h": "1", "/n": "dir", "/n/f": "4", "/n/g": "1", "/n/x": "3"},
         ["leaf /h", "plain /n", "leaf /n/f", "leaf /n/g", "leaf /n/x", "entries 6"], taken=2, links=[["/h", "/n/g"]]),
+    Row(("merge", "--data-layers", "1"), [[folder("./"), removed("a")], [folder("./"), member("a", b"1")], _LINKED],
+        {"/": "dir"}, ["entries 1"], taken=2),  # names of data-only layers aren't shown
     Row(("merge", "--down-to", "2"), [[folder("./"), removed("n")], [folder("./"), folder("u")], _MOVED, _BASE],
         {"/": "dir", "/d": "whiteout", "/u": "dir"}, ["whiteout /d", "plain /u", "entries 3"], taken=3),
 )
-_LOST = [[folder("./"), folder("n", pax=marked(redirect="/lost"))], _BASE, _BASE]
+_LOST = [[folder("./"), removed("lost"), folder("n", pax=marked(redirect="/lost"))], _BASE, _BASE]
 
 
 class RewriteTest(FolderTest):
@@ -167,6 +170,20 @@ class Rows(RewriteTest):
         self.require_done(result)
         self.assertIn("1 time cut to whole seconds: /n\n", result[2])
 
+    def test_sockets(self) -> None:
+        """One that a squashfs can't have hides what is below it all the same."""
+        reason = why_no_trusted(self.folder)
+        if reason:
+            self.skipTest(reason)
+        upper, out = self.path("in", "upper"), self.path("in", "new.squashfs")
+        os.mkdir(upper)
+        with socket.socket(socket.AF_UNIX) as made:
+            made.bind(f"{upper}/h")
+        result = call("deref", "--stack", upper, *self.stack([_BASE]), "--out", out)
+        self.require_done(result)
+        self.assertIn("1 socket left out, which archives don't have: /h\n", result[2])
+        self.assertEqual([text_of(entry) for entry in self.scanned(out)[1]], ["dir", "whiteout"])
+
     def test_what_is_kept(self) -> None:
         layers = self.stack(ROWS[1].layers)
         kept, out = self.path("kept"), self.path("new.squashfs")
@@ -227,7 +244,7 @@ class Refused(RewriteTest):
         layers = self.stack(_LOST)
         for command in COMMANDS:
             status, printed, messages = call(command, "--stack", *layers, "--out", self.path("new.squashfs"))
-            self.assertEqual((status, printed), (1, "fault redirect-lost 0 /n\nfaults 1 notes 0\n"))
+            self.assertEqual((status, printed), (1, "note orphan-whiteout 0 /lost\nfault redirect-lost 0 /n\nfaults 1 notes 1\n"))
             self.assertIn(f"ovl_layers {command} ended with status 1; nothing is written", messages.splitlines()[-1])
             self.require_nothing_left("in")
 
