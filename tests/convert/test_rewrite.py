@@ -68,6 +68,9 @@ ROWS = (
         {"/": "dir", "/n": "3"}, ["removed /d", "removed /d/f", "removed 2 kept 2"]),
     Row(("vacuum",), [[folder("./"), member("a", b"12"), folder("e")], _LINKED],  # a file of its own, and one with b below
         {"/": "dir", "/a": "2"}, ["removed /e", "removed 1 kept 2"], notes=["vacuum: 1 name of a hard link stays"]),
+    Row(("vacuum",), [[folder("./"), folder("d"), member("d/f", b"four"), member("d/g", b"g")], _BASE],
+        {"/": "dir", "/d": "dir", "/d/g": "1"}, ["removed /d/f", "removed 1 kept 3"],
+        notes=["vacuum: 1 name of a hard link stays"]),
     Row(("vacuum",), [_LINKED, _LINKED], {"/": "dir"}, ["removed /a", "removed /b", "removed /e", "removed 3 kept 1"]),
     Row(("vacuum",), [_LINKED, [*_LINKED[:2], member("b", b"12"), folder("e")]],  # one file, and two below
         {"/": "dir", "/a": "2", "/b": "2"}, ["removed /e", "removed 1 kept 3"], links=[["/a", "/b"]],
