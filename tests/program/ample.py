@@ -14,15 +14,13 @@ bytes, and `flatten` one that does so by itself; `vacuum` once more must remove 
 enough, so no command may end with `out of memory`.
 
 Before these come stacks whose new layers just keep a limit of names or of text, or just pass it: `deref`, `merge` and
-`flatten` must give them, or say that they are over the limits; and stacks that are large in one way, as those of users are,
-or as large as a limit lets them be.
+`flatten` must give them, or say that they are over the limits.
 
     python3 tests/program/ample.py --program crates/ovl_layers/out/ovl_layers
 """
 import argparse
 import concurrent.futures
 import hashlib
-import json
 import os
 import random
 import subprocess
@@ -34,7 +32,7 @@ from dataclasses import dataclass, replace
 sys.path.append(os.path.join(os.path.dirname(__file__), "..", "makers"))
 
 from entries import METACOPY, NSEC, REDIRECT, Entry, entry
-from small_layers import First, Layer, Sources, manifest_of, write
+from small_layers import First, Layer, write
 
 OPAQUE, WHITEOUT = "trusted.overlay.opaque", "trusted.overlay.whiteout"
 CONTENTS = ("", "a", "b", "abc")
@@ -265,75 +263,6 @@ def at_the_limits() -> Iterator[tuple[str, list[Layer], bool]]:
     yield "paths of 129 names", [moved_to("/a/m"), deep], False
 
 
-# ---- stacks that are large in one way
-
-# A name of 100 to 250 bytes, of which some are escaped in a manifest or in a report.
-def odd_name(number: int) -> str:
-    return f"{number:03d}" + '\\"\t\x01é' + "n" * (90 + number % 150)
-
-
-def contents_of(number: int) -> bytes:
-    return f"contents {number}".encode()
-
-
-def full_file(path: str, contents: bytes, **more: object) -> Entry:
-    return entry(path, "file", size=len(contents), blob=hashlib.sha256(contents).hexdigest()) | more
-
-
-def deep_below(path: str, count: int) -> Layer:
-    return [entry(path + "/a" * it) for it in range(1, count + 1)]
-
-
-def moved_many(count: int) -> list[Layer]:
-    """Directories with a file each, of which each was moved, by its path or by its name."""
-    old = [f"o{n}" + "o" * (n % 200) for n in range(count)]
-    lower = [it for n in range(count) for it in (entry(f"/{old[n]}"), full_file(f"/{old[n]}/{odd_name(n)}", contents_of(n), mtime=-n))]
-    upper = [entry(f"/{odd_name(n)}", attrs={REDIRECT: f"/{old[n]}" if n % 2 else old[n]}) for n in range(count)]
-    return [upper + [whiteout_at(f"/{it}") for it in old], lower]
-
-
-def whiteout_at(path: str) -> Entry:
-    return entry(path, "char", major=0, minor=0)
-
-
-def beyond_the_limits() -> list[Layer]:
-    """Three layers, each of which goes on below the deepest directory of the one under it: 360 names, of 12,000 bytes."""
-    names = [("n" * 33 + "/") * 119 + "n" * 33] * 3
-    chains = [chain("/" + it.split("/", 1)[0], it.split("/")[1:]) for it in names]
-    deepest = [it[-1]["path"] for it in chains]
-    upper = [[*it[:-1], entry(path, attrs={REDIRECT: "/x"}), whiteout_at("/x")] for it, path in zip(chains, deepest)]
-    below = [entry(it["path"].replace("/" + "n" * 33, "/x", 1)) for it in chains[0]]
-    return [upper[0], [it for it in below[:-1]] + [entry(below[-1]["path"], attrs={REDIRECT: "/y"}), whiteout_at("/y")],
-            [entry(it["path"].replace("/x", "/y", 1)) for it in below]]
-
-
-def large() -> Iterator[tuple[str, Sources, list[bytes], tuple[str, ...]]]:
-    """What is said of a stack, its layers, the contents of its blobs, and the commands that are to answer."""
-    few, all_of = ("fsck",), ("fsck", *REWRITES)
-    contents = [contents_of(n) for n in range(300)]
-    yield "128 layers", [[entry("/d"), file_at(f"/d/f{n}")] for n in range(128)], [], all_of
-    yield "300 moved directories, odd names, 300 contents", moved_many(300), contents, all_of
-    yield "data through 40 layers", [[entry("/f", "file", {METACOPY: ""}, size=10)]] * 39 + [[full_file("/f", contents[0])]], contents, all_of
-    deep = "/a" * 100
-    yield "redirects of 100 names", [[entry("/m", attrs={REDIRECT: deep}), whiteout_at("/a")], deep_below("", 101)], [], all_of
-    attributes = {f"user.{n}": "v" * n for n in range(40)}
-    yield "40 attributes", [[entry("/f", "file", attributes, size=0)], [entry("/d", attrs=attributes)]], [], all_of
-    notes = [entry(f"/d{n:06d}", attrs={OPAQUE: "z"}) for n in range(120_000)]
-    yield "120,000 findings", [notes, []], [], all_of
-    yield "a large directory that was moved", [[entry("/m", attrs={REDIRECT: "/x"}), whiteout_at("/x")],
-        [entry("/x"), *(file_at(f"/x/f{n:05d}") for n in range(70_000))]], [], all_of
-    yield "360 names of 12,000 bytes", beyond_the_limits(), [], few
-    one = json.dumps(manifest_of([], [entry("/"), entry("/d%06d")]), separators=(",", ":"), sort_keys=True)
-    first, _, rest = one.rpartition(',{"gid"')
-    own, bracket, tail = rest.rpartition("]")
-    many = first + "".join(',{"gid"' + own % n for n in range(600_000)) + bracket + tail + "\n"
-    yield "1,200,000 directories", [many, many.replace('"/d', '"/e')], [], few
-
-
-def file_at(path: str) -> Entry:
-    return entry(path, "file", size=0)
-
-
 # ---- runs
 
 class Differs(Exception):
@@ -412,28 +341,6 @@ def limit_case(program: str, blobs: str, what: str, layers: list[Layer], within:
     return None
 
 
-def large_case(program: str, what: str, layers: Sources, contents: list[bytes], commands: Sequence[str]) -> str | None:
-    """What isn't as it should be of a large stack, which is sound."""
-    with tempfile.TemporaryDirectory(prefix="ovl-ample-") as folder:
-        blobs = os.path.join(folder, "blobs")
-        os.mkdir(blobs)
-        for it in contents:
-            with open(os.path.join(blobs, hashlib.sha256(it).hexdigest()), "wb") as out:
-                out.write(it)
-        try:
-            files = write(folder, layers)
-            shown = ran(program, "show", *files)
-            found = ran(program, "fsck", "--blobs", blobs, *files)
-            same("the status of fsck", found[0], 0)
-            same("fsck --any-size", ran(program, "fsck", "--any-size", "--blobs", blobs, *files), found)
-            for command in commands[1:]:
-                new, _ = rewritten(program, blobs, files, command, folder)
-                same(f"show after {command}", new and ran(program, "show", *new), shown)
-        except Differs as fault:
-            return f"{what}: {fault}"
-    return None
-
-
 def case(program: str, blobs: str, seed: str, number: int) -> bool | str:
     """Whether the stack of this number is sound, or what isn't as it should be."""
     with tempfile.TemporaryDirectory(prefix="ovl-ample-") as folder:
@@ -459,9 +366,8 @@ def main() -> None:
                 out.write(contents)
         all_of = ([it] * given.count for it in (program, blobs, given.seed))
         at_limits = [pool.submit(limit_case, program, blobs, *it) for it in at_the_limits()]
-        at_size = [pool.submit(large_case, program, *it) for it in large()]
         answers = list(pool.map(case, *all_of, numbers, chunksize=20))
-        differ = [it.result() for it in (*at_limits, *at_size)] + answers
+        differ = [it.result() for it in at_limits] + answers
     differ = [it for it in differ if isinstance(it, str)]
     print(*differ[:TOLD], sep="\n", end="\n" if differ else "")
     print(f"{given.count:,} stacks of seed {given.seed}, {answers.count(True):,} of them sound, {len(differ)} not as they should be")

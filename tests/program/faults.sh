@@ -211,11 +211,6 @@ printf '\xef\xbb\xbfabc' > marked/file
 marked=$(sha256sum < marked/file)
 mv marked/file "marked/${marked%% *}"
 printf '{"entries":[%s,%s],"overlay-layer":2}\n' "$root" "$(sed "s/$abc/${marked%% *}/; s/\"size\":3/\"size\":6/" <<< "$kept")" > marked.json
-mkdir crowd
-for ((i = 0; i < 1100; i++)); do
-    printf -v name '%064x' "$i"
-    printf a > "crowd/$name"
-done
 printf '{"entries":[%s],"overlay-layer":2}' "$(printf '0,%.0s' {1..1200000})0" > items.json
 
 # A metacopy file over its contents; and a moved directory with a chain of directories below its old place, of which the
@@ -306,7 +301,6 @@ prints 1 'fault blob-missing 1 /k\nfaults 1 notes 0\n' fsck --blobs none root.js
 prints 1 'fault blob-size 0 /k\nfault blob-digest 0 /k\nfaults 2 notes 0\n' fsck --blobs short k.json
 prints 1 'fault blob-size 0 /k\nfault blob-digest 0 /k\nfaults 2 notes 0\n' fsck --blobs hollow k.json
 prints 0 'faults 0 notes 0\n' fsck --blobs most root.json
-prints 0 'faults 0 notes 0\n' fsck --blobs crowd root.json
 # (Contents that begin as a byte order mark does are read whole, held and in parts.)
 prints 0 'faults 0 notes 0\n' fsck --blobs marked marked.json
 prints 0 'faults 0 notes 0\n' fsck --any-size --blobs marked marked.json
@@ -416,6 +410,15 @@ prints 1 "$unlike" "${parts[@]}" longest k.json
 refuses 3 "cannot read longest/$abc" fsck --blobs longest k.json
 truncate -s 4294967297 "longest/$abc"
 prints 1 "$unlike" "${parts[@]}" longest k.json
+# (Of any length it is opened, and ends where its reads end.)
+for ((power = 16; power < 44; power++)); do
+    truncate -s "$(((1 << power) + 1))" "longest/$abc"
+    over='failing read longest/'$abc' 2 0' prints 1 "$unlike" "${parts[@]}" longest k.json
+done
+for ((power = 15; power < 28; power++)); do
+    truncate -s "$(((1 << power) + (1 << (power - 1))))" "longest/$abc"
+    over='failing read longest/'$abc' 2 0' prints 1 "$unlike" fsck --blobs longest k.json
+done
 rm -r longest
 refuses 3 'cannot read missing.json' "${parts[@]}" missing missing.json
 refuses 3 'layer 0: wrong shape' "${parts[@]}" missing shape.json
@@ -594,6 +597,11 @@ done
 cp k.json new/layer-0.json
 prints 0 'removed /k\nremoved 1 kept 1\n' vacuum --blobs blobs --out new k.json k.json
 gives new root.json
+for length in 65537 1048577 2147483649 17179869185; do
+    truncate -s "$length" new/layer-0.json
+    prints 0 'removed 0 kept 2\n' vacuum --blobs blobs --out new k.json root.json
+    gives new k.json
+done
 prints 0 'removed 0 kept 2\n' vacuum --blobs blobs --out new --workers 64 k.json root.json
 gives new k.json
 sed 's/"mtime-nsec":0,//g; s/"overlay-layer":2/"overlay-layer":1/' k.json > first.json

@@ -8,10 +8,6 @@ refusal; and so is each start of a thread, of which there is none by 1 worker, a
 thing that a command does, at most. A run must end with its full answer, which is that by 1 worker, or with status 5 and
 `out of memory`, nothing on standard output, no new layer, and the one that was there as it was.
 
-No contract says how many threads share a thing, so the starts are counted: of forty layers with forty contents and of a
-layer whose report has many lines, by 2, 4 and 12 workers. So a command is found in which one thread reads all manifests or
-contents or writes all lines, one that starts a thread for each of them, and one of too few workers.
-
 Each test of the other program runs in a process of its own, again and again, with one request for memory or one start of a
 thread refused: it must pass each time, as it makes a call that ran out of memory again.
 
@@ -199,49 +195,6 @@ def swept(program: str, library: str, sweep: Sweep) -> tuple[int, list[str]]:
         return MOST, [*wrong, f"{how}: no run without a refusal"]
 
 
-# Of a stack of this many layers, for each command: how many lists of that length it cuts into shares, how many other things all
-# workers share, as walks and lines, and how many things are done beside others.
-REWRITES = ("vacuum", "deref", "merge", "flatten")
-STARTS = {
-    "forty_layers": (40, {"show": (3, 1, 0), "fsck": (4, 41, 0), **{it: (4, 42, 1) for it in REWRITES},
-                          "fsck --any-size": (3, 41, 0), "merge --any-size": (3, 42, 1)}),
-    "many_lines": (2, {"show": (3, 2, 1), "fsck": (3, 4, 0), **{it: (3, 4, 1) for it in REWRITES},
-                       "fsck --any-size": (3, 3, 0), "merge --any-size": (3, 3, 1)}),
-}
-
-
-@dataclass(frozen=True)
-class Crew:
-    """A command on a stack by this many workers, of which the threads are counted."""
-
-    command: str
-    stack: str
-    workers: int
-
-    def threads(self) -> int:
-        layers, commands = STARTS[self.stack]
-        lists, walks, beside = commands[self.command]
-        share = -(-layers // self.workers)
-        return lists * (-(-layers // share) - 1) + walks * (self.workers - 1) + beside
-
-
-def counted(program: str, library: str, crew: Crew) -> tuple[int, list[str]]:
-    """One run, and what is printed if it starts fewer threads, or many more."""
-    with tempfile.TemporaryDirectory(prefix="ovl-refusals-") as folder:
-        room = Path(folder)
-        words = Sweep(crew.command, crew.stack, crew.workers, THREAD).words(program, room)
-        ending, met, _ = run(words, room, {"LD_PRELOAD": library, "REFUSE_AT": "0", **WAYS[THREAD]})
-    wanted = crew.threads()
-    if ending.status in (0, 1) and wanted <= met <= wanted + crew.workers:
-        return 1, []
-    return 1, [f"{crew.command} of {crew.stack} by {crew.workers}: {met} threads were started, and not {wanted}"]
-
-
-def crews() -> Iterator[Crew]:
-    for stack, (_, commands) in STARTS.items():
-        yield from (Crew(command, stack, workers) for command in commands for workers in (2, 4, 12))
-
-
 @dataclass(frozen=True)
 class Trial:
     """A test, and what it is refused: the first of these numbers, and each that comes SHARES later."""
@@ -310,7 +263,6 @@ def main() -> None:
         library = os.path.join(folder, "refuse.so")
         build(library)
         todo = [(it.command, pool.submit(swept, program, library, it)) for it in sweeps()]
-        todo += [(it.command, pool.submit(counted, program, library, it)) for it in crews()]
         todo += [(it.command, pool.submit(tried, tests, library, it)) for it in trials(tests)] if tests else []
         for command, done in todo:
             count, told = done.result()

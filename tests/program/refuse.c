@@ -1,8 +1,8 @@
 /* Stands before the C library (LD_PRELOAD) and refuses some of what a program asks of it. It needs no header.
 
    REFUSE        what is refused: memory, thread (its start), open, copy (of a descriptor), stat, list, empty, read or write;
-                 or what is counted alone: yield (of the processor), starter (each thread that starts another),
-                 or held (the most bytes of memory that are held at once)
+                 or what is only counted: yield (of the processor), starter (each thread that starts another),
+                 own (each open by the first thread), or held (the most bytes of memory that are held at once)
    REFUSE_AT     the number of the first that is refused, counted from 1; 0, or nothing: none is
    REFUSE_ON     given: all after it are refused too
    REFUSE_ERROR  the number of the error; 0: the call moves no byte
@@ -22,7 +22,7 @@ extern long syscall(long, ...);
 extern void *dlsym(void *, const char *);
 extern char **environ;
 
-enum { READ = 0, WRITE = 1, OPEN = 2, CLOSE = 3, YIELD = 24, CONTROL = 72, EMPTY = 77, THREAD = 186, LIST = 217, EXIT = 231, OPENAT = 257, STAT = 332 };
+enum { READ = 0, WRITE = 1, OPEN = 2, CLOSE = 3, YIELD = 24, PROCESS = 39, CONTROL = 72, EMPTY = 77, THREAD = 186, LIST = 217, EXIT = 231, OPENAT = 257, STAT = 332 };
 enum { NO_MEMORY = 12, TRY_AGAIN = 11, LONGEST = 60, FILES = 1024, STARTERS = 1024, COPY = 1030 };
 /* For writing, made where it isn't there, emptied where it is. */
 enum { ANEW = 01 | 0100 | 01000 };
@@ -152,6 +152,7 @@ int sched_yield(void) {
 static int opened(long call, long folder, const char *name, int flags, unsigned mode) {
     int counts = is_meant(name);
     if (counts && refuses("open")) return (int)refusal();
+    if (counts && what && is(what, "own") && syscall(THREAD) == syscall(PROCESS)) refuses("own");
     long file = call == OPEN ? syscall(OPEN, name, flags, mode) : syscall(OPENAT, folder, name, flags, mode);
     if (file >= 0 && file < FILES) meant[file] = (char)counts;
     return (int)file;
