@@ -8,10 +8,11 @@ import traceback
 from collections.abc import Iterable, Mapping, Sequence
 
 from .check.command import CheckOptions, check
-from .common.faults import OTHER, ClosedPipe, Fault, UsageFault
+from .common.colours import When, choose_colours
+from .common.faults import OTHER, USAGE, ClosedPipe, Fault, UsageFault
 from .common.outputs import standard_output
 from .common.program import choose_program
-from .common.progress import complain, note
+from .common.progress import Verbosity, choose_verbosity, complain, note
 from .flatten.image import FlattenOptions, flatten, flatten_commands
 from .flatten.rewrite import RewriteOptions, Rewriting, rewrite
 from .flatten.stack import NewLayersOptions, OutForm, flatten_stack
@@ -43,8 +44,14 @@ def main(words: Sequence[str]) -> int:
     for number in (signal.SIGTERM, signal.SIGHUP):
         signal.signal(number, _end)
     try:
-        options = parser_of(_RUNS).parse_args(list(words))
-        choose_program(options.unproved)
+        parser = parser_of(_RUNS)
+        if not words:
+            parser.print_help()
+            return USAGE
+        options = parser.parse_args(list(words))
+        choose_program(getattr(options, "unproved", False))
+        choose_verbosity(getattr(options, "verbosity", Verbosity.USUAL))
+        choose_colours(When(getattr(options, "color", When.AUTO)))
         run: Run = options.run
         run(options)
         return 0

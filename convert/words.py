@@ -14,6 +14,7 @@ from .model.rules import MAX_LAYERS
 from .model.workers import MOST_WORKERS, usual_workers
 from .sizes.limits import Limit, limit_of
 from .squashfs import programs as squashfs
+from .usage import HelpFormatter, Parser, common_words
 
 NAME = "layers"
 Run = Callable[[argparse.Namespace], None]
@@ -34,13 +35,13 @@ examples:
 
 exit status:
   0  done
-  1  the layers have faults, on standard output; check: it isn't fit; sizes: over --max-waste; diff: they differ
+  1  faults in the layers; check: not fit; sizes: over --max-waste; diff: different
   2  the words don't fit
   3  something can't be read, or can't be stated in a manifest or an image
   4  something can't be written
   5  anything else
 
-`{name} COMMAND --help` explains a command."""
+`{name} COMMAND --help` explains a command. -q, -v, --color and --unproved may come after it too."""
 
 _SCAN = """\
 Write the manifest of a layer, and the contents of its files into the folder of blobs. LAYER is the layer's
@@ -231,20 +232,16 @@ _MORE_WASTE = "more is wasted, such as 10%%, 50MB or 50MiB"
 
 def parser_of(runs: Mapping[str, Run]) -> argparse.ArgumentParser:
     """The parser of all words, with what each command runs."""
-    parser = argparse.ArgumentParser(
-        prog=NAME, description=_ABOUT, epilog=_MORE.format(name=NAME), allow_abbrev=False,
-        formatter_class=argparse.RawDescriptionHelpFormatter,
+    parser = Parser(
+        prog=NAME, description=_ABOUT, epilog=_MORE.format(name=NAME), allow_abbrev=False, parents=[common_words(False)],
+        formatter_class=HelpFormatter,
     )
-    parser.add_argument("--version", action="version", version=f"{NAME} {VERSION}", help="print the version")
-    parser.add_argument(
-        "--unproved", action="store_true",
-        help="in a checkout: run ovl_layers as compiled without proofs (90 s, once)",
-    )
+    parser.add_argument("-V", "--version", action="version", version=f"{NAME} {VERSION}", help="prints the version")
     commands = parser.add_subparsers(title="commands", metavar="COMMAND", required=True)
     for name, short, long, add in _COMMANDS:
         command = commands.add_parser(
-            name, help=short, description=long, allow_abbrev=False,
-            formatter_class=argparse.RawDescriptionHelpFormatter,
+            name, help=short, description=long, allow_abbrev=False, parents=[common_words(True)],
+            formatter_class=HelpFormatter,
         )
         command.set_defaults(run=runs[name])
         add(command)

@@ -7,6 +7,7 @@ from collections.abc import Callable, Iterable, Iterator
 from dataclasses import dataclass
 
 from ..common.amounts import amount_text, per_cent
+from ..common.colours import Colour, painted
 from ..common.escaping import printable
 from ..common.faults import FAULTY, Fault, UsageFault
 from ..common.outputs import passing_folder
@@ -153,7 +154,8 @@ def _verdict(answer: _Answer) -> str:
     ])
     wasted = f"; {_wasted(answer.waste)}" if answer.waste and answer.waste.bytes else ""
     strictly = " by --strict" if warnings and not faults and not answer.is_fit else ""
-    return f"is {'fit' if answer.is_fit else 'not fit'} to ship{strictly}: {counts}{wasted}"
+    fit = painted("fit", Colour.GREEN) if answer.is_fit else painted("not fit", Colour.RED)
+    return f"is {fit} to ship{strictly}: {counts}{wasted}"
 
 
 def _json_lines(answer: _Answer) -> Iterator[str]:

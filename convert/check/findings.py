@@ -4,6 +4,7 @@ from dataclasses import dataclass
 from enum import Enum
 from typing import Any
 
+from ..common.colours import Colour, painted
 from ..common.escaping import printable
 
 _NONE = "-"
@@ -17,6 +18,7 @@ class Level(Enum):
     NOTE = "note"
 
 
+_COLOURS = {Level.FAULT: Colour.RED, Level.WARNING: Colour.YELLOW, Level.NOTE: Colour.CYAN}
 _ORDER = {level: number for number, level in enumerate(Level)}
 
 
@@ -39,7 +41,7 @@ class Finding:
         """For a person, without its end."""
         layer = _NONE if self.layer is None else self.layer
         place = _NONE if self.path is None else printable(self.path)
-        return f"{self.level.value} {self.code} {layer} {place}: {printable(self.words)}"
+        return f"{painted(self.level.value, _COLOURS[self.level])} {self.code} {layer} {place}: {printable(self.words)}"
 
     def object(self) -> dict[str, Any]:
         """For a program."""

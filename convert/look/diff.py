@@ -8,6 +8,7 @@ from collections.abc import Callable, Iterable, Iterator
 from dataclasses import dataclass
 from typing import Any
 
+from ..common.colours import Colour, painted
 from ..common.escaping import printable
 from ..common.faults import FAULTY, Fault, writing
 from ..common.outputs import passing_folder
@@ -20,6 +21,7 @@ from .texts import attributes_of, decoded, name_text, object_of, time_text
 
 _VERSION = 1
 _ADDED, _REMOVED, _CHANGED = "+", "-", "M"
+_COLOURS = {_ADDED: Colour.GREEN, _REMOVED: Colour.RED, _CHANGED: Colour.YELLOW}
 _CONFIGURATION = "configuration"
 
 
@@ -151,7 +153,7 @@ def _object(change: _Any) -> dict[str, Any]:
 
 
 def _line(change: _Any) -> str:
-    mark = _mark(change)
+    mark = painted(_mark(change), _COLOURS[_mark(change)])
     if isinstance(change, ConfigurationChange):
         sides = [json.dumps(side) for side in (change.old, change.new) if side is not None]
         return f"{mark} {_CONFIGURATION}: {printable('.'.join(change.member))} {' -> '.join(sides)}\n"
