@@ -20,8 +20,14 @@ _layers() {
     _arguments -C \
         '-h[show this help message and exit]' \
         '--help[show this help message and exit]' \
-        '--version[print the version]' \
+        '-q[prints faults only, without notes and progress]' \
+        '--quiet[prints faults only, without notes and progress]' \
+        '-v[prints what is run too]' \
+        '--verbose[prints what is run too]' \
+        '--color[colours]:COLOR:(auto always never)' \
         '--unproved[in a checkout]' \
+        '-V[prints the version]' \
+        '--version[prints the version]' \
         '1:command:->command' '*::words:->words'
     case $state in
         command) _describe command commands ;;

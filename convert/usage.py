@@ -45,7 +45,10 @@ class HelpFormatter(argparse.HelpFormatter):
 
     def _fill_text(self, text: str, width: int, indent: str) -> str:
         paragraphs = text.split("\n\n")
-        return "\n\n".join(it if "\n " in f"\n{it}" else textwrap.fill(it, width) for it in paragraphs)
+        return "\n\n".join(it if "\n " in f"\n{it}" else "\n".join(_wrapped(it, width)) for it in paragraphs)
+
+    def _split_lines(self, text: str, width: int) -> list[str]:
+        return _wrapped(text, width)
 
     def _format_action(self, action: argparse.Action) -> str:
         if not isinstance(action, argparse._SubParsersAction):
@@ -56,6 +59,10 @@ class HelpFormatter(argparse.HelpFormatter):
             f"  {job}:\n" + "".join(f"    {name:{width}}  {about[name]}\n" for name in names if name in about)
             for job, names in JOBS.items()
         )
+
+
+def _wrapped(text: str, width: int) -> list[str]:
+    return textwrap.wrap(" ".join(text.split()), width, break_on_hyphens=False)
 
 
 def common_words(is_hidden: bool) -> Parser:

@@ -35,7 +35,7 @@ examples:
 
 exit status:
   0  done
-  1  faults in the layers; check: not fit; sizes: over --max-waste; diff: different
+  1  faults in layers; check: not fit; sizes: over --max-waste; diff: different
   2  the words don't fit
   3  something can't be read, or can't be stated in a manifest or an image
   4  something can't be written
@@ -166,12 +166,15 @@ _CHECK = """\
 Print what is wrong with an image, a line each: fault, warning or note, a code, the layer (0 is the topmost), the
 path, and words; then the verdict. It looks at
 
-  - descriptors and digests, and by the proved `ovl_layers fsck` at the layers and at all contents
-  - the configuration: the entrypoint or command, and the health check, found by PATH and executable by the image's user,
-    with their interpreters and for its processor; the user and groups; the working directory
-  - waste, as `sizes` has it: bytes that were removed or replaced, and those that are there twice
-  - files whose names are those of keys and credentials: a warning if they were deleted or replaced and so are shipped
-    all the same, a note if they are shown
+  - descriptors and digests, and by the proved `ovl_layers fsck` at the layers
+    and at all contents
+  - the configuration: the entrypoint or command, and the health check, found by
+    PATH and executable by the image's user, with their interpreters and for its
+    processor; the user and groups; the working directory
+  - waste, as `sizes` has it: bytes that were removed or replaced, and those
+    that are there twice
+  - files whose names are those of keys and credentials: a warning if they were
+    deleted or replaced and so are shipped all the same, else a note
 
 SOURCE is an IMAGE, or a folder that `unpack` wrote with contents. All contents are written to TMPDIR meanwhile.
 Status 0 says that it is fit, 1 that it isn't: there are faults, or with --strict warnings. --json prints one object."""

@@ -20,6 +20,7 @@ from pathlib import Path
 TOP = Path(__file__).resolve().parent.parent
 DATE = "2026-11"
 _HEADING = re.compile(r"(?:Usage|Commands|Arguments|Options|Exit status|Examples?|Positional arguments):$", re.IGNORECASE)
+_ITEM = "  - "
 _WIDE = {**os.environ, "COLUMNS": "10000", "PYTHONDONTWRITEBYTECODE": "1"}  # so that nothing is broken
 
 
@@ -56,7 +57,7 @@ def help_of(text: str) -> Help:
 def helps_of_layers() -> tuple[Help, dict[str, Help]]:
     """The help of `layers`, and of each of its commands."""
     whole = help_of(_printed("--help"))
-    names = [name for name, _ in whole.rows("commands") if name != "COMMAND"]
+    names = [name for name, _ in whole.rows("commands") if not name.endswith(":")]  # of a job
     return whole, {name: help_of(_printed(name, "--help")) for name in names}
 
 
@@ -103,7 +104,10 @@ def _paragraphs(paragraphs: list[str]) -> Iterator[str]:
     for number, paragraph in enumerate(paragraphs):
         if number:
             yield ".PP"
-        if paragraph:
+        if paragraph.startswith(_ITEM):
+            for item in paragraph[len(_ITEM):].split(f"\n{_ITEM}"):
+                yield from (".IP \\(bu 2", _plain(item))
+        elif paragraph:
             yield _plain(paragraph)
 
 

@@ -11,6 +11,7 @@ import io
 import itertools
 import json
 import os
+import re
 import runpy
 import shutil
 import signal
@@ -24,16 +25,19 @@ import unittest
 import zlib
 from unittest import mock
 
+from images import archive, folder, member, write_layout
 from support import (
     COMMAND, ROOT, ROOT_LAYER, FolderTest, call, left_stage, links, run, run_as_anybody, why_no_trusted,
 )
 
+from convert import cli as command
 from convert.common import open_dirs as places
+from convert.common.colours import Colour, When, choose_colours, painted
 from convert.image.compression import BLOCK, GZIP, Compression, packing
 from convert.model.manifests import read_manifest
+from convert.usage import JOBS
 
 A = hashlib.sha256(b"a").hexdigest()
-COMMANDS = ("scan", "store", "build", "unpack", "pack", "flatten", "diff", "mounted")
 
 
 def _clone(target: int, _: int, source: int) -> None:
@@ -61,22 +65,60 @@ class Words(FolderTest):
 
     def test_usage(self) -> None:
         for words in (
-            (), ("dance",), ("scan",), ("scan", "x"), ("build", "x", "--out", "y"), ("mounted",), ("--he",),
+            ("dance",), ("-q",), ("scan",), ("scan", "x"), ("build", "x", "--out", "y"), ("mounted",), ("--he",),
             ("scan", "x", "--out", "y", "--blobs", "z", "--workers", "0"), ("pack", "--blobs", "b", "--out", "o"),
             ("pack", "l", "--blobs", "b", "--out", "o", "--platform", "linux"), ("store", "x"),
             ("scan", "x", "--out", "y", "--blobs", "z", "--digests-only"),
         ):
             status, printed, messages = call(*words)
-            self.assertEqual((status, printed), (2, ""), words)
-            self.assertTrue(messages.startswith("usage: layers"), messages)
+            self.assertEqual((status, printed, messages.count("\n")), (2, "", 1), words)
+            self.assertRegex(messages, r"^layers: .*; see `layers .*--help`\n$")
+        self.assertIn("there is no command flaten (is it flatten?); see `layers --help`", call("flaten")[2])
 
     def test_help(self) -> None:
-        for words in (("--help",), *((name, "-h") for name in COMMANDS)):
+        for words in (("--help",), *((name, "-h") for name in command._RUNS)):
             status, printed, messages = call(*words)
             self.assertEqual((status, messages), (0, ""))
             self.assertTrue(printed.startswith("usage: layers"))
-        with mock.patch.dict(os.environ, COLUMNS="100"):
-            self.assertLessEqual(len(call("--help")[1].splitlines()), 40)
+        self.assertEqual(call(), (2, call("--help")[1], ""))
+
+    def test_help_in_80_columns_has_every_command(self) -> None:
+        with mock.patch.dict(os.environ):
+            os.environ.pop("COLUMNS", None)
+            whole, names = call("--help")[1], [name for names in JOBS.values() for name in names]
+            helps = [whole, *(call(name, "--help")[1] for name in command._RUNS)]
+        self.assertEqual([line for text in helps for line in text.splitlines() if len(line) > 80], [])
+        listed = re.findall(r"^    (\w+)  ", whole, re.MULTILINE)
+        self.assertEqual(listed, [name for name in names if name in command._RUNS])
+        self.assertEqual(set(listed), set(command._RUNS))
+        self.assertLessEqual(len(whole.splitlines()), 64)
+
+    def test_words_before_and_after(self) -> None:
+        image = self.path("image")
+        write_layout(image, [archive([folder("./"), member("a/b", b"c")])])
+        more = ("--out", self.path("out"), "--digests-only", "--color", "never")
+        for words, is_quiet in (
+            (("-q", "unpack"), True), (("unpack", "-q"), True), (("unpack",), False), (("-q", "unpack", "-v"), False),
+        ):
+            status, printed, messages = call(*words, image, *more)
+            self.assertEqual((status, printed, messages == ""), (0, "", is_quiet), messages)
+            shutil.rmtree(self.path("out"))
+        self.assertEqual(call("-V"), call("--version"))
+
+    def test_colours(self) -> None:
+        for when, environment, is_terminal, has_colours in (
+            (When.AUTO, {}, True, True), (When.AUTO, {}, False, False), (When.AUTO, {"NO_COLOR": "1"}, True, False),
+            (When.AUTO, {"NO_COLOR": ""}, True, True), (When.AUTO, {"TERM": "dumb"}, True, False),
+            (When.ALWAYS, {"NO_COLOR": "1"}, False, True), (When.NEVER, {}, True, False),
+        ):
+            out = io.StringIO()
+            out.isatty = lambda: is_terminal  # type: ignore[method-assign]
+            with mock.patch.dict(os.environ, {"TERM": "xterm", **environment}), contextlib.redirect_stdout(out):
+                if "NO_COLOR" not in environment:
+                    os.environ.pop("NO_COLOR", None)
+                choose_colours(when)
+                self.assertEqual(painted("x", Colour.RED), "\x1b[31mx\x1b[0m" if has_colours else "x", (when, environment))
+        choose_colours(When.AUTO)
 
     def test_older_pythons(self) -> None:
         with open(COMMAND, encoding="utf-8") as file:
