@@ -15,6 +15,7 @@ _layers() {
         flatten/--layers) compopt +o default && return ;;
         flatten/--base) compopt +o default && return ;;
         flatten/--keep) compopt -o filenames; mapfile -t COMPREPLY < <(compgen -d -- "$word") && return ;;
+        flatten/--exclude) compopt +o default && return ;;
         flatten/--data-layers) compopt +o default && return ;;
         flatten/--workers) compopt +o default && return ;;
         flatten/--blobs) compopt -o filenames; mapfile -t COMPREPLY < <(compgen -d -- "$word") && return ;;
@@ -74,7 +75,7 @@ _layers() {
     esac
     case $command in
         '') mapfile -t COMPREPLY < <(compgen -W 'flatten check sizes diff vacuum deref merge unpack pack scan store build mounted -h --help -q --quiet -v --verbose --color --unproved -V --version' -- "$word") ;;
-        flatten) [[ $word != -* ]] || mapfile -t COMPREPLY < <(compgen -W '-h --help --platform --from-tag --overlay-marks --skip-unsupported --out --compress -t --name --layers --base --keep --dry-run --stack --data-layers --userxattr --no-userxattr --cross-file-systems --workers --blobs --form' -- "$word") ;;
+        flatten) [[ $word != -* ]] || mapfile -t COMPREPLY < <(compgen -W '-h --help --platform --from-tag --overlay-marks --skip-unsupported --out --compress -t --name --layers --base --keep --exclude --dry-run --stack --data-layers --userxattr --no-userxattr --cross-file-systems --workers --blobs --form' -- "$word") ;;
         check) [[ $word != -* ]] || mapfile -t COMPREPLY < <(compgen -W '-h --help --strict --json --base --max-waste --platform --from-tag --overlay-marks --skip-unsupported --stack --data-layers --userxattr --no-userxattr --cross-file-systems --workers --blobs' -- "$word") ;;
         sizes) [[ $word != -* ]] || mapfile -t COMPREPLY < <(compgen -W '-h --help --platform --from-tag --overlay-marks --skip-unsupported --stack --data-layers --userxattr --no-userxattr --cross-file-systems --workers --json --bytes --advice --html --base --max-waste --fail-over' -- "$word") ;;
         diff) [[ $word != -* ]] || mapfile -t COMPREPLY < <(compgen -W '-h --help --ignore --no-config --stat --json --platform --from-tag --overlay-marks --skip-unsupported' -- "$word") ;;

@@ -48,6 +48,7 @@ _layers() {
                     '--layers[how many layers are left at most]:N:' \
                     '--base[the lowest N layers, or those of this image, stay byte for byte, and all above becomes one layer]:N|IMAGE:' \
                     '--keep[folder to make, absent or empty, for all that is made on the way]:DIR:_files -/' \
+                    '--exclude[leaves PATH out with all below it, as if the topmost layer had removed it]:PATH:' \
                     '--dry-run[prints the commands, as a shell takes them, and runs none]' \
                     '--stack[layers in place of an image, the topmost first]:LAYER:_files' \
                     '--data-layers[with --stack]:K:' \

@@ -6,6 +6,7 @@ import signal
 import sys
 import traceback
 from collections.abc import Iterable, Mapping, Sequence
+from dataclasses import replace
 
 from .check.command import CheckOptions, check
 from .common.colours import When, choose_colours
@@ -13,6 +14,7 @@ from .common.faults import OTHER, USAGE, ClosedPipe, Fault, UsageFault
 from .common.outputs import standard_output
 from .common.program import choose_program
 from .common.progress import Verbosity, choose_verbosity, complain, note
+from .flatten.exclusion import excluded_path
 from .flatten.image import FlattenOptions, flatten, flatten_commands
 from .flatten.rewrite import RewriteOptions, Rewriting, rewrite
 from .flatten.stack import NewLayersOptions, OutForm, flatten_stack
@@ -200,7 +202,7 @@ def _flatten_image(words: argparse.Namespace) -> None:
     out = _target(words.out, words.dry_run)
     options = FlattenOptions(
         image=_folder(words.image), out=out, name=_name(out, words.name), layers=words.layers,
-        base=words.base and _folder(words.base),
+        base=words.base and _folder(words.base), excluded=list(map(excluded_path, words.exclude)),
         keep=words.keep and _folder(words.keep), platform=words.platform, tag=words.from_tag,
         skip_unsupported=words.skip_unsupported, overlay_marks=words.overlay_marks, compress=words.compress,
     )
@@ -217,7 +219,8 @@ def _flatten_stack(words: argparse.Namespace) -> None:
         raise UsageFault("--base is for images alone; --layers N leaves N layers of a stack")
     if words.compress and words.compress.method == NONE:
         raise UsageFault("--compress none is for images alone")
-    flatten_stack(_new_layers(words, words.layers))
+    excluded = list(map(excluded_path, words.exclude))
+    flatten_stack(replace(_new_layers(words, words.layers), excluded=excluded))
 
 
 def _new_layers(words: argparse.Namespace, layers: int) -> NewLayersOptions:

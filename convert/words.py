@@ -413,6 +413,10 @@ def _add_flatten(parser: argparse.ArgumentParser) -> None:
     )
     _add_keep(parser)
     parser.add_argument(
+        "--exclude", metavar="PATH", action="append", default=[],
+        help="leaves PATH out with all below it, as if the topmost layer had removed it; may be given again",
+    )
+    parser.add_argument(
         "--dry-run", action="store_true", help="prints the commands, as a shell takes them, and runs none"
     )
     _add_stack(parser, _WITH_STACK)

@@ -50,6 +50,7 @@ class FlattenOptions:
     layers: int = 1
     base: str | None = None  # the layers that stay as they are: an image, or how many, the lowest ones
     keep: str | None = None
+    excluded: Sequence[str] = ()  # paths that the new image isn't to show
     platform: str | None = None
     tag: str | None = None
     skip_unsupported: bool = False
@@ -75,6 +76,8 @@ def flatten(options: FlattenOptions) -> None:
 
 def flatten_commands(options: FlattenOptions) -> list[str]:
     """The commands that do the same by hand, each a line for a shell."""
+    if options.excluded:
+        raise UsageFault("--dry-run has no commands for --exclude")
     dry_run = _DryRun(_with_place(options))
     carry_out(dry_run, options.layers)
     return dry_run.lines
@@ -132,8 +135,8 @@ class _Given:
 
 
 def _given_of(image: Image, options: FlattenOptions, base: int) -> _Given:
-    count, left = len(image.layers), max(options.layers, base + 1)
-    making = Making(_made_by(image, min(left, count) - 1), count)
+    count = len(image.layers)
+    making = Making(_made_by(image, max(options.layers, base + 1) - 1), count)
     return _Given(count, _name_of(image, options), bool(image.annotations), _compression_of(image, options), making)
 
 
@@ -143,9 +146,9 @@ def _made_by(image: Image, kept: int) -> str:
     name = next(iter(image.names), None)
     which = [name, digest and f"({digest})"] if name else [digest]
     places = layer_lines(image.configuration.get("history") or [])
-    lines = None
-    if len(places) == len(image.layers):
-        first, last = places[kept] + 1, places[-1] + 1
+    gone, lines = places[kept:], None
+    if gone and len(places) == len(image.layers):
+        first, last = gone[0] + 1, gone[-1] + 1
         lines = f"line {first} of" if first == last else f"lines {first} to {last} of"
     return " ".join(filter(None, [_MAKER, lines, *which]))
 
@@ -176,6 +179,7 @@ class _ImageRunner(Runner):
         self._options = options
         self._image = image
         self._opened = opened
+        self.excluded = options.excluded
         self._layers: Sequence[ImageLayer] = ()  # that may stay as they are, the lowest first
         self._given = _Given(0, None, False, PLAIN, Making())
 
@@ -201,7 +205,7 @@ class _ImageRunner(Runner):
     def run(self, step: str, what: str, layers: Sequence[str], new: str, own: Sequence[str] = ()) -> None:
         """See `Plan`."""
         super().run(step, what, layers, new, own)
-        if new == BEFORE and self._given.compress == PLAIN and not self._layers:
+        if new == BEFORE and self._given.compress == PLAIN and not self._layers and not self.excluded:
             require_room(self._options.out.label, self._image, least_shown(self.path(new)))
 
     def pack(self, layers: Sequence[str]) -> None:
@@ -327,6 +331,10 @@ class _DryRun:
         if self._marks:
             self.lines.append(f"# here `{NAME} deref` of each layer with redirects or metacopy files, lowest first\n")
         return []
+
+    def without_excluded(self, layers: Sequence[str]) -> list[str]:
+        """See `Plan`: none are."""
+        return list(layers)
 
     def compare(self, report: str) -> None:
         """See `Plan`."""

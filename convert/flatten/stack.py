@@ -29,7 +29,7 @@ from ..squashfs import programs as squashfs
 from ..squashfs.layer_files import Form
 from ..squashfs.limits import fitted_lines
 from ..squashfs.programs import Packing
-from .steps import AGAIN, BEFORE, STACK, Runner, carry_out, timed, work_folder
+from .steps import AGAIN, STACK, Runner, carry_out, timed, work_folder
 
 _NEW = "new"
 _FITTED = "fitted.show"
@@ -56,6 +56,7 @@ class NewLayersOptions:
     layers: int = 1
     data_layers: int = 0
     keep: str | None = None
+    excluded: Sequence[str] = ()
     compress: Compression | None = None  # of a squashfs; otherwise as the topmost given one is packed
 
     def is_squashfs(self) -> bool:
@@ -158,6 +159,7 @@ class StackRunner(Runner):
         super().__init__(folder, options.keep is not None, sys.stdout, options.stack.layers)
         self._options = options
         self._made = made
+        self.excluded = options.excluded
         self._packing = Packing()
         if options.is_squashfs():
             self._packing = _packing_of(options, forms)
@@ -240,8 +242,8 @@ class StackRunner(Runner):
         """The report that the new layers are to show: that of the given ones, as far as the form of the new ones can hold
         it. If they are over others, only what the topmost one has is of that form."""
         if not self._options.is_squashfs():
-            return BEFORE
-        lines = read_report(self.path(BEFORE))
+            return self.wanted()
+        lines = read_report(self.path(self.wanted()))
         fitting = fitted_lines(lines) if topmost is None else _fitted_above(lines, read_manifest(self.path(topmost)))
         write_text(self.path(_FITTED), report_of(fitting))
         return _FITTED

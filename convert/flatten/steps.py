@@ -18,13 +18,16 @@ from ..model import stacks
 from ..model.entries import METACOPY, REDIRECT, Entry, named
 from ..model.links import links_path, numbered_names
 from ..model.manifests import has_attribute, read_manifest, write_manifest
-from ..model.show_report import escaped_path
+from ..model.show_report import escaped_path, read_report, report_of
 from ..model.shown_files import Files, files_in, shown_files
+from .exclusion import lines_without, write_without
 
 STACK = "stack"
 AGAIN = "again"
 BEFORE = "before.show"
 _AFTER = "after.show"
+_EXCLUDED = "excluded"
+_WITHOUT = f"{_EXCLUDED}.show"
 REPORT = "report"
 _WORK = "work"
 _REMOVED = "removed "  # how each line of the report of `vacuum` begins
@@ -49,8 +52,11 @@ class Plan(Protocol):
     def moved(self, layers: Sequence[str]) -> list[int]:
         """The layers with redirects or metacopy files, which no image can state; the lowest first."""
 
+    def without_excluded(self, layers: Sequence[str]) -> list[str]:
+        """New layers as if the topmost one had removed the paths that are excluded."""
+
     def compare(self, report: str) -> None:
-        """Goes on only if a report is that of the given image."""
+        """Goes on only if a report is that of the given image, without the paths that are excluded."""
 
     def pack(self, layers: Sequence[str]) -> None:
         """Writes the image, if it shows the same when it is read again."""
@@ -67,14 +73,14 @@ def carry_out(plan: Plan, wanted: int, data_layers: int = 0) -> tuple[int, int]:
     given = stacks.layer_paths(STACK, count)
     wanted = max(wanted, plan.base + 1)
     is_one = plan.base == 0 and min(count - data_layers, wanted) == 1
-    new = _as_one(plan, given) if is_one else _merged_down(plan, given, wanted, data_layers)
+    new = plan.without_excluded(_as_one(plan, given) if is_one else _merged_down(plan, given, wanted, data_layers))
     require_same(plan, given, new)
     plan.pack(new)
     return count, len(new)
 
 
 def require_same(plan: Plan, given: Sequence[str], new: Sequence[str]) -> None:
-    """Goes on only if the new layers show what the given ones do."""
+    """Goes on only if the new layers show what the given ones do, without what is excluded."""
     plan.run("show", "show", given, BEFORE)
     plan.run("show of the new layers", "show", new, _AFTER)
     plan.compare(_AFTER)
@@ -127,6 +133,7 @@ class Runner:
         self._program = require_program(given)
         self.count = 0  # of the given layers
         self.base = 0
+        self.excluded: Sequence[str] = ()  # paths that the new layers aren't to show
         self.bytes_given: int | None = None  # in the files of the layers, if they are in files
         self.bytes_made: int | None = None
         self.data_layers: frozenset[str] = frozenset()  # the names of those that are data-only
@@ -226,8 +233,31 @@ class Runner:
         same = (new == given or filecmp.cmp(self.path(new), self.path(given), shallow=False) for new, given in pairs)
         return sum(1 for _ in itertools.takewhile(bool, same))
 
-    def compare(self, report: str, wanted: str = BEFORE) -> None:
+    def without_excluded(self, layers: Sequence[str]) -> list[str]:
+        """See `Plan`. Over a base that is all of the layers it is one more layer."""
+        if not self.excluded:
+            return list(layers)
+        topmost, below = (None, layers) if len(layers) == self.base else (self.path(layers[0]), layers[1:])
+        made = new_layer(_EXCLUDED)
+        with timed("exclude") as words:
+            with writing(self.path(_EXCLUDED)):
+                os.mkdir(self.path(_EXCLUDED))
+            write_without(topmost, [self.path(layer) for layer in below], self.excluded, self.path(made))
+            words.append(counted(len(self.excluded), "path", "paths"))
+        return [made, *below]
+
+    def wanted(self) -> str:
+        """The report that the new layers are to show."""
+        if not self.excluded:
+            return BEFORE
+        if not os.path.exists(self.path(_WITHOUT)):
+            lines = lines_without(read_report(self.path(BEFORE)), self.excluded)
+            write_text(self.path(_WITHOUT), report_of(lines))
+        return _WITHOUT
+
+    def compare(self, report: str, wanted: str | None = None) -> None:
         """See `Plan`."""
+        wanted = wanted or self.wanted()
         if not filecmp.cmp(self.path(wanted), self.path(report), shallow=False):
             kept = f"see {wanted} and {report} in {self._folder}"
             hint = kept if self._is_kept else "--keep DIR keeps both reports"

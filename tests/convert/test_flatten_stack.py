@@ -96,6 +96,15 @@ class Stacks(StackTest):
         with open(self.path("kept", "new.show"), "rb") as one, open(self.path("kept", "before.show"), "rb") as other:
             self.assertEqual(one.read(), other.read())
 
+    def test_paths_that_are_excluded(self) -> None:
+        self.require_program()
+        self.require_done(self.flatten("--exclude", "d/h", "--exclude", "/l"))
+        wanted = {path: what for path, what in self.WANTED.items() if path not in ("/d/h", "/l")}
+        self.assertEqual(self.shown(self.path("flat.squashfs")), wanted)
+        self.require_done(self.flatten("--exclude", "/l", "--layers", 2, "--form", "squashfs", out="two"))
+        upper = self.shown(self.path("two", "l0.squashfs"))
+        self.assertEqual(upper["/l"], ("char", "0"))
+
     def test_several_layers(self) -> None:
         self.require_program()
         self.require_done(self.flatten("--layers", 2, "--form", "squashfs", out="flat"))
