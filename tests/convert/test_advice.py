@@ -1,12 +1,18 @@
 """`sizes --advice`: each rule named on an image made for it, and none on a clean one."""
 
 import json
+import os
+import random
+import re
+import shutil
+import subprocess
 import tarfile
 import unittest
 
+from engines import Engine
 from images import archive, folder, member
 from plain_stacks import PlainStack, random_stack
-from support import call
+from support import call, why_no_trusted
 from test_sizes import SizesTest, StacksTest
 
 from convert.sizes.advice import RULES, advice_of
@@ -45,6 +51,24 @@ BYTES  FILES  STEP  WHAT AND WHERE
 layers flatten saves 40K of what is wasted at once
 
 """
+_TOOLS = ("sh", "chown", "chmod", "setcap", "touch", "cp", "mv", "rm", "mkdir", "head")
+# Lines over a base of these tools, the rule that is named, and what saves the bytes: 50,000 by COPY.
+_DOCKERFILES = (
+    ("owner", "COPY data /opt/; RUN chown 33:33 /opt/data", "COPY --chown=33:33 in step 2"),
+    ("mode", "COPY data /opt/; RUN chmod 700 /opt/data", "COPY --chmod=700 in step 2"),
+    ("attributes", "COPY data /opt/; RUN setcap cap_net_raw+ep /opt/data", "copy and set them in one RUN --mount=type=bind"),
+    ("unchanged", "COPY data /opt/; RUN touch -d 2001-01-01 /opt/data", "leave it out of step 3"),
+    ("copied", "COPY data /opt/; RUN mkdir /srv && cp /opt/data /srv/other", "a symlink in place of the copy"),
+    ("moved", "COPY data /opt/; RUN mv /opt/data /opt/other", "COPY to the final path in step 2"),
+    ("rewritten", "RUN mkdir /opt && head -c 9000 /dev/urandom > /opt/a; RUN head -c 9 /dev/urandom >> /opt/a",
+     "write it once, in one RUN with step 3"),
+    ("replaced", "COPY data /opt/; RUN echo new > /opt/data", "leave it out of what is copied, or take a newer base"),
+    ("removed", "COPY data /opt/; RUN rm /opt/data", "RUN --mount=type=bind in place of COPY, or .dockerignore"),
+    ("removed", "RUN head -c 9000 /dev/urandom > /a; RUN rm /a", "remove it in the same RUN"),
+    ("cache", "RUN mkdir -p /var/cache/apt && head -c 9000 /dev/urandom > /var/cache/apt/x",
+     "apt-get clean in the same RUN, or RUN --mount=type=cache"),
+    ("", "COPY --chown=33:33 --chmod=700 data /opt/; RUN head -c 9000 /dev/urandom > /a && rm /a && mkdir /srv", ""),
+)
 _SAME = _data(name="srv/again.bin")
 # Two lines of a Dockerfile with their layers, and the advice: the rule, the step, its bytes and the remedy.
 _CASES = (
@@ -140,6 +164,55 @@ class Numbers(StacksTest):
                         self.assertTrue(any(path.startswith(one.place().path) for path in one.files), one)
                     met |= {one.rule.name for one in found}
         self.assertLessEqual({"unused", "removed", "replaced", "rewritten", "unchanged", "copied", "moved"}, met)
+
+
+class OfBuiltImages(SizesTest):
+    """Images that buildah builds of Dockerfiles, one for each rule, and a clean one."""
+
+    def setUp(self) -> None:
+        super().setUp()
+        reason = why_no_trusted(self.folder)
+        absent = [tool for tool in ("buildah", *_TOOLS) if shutil.which(tool) is None]
+        if reason or absent:
+            self.skipTest(reason or f"needs {', '.join(absent)}")
+        self.buildah = Engine([
+            "buildah", "--root", self.path("root"), "--runroot", self.path("run"), "--storage-driver", "vfs",
+        ], {})
+        os.makedirs(self.path("context", "tools", "bin"))
+        with open(self.path("context", "data"), "wb") as file:
+            file.write(random.Random(5).randbytes(50_000))
+        for tool in _TOOLS:
+            self._add_tool(str(shutil.which(tool)))
+        try:
+            self.build("base", "FROM scratch\nCOPY tools /\n")
+        except RuntimeError as problem:
+            self.skipTest(f"buildah can't build here: {problem}")
+
+    def _add_tool(self, program: str) -> None:
+        """Puts a program with its libraries into the context."""
+        shutil.copy(program, self.path("context", "tools", "bin"))
+        needs = subprocess.run(["ldd", program], capture_output=True, text=True, check=True).stdout
+        for library in re.findall(r"/\S+", needs):
+            os.makedirs(os.path.dirname(self.path("context", "tools") + library), exist_ok=True)
+            shutil.copy(library, self.path("context", "tools") + library)
+
+    def build(self, name: str, text: str) -> None:
+        """Builds an image of a Dockerfile."""
+        with open(self.path("context", name), "w", encoding="ascii") as file:
+            file.write(text)
+        self.buildah("build", "--isolation", "chroot", "--layers", "--pull-never", "--ignorefile", "/dev/null", "--tag", name,
+                     "--file", self.path("context", name), self.path("context"))
+
+    def test_rules(self) -> None:
+        for number, (rule, lines, remedy) in enumerate(_DOCKERFILES):
+            with self.subTest(rule=rule, lines=lines):
+                self.build(f"image{number}", "FROM base\n" + lines.replace("; ", "\n") + "\n")
+                self.buildah("push", "--quiet", f"image{number}", f"oci:{self.path('pushed')}:{number}")
+                result = call("sizes", f"oci:{self.path('pushed')}:{number}", "--advice", "--json")
+                self.require_done(result)
+                found = [(one["rule"], one["remedy"]) for one in json.loads(result[1])["advice"]]
+                self.assertEqual(found, [(rule, remedy)] if rule else [])
+        self.assertEqual({rule for rule, _, _ in _DOCKERFILES} - {""}, {rule.name for rule in RULES} - {"unused"})
 
 
 class Caches(unittest.TestCase):
