@@ -158,6 +158,7 @@ class Image:
     names: tuple[str, ...] = ()
     annotations: Mapping[str, str] = field(default_factory=dict)  # but for those of the base, which new layers haven't
     digest: Digest | None = None  # of its configuration, by which docker names it
+    manifest_digest: Digest | None = None  # by which registries name it
 
     def layer_bytes(self) -> int:
         """How many bytes its layers have in it, each file once."""
@@ -187,6 +188,7 @@ class _InLayout(_Choice):
     manifest: Manifest
     name: str
     stated: Mapping[str, Json]
+    digest: Digest | None = None
 
 
 @dataclass(frozen=True)
@@ -352,7 +354,8 @@ class _Layout:
         if self._members.size("manifest.json") is not None:
             self._require_agreement(self._documents.read("manifest.json"))
         chosen = _one_of(self._members.path, list(self._choices.values()), platform, tag)
-        return replace(_image(self._documents, chosen, _blob_in_layout), names=tuple(chosen.names))
+        image = _image(self._documents, chosen, _blob_in_layout)
+        return replace(image, names=tuple(chosen.names), manifest_digest=chosen.digest)
 
     def _require_agreement(self, value: Json) -> None:
         """Refuses what `docker save` would list beside the index, if it isn't of the same images: docker reads that."""
@@ -402,7 +405,7 @@ class _Layout:
             self._visit(document, name, names, stated, depth + 1)
         else:
             self._choices[descriptor.digest, wanted] = _InLayout(
-                wanted or self._platform(document), dict.fromkeys(names), document, name, stated
+                wanted or self._platform(document), dict.fromkeys(names), document, name, stated, descriptor.digest
             )
 
     def _require_same(self, descriptor: Descriptor) -> None:

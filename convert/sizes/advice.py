@@ -15,6 +15,7 @@ from .layer_sizes import NotShown, Sizes
 from .texts import Origin, layer_text
 from .waste import Place, large_places
 
+_LEAST_PART = 1_000  # advice is listed from this part of all bytes on
 _NEAR = 10  # a size is near another one if it differs by less than this part of it
 _COPIES = ("COPY", "ADD")
 _RUN = "RUN"
@@ -113,11 +114,13 @@ RULES = (
     ),
     Rule(
         "rewritten", _is_rewritten, "rewritten in {other}, of nearly the same size",
-        "copy it as {other} leaves it", "write it once, in one RUN with {other}", "write it once, as {other} does",
+        "copy it as {other} leaves it, or take a newer base",
+        "write it once, in one RUN with {other}", "write it once, as {other} does",
     ),
     Rule(
         "replaced", lambda it: it.replacing is not None, "replaced in {other}",
-        "leave it out of what is copied (.dockerignore)", "write it once, in one RUN with {other}", "leave it out of {own}",
+        "leave it out of what is copied, or take a newer base", "write it once, in one RUN with {other}",
+        "leave it out of {own}",
     ),
     Rule(
         "removed", lambda it: it.other is not None, "removed in {other}",
@@ -230,9 +233,19 @@ def _word_of(origin: Origin) -> str:
     return short_command(origin.made_by).partition(" ")[0] if origin.step and origin.made_by else ""
 
 
-def json_members(advice: Sequence[Advice] | None) -> dict[str, Any]:
-    """The same for a program, if it was asked for."""
-    return {} if advice is None else {"advice": [
+def worth_listing(advice: Sequence[Advice], total: int) -> Sequence[Advice]:
+    """The advice that saves enough of all these bytes, the first of it."""
+    return [it for it in advice if it.bytes * _LEAST_PART >= total]
+
+
+def smaller_text(advice: Sequence[Advice], size_text: Callable[[int], str]) -> str:
+    """What the others save together."""
+    return f"{len(advice):,} smaller, {size_text(sum(it.bytes for it in advice))} in all"
+
+
+def json_members(advice: Sequence[Advice]) -> dict[str, Any]:
+    """The same for a program."""
+    return {"advice": [
         {
             "rule": it.rule.name, "layer": it.layer, "other": it.other, "bytes": it.bytes, "shown": it.shown,
             "files": it.file_count, "path": it.place().path, "what": it.what, "remedy": it.remedy,

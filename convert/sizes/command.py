@@ -11,7 +11,8 @@ from ..common.outputs import STANDARD_OUTPUT, passing_folder
 from ..common.program import require_program, run_program, words_of
 from ..folder.stack_layers import StackOptions, read_stack, require_ordinary
 from ..image.base import layers_of_base
-from ..image.images import image_place, opened_image, paths_of_image
+from ..image.configuration import platform_text
+from ..image.images import Image, image_place, opened_image, paths_of_image
 from ..image.members import STANDARD_INPUT
 from ..image.unpack import UnpackOptions, unpack_opened
 from ..model import stacks
@@ -19,7 +20,7 @@ from .advice import advice_of, json_members
 from .history import steps_of
 from .layer_sizes import sizes_of
 from .limits import Limit
-from .page import write_page
+from .page.write import Subject, write_page
 from .table import screen_width, table
 from .texts import Origin, json_text
 from .waste import Waste, waste_of
@@ -64,13 +65,14 @@ def sizes(options: SizesOptions, print_lines: Callable[[Iterable[str]], None]) -
         run_program(program, words, folder, _SHOWN, sys.stderr)
         found = sizes_of(given.layers, options.data_layers, f"{folder}/{_SHOWN}")
     waste = waste_of(found, given.base)
-    advice = advice_of(found, waste.layers, given.origins) if options.advice else None
+    origins = given.subject.origins
+    advice = advice_of(found, waste.layers, origins) if options.advice or options.page is not None else []
     if options.page is not None:
-        write_page(options.page, found, given.origins, given.name)
+        write_page(options.page, given.subject, found, waste, advice)
     if options.page != STANDARD_OUTPUT:
         print_lines(
-            json_text(found, given.origins, json_members(advice)) if options.as_json
-            else table(found, given.origins, waste, advice, options.exact, screen_width())
+            json_text(found, origins, json_members(advice) if options.advice else {}) if options.as_json
+            else table(found, origins, waste, advice if options.advice else None, options.exact, screen_width())
         )
     _require_little_waste(waste, options.max_waste)
 
@@ -82,12 +84,11 @@ def _given_paths(options: SizesOptions) -> Sequence[str]:
 
 @dataclass(frozen=True)
 class _Given:
-    """What is measured: its name, its manifests, the topmost first, how each came, and how many are a base's."""
+    """What is measured: its manifests, the topmost first, how many are a base's, and what is known of it."""
 
-    name: str
     layers: list[str]
-    origins: list[Origin]
     base: int
+    subject: Subject
 
 
 def _given_image(options: SizesOptions, folder: str) -> _Given:
@@ -107,7 +108,17 @@ def _given_image(options: SizesOptions, folder: str) -> _Given:
             Origin(layer.packed_size(), step.made_by if step else None, step) for layer, step in zip(image.layers, steps)
         ]
     name = next(iter(image.names), word)
-    return _Given(tag or name, stacks.layer_paths(out, len(origins)), origins[::-1], base)
+    subject = Subject(tag or name, origins[::-1], _facts_of(image))
+    return _Given(stacks.layer_paths(out, len(origins)), base, subject)
+
+
+def _facts_of(image: Image) -> dict[str, str]:
+    """What identifies an image."""
+    created = image.configuration.get("created")
+    return {
+        "Digest": ":".join(image.manifest_digest or ()), "Image ID": ":".join(image.digest or ()),
+        "Platform": platform_text(image.configuration) or "", "Created": created if isinstance(created, str) else "",
+    }
 
 
 def _given_stack(options: SizesOptions, stack: StackOptions, folder: str) -> _Given:
@@ -118,7 +129,7 @@ def _given_stack(options: SizesOptions, stack: StackOptions, folder: str) -> _Gi
         os.mkdir(out)
     read_stack(stack, out)
     origins = [Origin(made_by=layer) for layer in stack.layers]
-    return _Given(f"a stack of {count}", stacks.layer_paths(out, count), origins, base)
+    return _Given(stacks.layer_paths(out, count), base, Subject(f"a stack of {count}", origins, {}))
 
 
 def _require_little_waste(waste: Waste, limit: Limit | None) -> None:

@@ -8,12 +8,10 @@ from collections.abc import Iterable, Iterator, Sequence
 from dataclasses import dataclass
 
 from ..common.amounts import amount_text, per_cent, size_text
-from ..common.escaping import printable
-from .advice import Advice
-from .history import short_command
+from .advice import Advice, smaller_text, worth_listing
 from .layer_sizes import LayerSizes, Sizes
-from .texts import Origin, layer_text, packed_sum
-from .waste import Cause, Kind, Place, Waste
+from .texts import NONE, Origin, cause_text, command_text, layer_text, packed_sum
+from .waste import Cause, Place, Waste
 
 _USUAL_WIDTH = 80
 _LEAST_TEXT = 10  # columns of a command or a path
@@ -21,12 +19,10 @@ _WIDE_TEXT = 40  # that a command keeps if further columns are added
 _MOST_PLACES = 7
 _MOST_CAUSES = 5
 _MOST_ADVICE = 10
-_LEAST_ADVICE = 1_000  # advice is listed from this part of all bytes on
 _VERDICT_LINES = 2
 _GAP = "  "
 _CUT = ".."
 _REMEDY = "-> "
-_NONE = "-"
 _MORE = (("SHOWN", "DELETED", "DUPLICATE"), ("FILES", "ENTRIES"), ("WHITEOUTS", "OPAQUE"))
 
 
@@ -64,19 +60,12 @@ def table(
     drawn = _Table(sizes, origins, waste, exact, width)
     yield from drawn.layers()
     if waste.bytes:
-        yield from drawn.wastes("place", "PATH", [(it, _path_text(it)) for it in waste.places], _MOST_PLACES)
-        commands = [(it, _command(origins[cause.layer])) for cause, it in waste.causes.items()]
+        yield from drawn.wastes("place", "PATH", [(it, it.text()) for it in waste.places], _MOST_PLACES)
+        commands = [(it, command_text(origins[cause.layer])) for cause, it in waste.causes.items()]
         yield from drawn.wastes("command", "COMMAND", commands, _MOST_CAUSES)
     if advice is not None:
         yield from drawn.advice(advice)
     yield from drawn.end()
-
-
-def _command(origin: Origin) -> str:
-    """What made a layer, in short."""
-    if origin.made_by is None:
-        return _NONE
-    return printable(short_command(origin.made_by) if origin.step else origin.made_by)
 
 
 def _cut(text: str, width: int) -> str:
@@ -99,12 +88,12 @@ class _Table:
         self._width = width
 
     def _size(self, size: int | None) -> str:
-        return _NONE if size is None else size_text(size, self._exact)
+        return NONE if size is None else size_text(size, self._exact)
 
     def layers(self) -> Iterator[str]:
         """A line for each layer, and the sums."""
         rows = [*self._sizes.layers, self._sizes.sums]
-        commands = [*map(_command, self._origins), ""]
+        commands = [*map(command_text, self._origins), ""]
         columns = self._columns(rows)
         room = self._room(columns)
         for heads in _MORE:
@@ -138,7 +127,7 @@ class _Table:
         if wasted is None:
             return "base"
         whole = self._waste.total if own is self._sizes.sums else own.bytes
-        return per_cent(wasted, whole) if wasted else _NONE
+        return per_cent(wasted, whole) if wasted else NONE
 
     def _more(self, head: str, rows: Sequence[LayerSizes]) -> _Column:
         names = {"DELETED": "hidden", "DUPLICATE": "repeated"}
@@ -156,7 +145,7 @@ class _Table:
         is_all = len(places) <= most and sum(place.bytes for place, _ in places) == total
         listed = places if is_all else places[:most - 1]
         sizes, counts = [place.bytes for place, _ in listed], [place.files for place, _ in listed]
-        whys, texts = [self._cause(place.cause) for place, _ in listed], [text for _, text in listed]
+        whys, texts = [cause_text(place.cause, self._origins) for place, _ in listed], [text for _, text in listed]
         if not is_all:
             sizes.append(total - sum(sizes))
             counts.append(sum(place.files for place in self._waste.causes.values()) - sum(counts))
@@ -170,22 +159,14 @@ class _Table:
         yield f"\nWasted, by {by}:\n"
         yield from _lines(columns, head, [_cut(text, room) for text in texts])
 
-    def _cause(self, cause: Cause | None) -> str:
-        if cause is None:
-            return "by several"
-        if cause.kind is Kind.UNUSED:
-            return str(cause.kind.value)
-        step = self._origins[cause.layer].step
-        return f"{cause.kind.value} in {step or f'layer {cause.layer}'}"
-
     def advice(self, advice: Sequence[Advice]) -> Iterator[str]:
         """What saves most, two lines or more each, and a line for the rest."""
-        listed = [it for it in advice[:_MOST_ADVICE] if it.bytes * _LEAST_ADVICE >= self._waste.total]
+        listed = worth_listing(advice, self._waste.total)[:_MOST_ADVICE]
         if listed:
             yield "\nAdvice, by what it saves:\n"
             yield from self._advice_lines(listed)
         if left := advice[len(listed):]:
-            yield f"{len(left):,} smaller, {self._size(sum(it.bytes for it in left))} in all\n"
+            yield f"{smaller_text(left, self._size)}\n"
         elif not listed:
             yield "\nAdvice: none\n"
         if not self._waste.has_base and (saved := self._waste.total - self._sizes.merged.bytes) > 0:
@@ -220,11 +201,7 @@ class _Table:
 
 def _advice_text(advice: Advice, room: int) -> str:
     """What is wasted and where, in as many columns."""
-    return f"{advice.what}: {_cut(_path_text(advice.place()), max(_LEAST_TEXT, room - len(advice.what) - 2))}"
-
-
-def _path_text(place: Place) -> str:
-    return printable(place.path + "/" if place.is_folder and place.path != "/" else place.path)
+    return f"{advice.what}: {_cut(advice.place().text(), max(_LEAST_TEXT, room - len(advice.what) - 2))}"
 
 
 def verdict(waste: Waste, origins: Sequence[Origin], exact: bool, width: int) -> str:
@@ -238,7 +215,7 @@ def verdict(waste: Waste, origins: Sequence[Origin], exact: bool, width: int) ->
     )
     worst = waste.places[0]
     begin, end = f"{text}; {amount_text(worst.bytes, exact)} by ", f", {_deed(worst.cause, origins)}"
-    return begin + _cut(_path_text(worst), max(_LEAST_TEXT, width - len(begin) - len(end))) + end
+    return begin + _cut(worst.text(), max(_LEAST_TEXT, width - len(begin) - len(end))) + end
 
 
 def _deed(cause: Cause | None, origins: Sequence[Origin]) -> str:

@@ -6,10 +6,13 @@ from dataclasses import asdict, dataclass
 from types import MappingProxyType
 from typing import Any
 
-from .history import Step
+from ..common.escaping import printable
+from .history import Step, short_command
 from .layer_sizes import NotShown, Sizes
+from .waste import Cause, Kind
 
 _VERSION = 1
+NONE = "-"
 
 
 @dataclass(frozen=True)
@@ -25,6 +28,23 @@ def layer_text(origins: Sequence[Origin], layer: int | None) -> str:
     """A layer in a sentence: its step, if the image's history has it."""
     step = None if layer is None else origins[layer].step
     return "" if layer is None else f"step {step.number}" if step else f"layer {layer}"
+
+
+def command_text(origin: Origin) -> str:
+    """What made a layer, in short."""
+    if origin.made_by is None:
+        return NONE
+    return printable(short_command(origin.made_by) if origin.step else origin.made_by)
+
+
+def cause_text(cause: Cause | None, origins: Sequence[Origin]) -> str:
+    """How bytes are wasted, and in which step or layer."""
+    if cause is None:
+        return "by several"
+    if cause.kind is Kind.UNUSED:
+        return str(cause.kind.value)
+    step = origins[cause.layer].step
+    return f"{cause.kind.value} in {step or f'layer {cause.layer}'}"
 
 
 def not_shown_text(one: NotShown) -> str:

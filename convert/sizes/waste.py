@@ -4,6 +4,7 @@ from collections.abc import Iterable, Iterator, Mapping
 from dataclasses import dataclass, field, replace
 from enum import Enum
 
+from ..common.escaping import printable
 from .layer_sizes import NotShown, Sizes
 
 _LEAST_PART = 10  # a place is listed from this part of the waste on
@@ -42,6 +43,10 @@ class Place:
         self.bytes += other.bytes
         self.files += other.files
 
+    def text(self) -> str:
+        """Its path, with a slash at the end of a directory's."""
+        return printable(self.path + "/" if self.is_folder and self.path != "/" else self.path)
+
 
 @dataclass
 class Waste:
@@ -72,7 +77,7 @@ def waste_of(sizes: Sizes, base: int) -> Waste:
     by_cause = dict[Cause, dict[str, Place]]()
     for one in sizes.not_shown:
         if one.file.layer < count and one.file.size:
-            cause = _cause_of(one)
+            cause = cause_of(one)
             files = by_cause.setdefault(cause, {})
             files.setdefault(one.file.path, Place(cause, one.file.path)).add(Place(cause, "", one.file.size, 1))
     sums = {cause: _sum_of(cause, files.values()) for cause, files in by_cause.items()}
@@ -99,7 +104,8 @@ def _is_in(path: str, place: Place) -> bool:
     return path == place.path or path.startswith(place.path.rstrip("/") + "/")
 
 
-def _cause_of(one: NotShown) -> Cause:
+def cause_of(one: NotShown) -> Cause:
+    """What wastes a file."""
     if one.is_repeated:
         return Cause(Kind.DUPLICATE, one.file.layer)
     if one.by is None:

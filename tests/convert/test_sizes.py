@@ -24,7 +24,7 @@ from convert.model.manifests import read_manifest, written
 from convert.model.merged_tree import MergedTree
 from convert.sizes.texts import Origin, json_text
 
-_STACKS = 200
+_STACKS = 300
 _WITH_PROGRAM = 20
 # An image, the lowest layer first: a package installed, removed with its cache left, a mode changed, a copy.
 _LAYERS = [

@@ -1,4 +1,4 @@
-"""`sizes` on waste: commands in short, the table on a terminal, bases, and the layer that pays."""
+"""`sizes` on waste: commands in short, the table on a terminal, and bases."""
 
 import fcntl
 import os
@@ -18,7 +18,6 @@ from convert import cli as command
 from convert.sizes.history import short_command, steps_of
 from convert.sizes.layer_sizes import sizes_of
 from convert.sizes.limits import limit_of
-from convert.sizes.map import places_of
 from convert.sizes.waste import waste_of
 
 _ROWS, _COLUMNS = 24, 80
@@ -81,7 +80,7 @@ class Words(unittest.TestCase):
 
 
 class Numbers(StacksTest):
-    """On random stacks: each byte that is wasted has one place and one cause, and the map pays as the table does."""
+    """On random stacks: each byte that is wasted has one place and one cause."""
 
     def test_numbers(self) -> None:
         for seed in range(_STACKS):
@@ -97,9 +96,6 @@ class Numbers(StacksTest):
                     self.assertEqual(sum(it.bytes for it in waste.causes.values()), waste.bytes)
                     listed = sum(place.bytes for place in waste.places)
                     self.assertTrue(listed <= waste.bytes < listed + waste.bytes // 5 + 1, (listed, waste.bytes))
-                paying = {number for number, layer in enumerate(sizes.layers) if layer.shown}
-                drawn = {place.layer for place in places_of(sizes) if place.bytes and not place.is_folder}
-                self.assertEqual(drawn, paying)
 
 
 class OfImages(SizesTest):
