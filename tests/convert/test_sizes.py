@@ -188,7 +188,7 @@ class Telling(SizesTest):
         self.assertIn("27200 bytes of 32903 bytes (82.6 %) are wasted; 20000 bytes by /cache/package, removed", exact)
 
     def test_progress(self) -> None:
-        """On a terminal the bytes of each layer are counted as they are read, to their end."""
+        """On a terminal a bar says how much of each layer is read, to its end."""
 
         class Terminal(io.StringIO):
             """Standard error that is one."""
@@ -201,7 +201,7 @@ class Telling(SizesTest):
         with contextlib.redirect_stderr(messages), contextlib.redirect_stdout(io.StringIO()):
             with mock.patch("convert.common.progress._EVERY", 0):
                 self.assertEqual(command.main(["sizes", self.path("image")]), 0)
-        whole = re.findall(r"\runpacking bytes of ([0-9a-f]{20}): ([\d,]+) of \2 *\r", messages.getvalue())
+        whole = re.findall(rf"layer (\d) of {len(_LAYERS)}: unpacking +\[#+\] +100 %", messages.getvalue())
         self.assertEqual(len(set(whole)), len(_LAYERS), messages.getvalue())
 
     def test_json(self) -> None:
