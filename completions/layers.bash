@@ -3,7 +3,7 @@ _layers() {
     local word=${COMP_WORDS[COMP_CWORD]} before=${COMP_WORDS[COMP_CWORD - 1]} command='' index
     for ((index = 1; index < COMP_CWORD; index++)); do
         case ${COMP_WORDS[index]} in
-            flatten | check | sizes | diff | vacuum | deref | merge | unpack | pack | scan | store | build | mounted) command=${COMP_WORDS[index]} && break ;;
+            flatten | check | sizes | ls | cat | diff | vacuum | deref | merge | unpack | pack | scan | store | build | mounted) command=${COMP_WORDS[index]} && break ;;
         esac
     done
     COMPREPLY=()
@@ -34,9 +34,20 @@ _layers() {
         sizes/--base) compopt +o default && return ;;
         sizes/--max-waste) compopt +o default && return ;;
         sizes/--fail-over) compopt +o default && return ;;
+        ls/--platform) compopt +o default && return ;;
+        ls/--from-tag) compopt +o default && return ;;
+        ls/--data-layers) compopt +o default && return ;;
+        ls/--workers) compopt +o default && return ;;
+        ls/--layer) compopt +o default && return ;;
+        cat/--platform) compopt +o default && return ;;
+        cat/--from-tag) compopt +o default && return ;;
+        cat/--data-layers) compopt +o default && return ;;
+        cat/--workers) compopt +o default && return ;;
+        cat/--blobs) compopt -o filenames; mapfile -t COMPREPLY < <(compgen -d -- "$word") && return ;;
         diff/--ignore) compopt +o default && return ;;
         diff/--platform) compopt +o default && return ;;
         diff/--from-tag) compopt +o default && return ;;
+        diff/--workers) compopt +o default && return ;;
         vacuum/--compress) mapfile -t COMPREPLY < <(compgen -W 'gzip xz zstd lz4' -- "$word") && return ;;
         vacuum/--keep) compopt -o filenames; mapfile -t COMPREPLY < <(compgen -d -- "$word") && return ;;
         vacuum/--data-layers) compopt +o default && return ;;
@@ -74,11 +85,13 @@ _layers() {
         build/--compress) mapfile -t COMPREPLY < <(compgen -W 'gzip xz zstd lz4' -- "$word") && return ;;
     esac
     case $command in
-        '') mapfile -t COMPREPLY < <(compgen -W 'flatten check sizes diff vacuum deref merge unpack pack scan store build mounted -h --help -q --quiet -v --verbose --color --unproved -V --version' -- "$word") ;;
+        '') mapfile -t COMPREPLY < <(compgen -W 'flatten check sizes ls cat diff vacuum deref merge unpack pack scan store build mounted -h --help -q --quiet -v --verbose --color --unproved -V --version' -- "$word") ;;
         flatten) [[ $word != -* ]] || mapfile -t COMPREPLY < <(compgen -W '-h --help --platform --from-tag --overlay-marks --skip-unsupported --out --compress -t --name --layers --base --keep --exclude --dry-run --stack --data-layers --userxattr --no-userxattr --cross-file-systems --workers --blobs --form' -- "$word") ;;
         check) [[ $word != -* ]] || mapfile -t COMPREPLY < <(compgen -W '-h --help --strict --json --base --max-waste --platform --from-tag --overlay-marks --skip-unsupported --stack --data-layers --userxattr --no-userxattr --cross-file-systems --workers --blobs' -- "$word") ;;
         sizes) [[ $word != -* ]] || mapfile -t COMPREPLY < <(compgen -W '-h --help --platform --from-tag --overlay-marks --skip-unsupported --stack --data-layers --userxattr --no-userxattr --cross-file-systems --workers --json --bytes --advice --html --base --max-waste --fail-over' -- "$word") ;;
-        diff) [[ $word != -* ]] || mapfile -t COMPREPLY < <(compgen -W '-h --help --ignore --no-config --stat --json --platform --from-tag --overlay-marks --skip-unsupported' -- "$word") ;;
+        ls) [[ $word != -* ]] || mapfile -t COMPREPLY < <(compgen -W '-h --help --platform --from-tag --overlay-marks --skip-unsupported --stack --data-layers --userxattr --no-userxattr --cross-file-systems --workers --layer --removed -R --recursive --no-recursive --full-time --long-layer --bytes --json' -- "$word") ;;
+        cat) [[ $word != -* ]] || mapfile -t COMPREPLY < <(compgen -W '-h --help --platform --from-tag --overlay-marks --skip-unsupported --stack --data-layers --userxattr --no-userxattr --cross-file-systems --workers --blobs' -- "$word") ;;
+        diff) [[ $word != -* ]] || mapfile -t COMPREPLY < <(compgen -W '-h --help --ignore --no-config --stat --json --platform --from-tag --overlay-marks --skip-unsupported --userxattr --no-userxattr --cross-file-systems --workers' -- "$word") ;;
         vacuum) [[ $word != -* ]] || mapfile -t COMPREPLY < <(compgen -W '-h --help --out --compress --keep --stack --data-layers --userxattr --no-userxattr --cross-file-systems --workers --blobs --form --skip-unsupported' -- "$word") ;;
         deref) [[ $word != -* ]] || mapfile -t COMPREPLY < <(compgen -W '-h --help --out --compress --keep --stack --data-layers --userxattr --no-userxattr --cross-file-systems --workers --blobs --form --skip-unsupported' -- "$word") ;;
         merge) [[ $word != -* ]] || mapfile -t COMPREPLY < <(compgen -W '-h --help --down-to --out --compress --keep --stack --data-layers --userxattr --no-userxattr --cross-file-systems --workers --blobs --form --skip-unsupported' -- "$word") ;;

@@ -6,6 +6,8 @@ _layers() {
         'flatten:write an image or a stack as one layer'
         'check:print whether an image is fit to ship, and why not'
         'sizes:print what each layer holds, and what of it isn'\''t shown'
+        'ls:list what is shown, and the layer that each comes from'
+        'cat:print the contents of a file that is shown'
         'diff:print what differs between two images, or trees'
         'vacuum:write a stack'\''s topmost layer without what changes nothing'
         'deref:write a stack'\''s topmost layer without redirects and metacopy'
@@ -104,6 +106,48 @@ _layers() {
                     '--fail-over[the same as --max-waste PERCENT%%]:PERCENT:' \
                     '*:IMAGE:_files'
                     ;;
+                ls)
+                    _arguments \
+                    '-h[show this help message and exit]' \
+                    '--help[show this help message and exit]' \
+                    '--platform[which of several images, such as linux/amd64]:OS/ARCH:' \
+                    '--from-tag[which of several images, by its name in the image'\''s index]:NAME:' \
+                    '--overlay-marks[takes attributes trusted.overlay.* of the image'\''s archives too, which change what the layers show]' \
+                    '--skip-unsupported[leaves out what can'\''t be stated, with a warning each, instead of refusing it]' \
+                    '--stack[layers in place of an image, the topmost first]:LAYER:_files' \
+                    '--data-layers[with --stack]:K:' \
+                    '--userxattr[with --stack]' \
+                    '--no-userxattr[with --stack]' \
+                    '--cross-file-systems[enters other file systems too]' \
+                    '--workers[how many processes read files, 1 to 64]:N:' \
+                    '--layer[lists what this layer has]:N:' \
+                    '--removed[lists what is shipped and not shown]' \
+                    '-R[lists all below it too, not only what is right in it]' \
+                    '--recursive[lists all below it too, not only what is right in it]' \
+                    '--no-recursive[lists all below it too, not only what is right in it]' \
+                    '--full-time[prints times to the nanosecond, with their zone]' \
+                    '--long-layer[prints what made each layer]' \
+                    '--bytes[prints exact numbers of bytes]' \
+                    '--json[prints objects for a program, one a line]' \
+                    '*:IMAGE:_files'
+                    ;;
+                cat)
+                    _arguments \
+                    '-h[show this help message and exit]' \
+                    '--help[show this help message and exit]' \
+                    '--platform[which of several images, such as linux/amd64]:OS/ARCH:' \
+                    '--from-tag[which of several images, by its name in the image'\''s index]:NAME:' \
+                    '--overlay-marks[takes attributes trusted.overlay.* of the image'\''s archives too, which change what the layers show]' \
+                    '--skip-unsupported[leaves out what can'\''t be stated, with a warning each, instead of refusing it]' \
+                    '--stack[layers in place of an image, the topmost first]:LAYER:_files' \
+                    '--data-layers[with --stack]:K:' \
+                    '--userxattr[with --stack]' \
+                    '--no-userxattr[with --stack]' \
+                    '--cross-file-systems[enters other file systems too]' \
+                    '--workers[how many processes read files, 1 to 64]:N:' \
+                    '--blobs[with --stack]:DIR:_files -/' \
+                    '*:IMAGE:_files'
+                    ;;
                 diff)
                     _arguments \
                     '-h[show this help message and exit]' \
@@ -116,6 +160,10 @@ _layers() {
                     '--from-tag[which of several images, by its name in the image'\''s index]:NAME:' \
                     '--overlay-marks[takes attributes trusted.overlay.* of the image'\''s archives too, which change what the layers show]' \
                     '--skip-unsupported[leaves out what can'\''t be stated, with a warning each, instead of refusing it]' \
+                    '--userxattr[of layers on a disk]' \
+                    '--no-userxattr[of layers on a disk]' \
+                    '--cross-file-systems[enters other file systems too]' \
+                    '--workers[how many processes read files, 1 to 64]:N:' \
                     '*:OLD:'
                     ;;
                 vacuum)

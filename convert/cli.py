@@ -22,14 +22,16 @@ from .folder.build import BuildOptions
 from .folder.build_squashfs import build_layer
 from .folder.mounted import report
 from .folder.scan import ScanOptions, scan
-from .folder.stack_layers import StackOptions, write_stack
+from .folder.stack_layers import StackOptions, layers_of_mount, write_stack
 from .folder.stores import StoreOptions, store
 from .image.compression import LEVELS, NONE
 from .image.configuration import Making
 from .image.pack import PackOptions, pack
 from .image.targets import Form, Target, target_of
 from .image.unpack import UnpackOptions, unpack
+from .look.contents import print_contents
 from .look.diff import DiffOptions, diff
+from .look.listing import ListOptions, list_entries
 from .look.sources import Choice, Source
 from .model.stacks import BLOBS, require_order, stack_in
 from .sizes.command import SizesOptions, sizes
@@ -147,8 +149,17 @@ def _name(out: Target, name: str | None) -> str | None:
     return out.tag or name
 
 
+def _take_mount(words: argparse.Namespace) -> None:
+    """Takes layers that are named as a mount does, in an image's place."""
+    image = getattr(words, "image", None)
+    mount = layers_of_mount(image) if image and words.stack is None else None
+    if mount is not None:
+        words.image, (words.stack, words.data_layers) = None, mount
+
+
 def _take_folder_of_unpack(words: argparse.Namespace) -> None:
     """Takes a folder that `unpack` or `store` wrote, in place of an image or as the only layer, as the stack that it is."""
+    _take_mount(words)
     image = getattr(words, "image", None)
     given = words.stack or [image] if image or words.stack else []
     layers = stack_in(_folder(given[0])) if len(given) == 1 else []
@@ -270,6 +281,7 @@ def _source(words: argparse.Namespace) -> Source:
     """What is looked at: an image, a folder that `unpack` or `store` wrote with its configuration, or layers."""
     if words.stack is not None and len(words.stack) == 1 and stack_in(_folder(words.stack[0])) and words.image is None:
         words.image, words.stack = words.stack[0], None
+    _take_mount(words)
     _require_fitting(words)
     if words.stack is None:
         return Source(word=_folder(words.image), choice=_choice(words))
@@ -277,9 +289,42 @@ def _source(words: argparse.Namespace) -> Source:
     return Source(stack=_stack_of(words), data_layers=words.data_layers)
 
 
+def _ls(words: argparse.Namespace) -> None:
+    source, path = _source_and_path(words)
+    list_entries(ListOptions(
+        source=source, path=path or "/", layer=words.layer, only_removed=words.removed, is_recursive=words.recursive,
+        full_time=words.full_time, with_making=words.long_layer, exact=words.bytes, as_json=words.json,
+    ), _print)
+
+
+def _cat(words: argparse.Namespace) -> None:
+    source, path = _source_and_path(words)
+    if path is None:
+        raise UsageFault("name the PATH of a file")
+    print_contents(source, path)
+
+
+def _source_and_path(words: argparse.Namespace) -> tuple[Source, str | None]:
+    """What is looked at, and the path there. With --stack the only other word is the path."""
+    if words.stack is not None:
+        if words.path is not None:
+            raise UsageFault("with --stack a PATH alone comes before it")
+        words.path, words.image = words.image, None
+    return _source(words), words.path
+
+
+def _named_source(words: argparse.Namespace, word: str) -> Source:
+    """What a word names, of several."""
+    mount = layers_of_mount(word)
+    if mount is None:
+        return Source(word=_folder(word), choice=_choice(words))
+    words.stack, data_layers = mount
+    return Source(word=word, stack=_stack_of(words), data_layers=data_layers)
+
+
 def _diff(words: argparse.Namespace) -> None:
     diff(DiffOptions(
-        old=_folder(words.old), new=_folder(words.new), choice=_choice(words), ignored=words.ignore,
+        old=_named_source(words, words.old), new=_named_source(words, words.new), ignored=words.ignore,
         with_configuration=words.config, as_json=words.json, only_sums=words.stat,
     ), _print)
 
@@ -312,6 +357,8 @@ _RUNS: Mapping[str, Run] = {
     "flatten": _flatten,
     "check": _check,
     "sizes": _sizes,
+    "ls": _ls,
+    "cat": _cat,
     "diff": _diff,
     "vacuum": _vacuum,
     "deref": _deref,

@@ -23,7 +23,20 @@ JOBS: Mapping[str, Sequence[str]] = {
 
 
 class Parser(argparse.ArgumentParser):
-    """Refuses words in one line that says where help is."""
+    """Refuses words in one line that says where help is. Of two words that may be absent one may come after options."""
+
+    _is_at_work = False
+
+    def parse_known_args(self, args=None, namespace=None):  # type: ignore[no-untyped-def]
+        """See `ArgumentParser`."""
+        optional = [action for action in self._get_positional_actions() if action.nargs == argparse.OPTIONAL]
+        if self._is_at_work or len(optional) < 2:
+            return super().parse_known_args(args, namespace)
+        self._is_at_work = True
+        try:
+            return self.parse_known_intermixed_args(args, namespace)
+        finally:
+            self._is_at_work = False
 
     def error(self, message: str) -> NoReturn:
         """Ends the command."""

@@ -17,6 +17,7 @@ from .squashfs import programs as squashfs
 from .usage import HelpFormatter, Parser, common_words
 
 NAME = "layers"
+_MOST_DIGITS = 9
 Run = Callable[[argparse.Namespace], None]
 
 _ABOUT = """\
@@ -147,13 +148,31 @@ Contents are copied nowhere. What the layers show comes from the proved program 
 --stack takes layers in place of an image, the topmost first: folders, squashfs files, tar archives of folders,
 and manifests, whose contents aren't needed. Only root can read the marks of folders."""
 
+_LS = """\
+Print what a source shows, a line for each path, as `ls -l` does: mode, owner and group as numbers, size, local
+time, the layer that it comes from, path, and a symlink's target. Layers are counted from the topmost, 0. 2:4 is
+a file whose entry is in layer 2 and whose contents are in layer 4 (metacopy). In a path \\xHH is a byte that
+can't be seen. PATH restricts it to what is there and below.
+
+--layer N prints what that layer has, its whiteouts as `- PATH`; --removed what is shipped and not shown: the
+entries of all layers, but for directories, that an upper layer removes or replaces. Nothing is printed unless all
+is what the proved program ovl_layers shows. With --stack, PATH comes before it.
+
+--json prints an object a line: {"layers-ls":1}, the entries, their number."""
+
+_CAT = """\
+Print the contents of the file to which a path leads. Links are followed inside of what is shown, 40 at most.
+The contents come from the layer that has them, and are printed once their digest is known to be right.
+With --stack, PATH comes before it."""
+
 _DIFF = """\
 Print what differs between what two sources show, a line for each path, in path order: + PATH if only NEW shows
 it, - PATH if only OLD does, M PATH if both do, with what differs: contents, mode, owner, mtime, attributes,
 link (a symlink's target), device, kind. In a path \\xHH is a byte that can't be seen.
 
 OLD and NEW are each an IMAGE, a folder that `unpack` or `store` wrote, or any other folder: a tree as it is
-mounted, without a configuration, whose trusted.* attributes only root can read. Contents are copied nowhere.
+mounted, without a configuration, whose trusted.* attributes only root can read. lowerdir=UPPER:LOWER names
+layers on a disk, the topmost first, as a mount does (data-only ones after ::). Contents are copied nowhere.
 What layers show comes from the proved program ovl_layers, as in `flatten`.
 
 The lines before these have the members of the configuration that differ. rootfs, history and created, which
@@ -514,6 +533,31 @@ def _add_base(parser: argparse.ArgumentParser) -> None:
     )
 
 
+def _add_ls(parser: argparse.ArgumentParser) -> None:
+    _add_source_and_path(parser, "path that is listed with all below it [default: /]")
+    parser.add_argument("--layer", metavar="N", type=_number, help="lists what this layer has; 0 is the topmost")
+    parser.add_argument("--removed", action="store_true", help="lists what is shipped and not shown")
+    parser.add_argument(
+        "-R", "--recursive", action=argparse.BooleanOptionalAction, default=True,
+        help="lists all below it too, not only what is right in it [default]",
+    )
+    parser.add_argument("--full-time", action="store_true", help="prints times to the nanosecond, with their zone")
+    parser.add_argument("--long-layer", action="store_true", help="prints what made each layer")
+    parser.add_argument("--bytes", action="store_true", help="prints exact numbers of bytes")
+    parser.add_argument("--json", action="store_true", help="prints objects for a program, one a line")
+
+
+def _add_cat(parser: argparse.ArgumentParser) -> None:
+    _add_source_and_path(parser, "path of a file")
+    _add_blobs(parser)
+
+
+def _add_source_and_path(parser: argparse.ArgumentParser, path: str) -> None:
+    _add_image(parser, may_be_absent=True)
+    parser.add_argument("path", metavar="PATH", nargs="?", help=path)
+    _add_stack_layers(parser, "reads")
+
+
 def _add_diff(parser: argparse.ArgumentParser) -> None:
     parser.add_argument("old", metavar="OLD", help="image, folder that unpack wrote, or mounted tree; - is standard input")
     parser.add_argument("new", metavar="NEW", help="the same")
@@ -525,6 +569,9 @@ def _add_diff(parser: argparse.ArgumentParser) -> None:
     parser.add_argument("--stat", action="store_true", help="prints only numbers")
     parser.add_argument("--json", action="store_true", help="prints objects for a program, one a line")
     _add_choice(parser)
+    _add_userxattr(parser, "of layers on a disk: reads")
+    _add_cross(parser)
+    _add_workers(parser)
 
 
 def _add_mounted(parser: argparse.ArgumentParser) -> None:
@@ -584,6 +631,12 @@ def _data_layers(text: str) -> int:
     return number
 
 
+def _number(text: str) -> int:
+    if not text.isascii() or not text.isdecimal() or len(text) > _MOST_DIGITS:
+        raise argparse.ArgumentTypeError("a layer is a number, from 0, the topmost")
+    return int(text)
+
+
 def _limit(text: str) -> Limit:
     limit = limit_of(text)
     if limit is None:
@@ -623,6 +676,8 @@ _COMMANDS = (
     ("flatten", "write an image or a stack as one layer", _FLATTEN, _add_flatten),
     ("check", "print whether an image is fit to ship, and why not", _CHECK, _add_check),
     ("sizes", "print what each layer holds, and what of it isn't shown", _SIZES, _add_sizes),
+    ("ls", "list what is shown, and the layer that each comes from", _LS, _add_ls),
+    ("cat", "print the contents of a file that is shown", _CAT, _add_cat),
     ("diff", "print what differs between two images, or trees", _DIFF, _add_diff),
     ("vacuum", "write a stack's topmost layer without what changes nothing", _VACUUM, _add_rewriting),
     ("deref", "write a stack's topmost layer without redirects and metacopy", _DEREF, _add_rewriting),

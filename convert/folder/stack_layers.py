@@ -1,6 +1,8 @@
 """The layers of a stack, each a folder, a squashfs, an archive or a manifest, as manifests and blobs in one folder."""
 
 import itertools
+import os
+import re
 from collections.abc import Iterable, Iterator, Sequence
 from dataclasses import dataclass
 
@@ -18,6 +20,9 @@ from ..squashfs.layer_files import FileOptions, Form, form_of, scan_file
 from .scan import ScanOptions, scan_folder
 
 
+_MOUNT = "lowerdir="
+_LAYER_OR_COLONS = re.compile(r"(?:\\.|[^:\\])+|:+", re.DOTALL)
+_BACKSLASH = re.compile(r"\\(.)", re.DOTALL)
 _IMAGES = (frozenset(["/oci-layout", "/index.json"]), frozenset(["/manifest.json", "/repositories"]))  # all in an image
 _OF_IMAGES = frozenset().union(*_IMAGES)
 
@@ -33,6 +38,18 @@ class StackOptions:
     skip_unsupported: bool = False
     digests_only: bool = False
     workers: int = 1
+
+
+def layers_of_mount(word: str) -> tuple[list[str], int] | None:
+    """The layers that a word names as a mount does, `lowerdir=A:B::DATA`, and how many of them are data-only."""
+    if not word.startswith(_MOUNT) or os.path.lexists(word):
+        return None
+    parts = _LAYER_OR_COLONS.findall(word.removeprefix(_MOUNT))
+    layers, colons = parts[::2], parts[1::2]
+    data_layers = colons.count("::")
+    if len(layers) != len(colons) + 1 or colons != sorted(colons) or not set(colons) <= {":", "::"}:
+        raise UsageFault(f"{word}: layers are named {_MOUNT}UPPER:LOWER, data-only ones after :: each")
+    return [_BACKSLASH.sub(r"\1", layer) for layer in layers], data_layers
 
 
 def write_stack(options: StackOptions, out: str) -> None:

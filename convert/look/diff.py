@@ -16,7 +16,7 @@ from ..common.progress import counted, note
 from ..model.entries import FILE
 from ..model.show_report import ShowLine, read_report
 from .changes import ASPECTS, KIND, Change, ConfigurationChange, changes, configuration_changes
-from .sources import Choice, Shown, Source, is_tree, require_one_pipe, shown_by, shown_tree
+from .sources import Shown, Source, is_tree, require_one_pipe, shown_by, shown_tree
 from .texts import attributes_of, decoded, name_text, object_of, time_text
 
 _VERSION = 1
@@ -35,9 +35,8 @@ class Different(Fault):
 class DiffOptions:
     """What the words of `diff` say."""
 
-    old: str
-    new: str
-    choice: Choice
+    old: Source
+    new: Source
     ignored: frozenset[str] = frozenset()
     with_configuration: bool = True
     as_json: bool = False
@@ -46,10 +45,10 @@ class DiffOptions:
 
 def diff(options: DiffOptions, print_lines: Callable[[Iterable[str]], None]) -> None:
     """Prints what differs; fails if anything does."""
-    require_one_pipe([options.old, options.new])
+    require_one_pipe([options.old.word, options.new.word])
     sums = _Sums()
     with passing_folder(tempfile.gettempdir()) as folder:
-        old, new = (_read(word, options.choice, f"{folder}/{side}") for side, word in enumerate((options.old, options.new)))
+        old, new = (_read(source, f"{folder}/{side}") for side, source in enumerate((options.old, options.new)))
         found = sums.passing(_all_changes(options, old, new))
         if options.only_sums:
             for _ in found:
@@ -60,13 +59,14 @@ def diff(options: DiffOptions, print_lines: Callable[[Iterable[str]], None]) -> 
         else:
             print_lines(map(_line, found))
     if sums.marks.total():
-        raise Different(f"{options.old} and {options.new} differ: {sums.text()}")
+        raise Different(f"{options.old.name} and {options.new.name} differ: {sums.text()}")
 
 
-def _read(word: str, choice: Choice, folder: str) -> Shown:
+def _read(source: Source, folder: str) -> Shown:
     with writing(folder):
         os.mkdir(folder)
-    return shown_tree(word, folder) if is_tree(word) else shown_by(Source(word=word, choice=choice), folder)
+    is_mounted = source.stack is None and is_tree(source.word)
+    return shown_tree(source.word, folder) if is_mounted else shown_by(source, folder)
 
 
 _Any = Change | ConfigurationChange
@@ -83,7 +83,7 @@ def _of_configurations(options: DiffOptions, old: Shown, new: Shown) -> Iterator
         yield from configuration_changes(old.configuration, new.configuration)
     elif old.configuration is not None or new.configuration is not None:
         without = options.old if old.configuration is None else options.new
-        note(f"{without} has no configuration, so it isn't compared")
+        note(f"{without.name} has no configuration, so it isn't compared")
 
 
 def _mark(change: _Any) -> str:

@@ -48,7 +48,7 @@ class Source:
     @property
     def name(self) -> str:
         """What it is called."""
-        return self.word if self.stack is None else f"the stack of {self.stack.layers[0]}"
+        return self.word or (f"the stack of {self.stack.layers[0]}" if self.stack is not None else "")
 
 
 @dataclass(frozen=True, kw_only=True)

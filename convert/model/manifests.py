@@ -1,9 +1,7 @@
 """The layer manifest: reading both versions of it, and the one text that is written of a layer, of version 2."""
 
-import contextlib
 import io
 import json
-import mmap
 import os
 import re
 from collections.abc import Iterable, Iterator, Mapping
@@ -84,20 +82,40 @@ def read_manifest(path: str) -> list[Entry]:
         raise cannot_read(path, str(fault)) from None
 
 
+def entries_of(path: str) -> Iterator[Entry]:
+    """The same one after the other; of a manifest as it is written here, few of them are held at a time."""
+    count = 0
+    with reading(path), open(path, "rb") as file:
+        try:
+            for entry in _within_size(file):
+                yield entry
+                count += 1
+            return
+        except (ValueError, RecursionError, _Refused):
+            pass
+    yield from read_manifest(path)[count:]
+
+
+def _within_size(file: BinaryIO) -> Iterator[Entry]:
+    """The entries of a compact manifest that isn't too long."""
+    if os.fstat(file.fileno()).st_size > rules.MAX_MANIFEST_BYTES:
+        raise ValueError
+    text = io.TextIOWrapper(file, "utf-8", newline="")
+    try:
+        yield from _compact(text)
+    finally:
+        text.detach()
+
+
 def _compact_entries(file: BinaryIO) -> list[Entry] | None:
     """The entries of a manifest as it is written here and by the program, taken piece by piece.
 
     Nothing for any other text, sound or not: that is read as a whole, which takes more memory.
     """
-    if os.fstat(file.fileno()).st_size > rules.MAX_MANIFEST_BYTES:
-        return None
-    text = io.TextIOWrapper(file, "utf-8", newline="")
     try:
-        return list(_compact(text))
+        return list(_within_size(file))
     except (ValueError, RecursionError, _Refused):
         return None
-    finally:
-        text.detach()
 
 
 def _compact(text: TextIO) -> Iterator[Entry]:
@@ -311,12 +329,11 @@ def _attributes_text(entry: Entry) -> str:
 
 def has_attribute(path: str, names: Iterable[str]) -> bool:
     """Whether an entry has one of these attributes, in a manifest of the same text."""
-    with _mapped(path) as text:
-        return any(text.find(f'"{name}":'.encode()) >= 0 for name in names)
-
-
-@contextlib.contextmanager
-def _mapped(path: str) -> Iterator[mmap.mmap]:
-    """The bytes of a manifest's file, which isn't empty."""
-    with reading(path), open(path, "rb") as file, mmap.mmap(file.fileno(), 0, access=mmap.ACCESS_READ) as text:
-        yield text
+    texts = [f'"{name}":'.encode() for name in names]
+    overlap, before = max(map(len, texts)) - 1, b""
+    with reading(path), open(path, "rb") as file:
+        while piece := file.read(_PIECE):
+            if any(text in before + piece for text in texts):
+                return True
+            before = piece[-overlap:]
+    return False

@@ -9,8 +9,9 @@ from dataclasses import dataclass, field
 
 from ..common.faults import ReadFault
 from . import rules, stacks
-from .entries import DIRECTORY, REDIRECT, Entry, Named, is_opaque, is_whiteout
+from .entries import DIRECTORY, FILE, REDIRECT, Entry, Named, is_opaque, is_whiteout
 from .links import count_links
+from .show_report import MISSING, NONE, ShowLine, escaped_path
 
 MAX_COPIES = 1 << 24
 
@@ -267,3 +268,17 @@ def read_redirect(value: bytes) -> str | list[str] | None:
     if text.startswith("/"):
         return names
     return names[0] if len(names) == 1 else None
+
+
+def is_line_of(line: ShowLine, path: str, node: Node) -> bool:
+    """Whether a line of the report is of this path, and of these contents there."""
+    if line.path != escaped_path(path):
+        return False
+    if isinstance(node, Directory):
+        return line.kind == DIRECTORY
+    if not isinstance(node, LayerFile):
+        return line.kind not in (DIRECTORY, FILE)
+    contents = node.contents()
+    if contents is None:
+        return (line.kind, line.what) == (FILE, MISSING)
+    return (line.kind, line.size, line.what) == (FILE, str(contents.size), contents.blob.hex() or NONE)

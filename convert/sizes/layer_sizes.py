@@ -8,8 +8,8 @@ from ..common.program import NAME
 from ..model.entries import DIRECTORY, FILE, METACOPY, OVERLAY, REDIRECT, Entry, is_opaque, is_whiteout, named
 from ..model.links import take_links
 from ..model.manifests import read_manifest
-from ..model.merged_tree import Directory, LayerFile, MergedTree, Node, Rights
-from ..model.show_report import MISSING, NONE, ShowLine, escaped_path, read_report
+from ..model.merged_tree import LayerFile, MergedTree, Node, Rights, is_line_of
+from ..model.show_report import read_report
 
 
 @dataclass(slots=True)
@@ -203,7 +203,7 @@ def _take_merged(sizes: Sizes, report: str) -> None:
     lines = read_report(report)
     for path, node in sizes.tree.nodes():
         line = next(lines, None)
-        if line is None or not _is_line_of(line, path, node):
+        if line is None or not is_line_of(line, path, node):
             raise _other(path)
         merged.entries += 1
         if isinstance(node, LayerFile) and id(node) not in seen:
@@ -222,17 +222,3 @@ def shown_size(file: LayerFile) -> int:
     """The size of what is shown at a file's place."""
     contents = file.contents()
     return 0 if contents is None else contents.size
-
-
-def _is_line_of(line: ShowLine, path: str, node: Node) -> bool:
-    """Whether a line of the report is of this path, and of these contents there."""
-    if line.path != escaped_path(path):
-        return False
-    if isinstance(node, Directory):
-        return line.kind == DIRECTORY
-    if not isinstance(node, LayerFile):
-        return line.kind not in (DIRECTORY, FILE)
-    contents = node.contents()
-    if contents is None:
-        return (line.kind, line.what) == (FILE, MISSING)
-    return (line.kind, line.size, line.what) == (FILE, str(contents.size), contents.blob.hex() or NONE)

@@ -120,6 +120,17 @@ class _FileLayer:
             raise cannot_read(self.path, f"its squashfs is broken: {problem}") from problem
 
 
+@contextlib.contextmanager
+def opened_layer(path: str, form: Form, reported_path: str | None = None) -> Iterator[_FileLayer]:
+    """A squashfs or an archive, open, so that its archive can be read."""
+    with reading(reported_path or path):
+        file = os.open(path, READ_WHERE_IT_LEADS)
+    try:
+        yield _FileLayer(reported_path or path, form, file)
+    finally:
+        os.close(file)
+
+
 def scan_file(
     options: FileOptions, form: Form, losses: ScanLosses, links: Iterator[int] | None = None
 ) -> Iterator[Named]:
@@ -127,13 +138,8 @@ def scan_file(
 
     With numbers for files of several names it is of a stack; see `write_layer`.
     """
-    with reading(options.layer):
-        file = os.open(options.layer, READ_WHERE_IT_LEADS)
-    try:
-        layer = _FileLayer(options.layer, form, file)
+    with opened_layer(options.layer, form) as layer:
         tree = _read(layer, options)
-    finally:
-        os.close(file)
     left_out = Losses()
     for path in layer.sockets:
         left_out.add(Loss.SOCKET, path)
@@ -148,17 +154,12 @@ def scan_file(
 
 def squashfs_tree(path: str, reported_path: str, userxattr: bool) -> LayerTree:
     """The entries of a squashfs that was written here, with the digests of its files."""
-    with reading(reported_path):
-        file = os.open(path, READ_WHERE_IT_LEADS)
-    try:
-        layer = _FileLayer(reported_path, Form.SQUASHFS, file)
+    with opened_layer(path, Form.SQUASHFS, reported_path) as layer:
         read_options = ReadOptions(
             out=reported_path, overlay_marks=True, writer=Digester(), budget=Budget(), below=MergedTree(),
             is_folder=True, userxattr=userxattr,
         )
         return LayerArchive(layer, read_options).tree()
-    finally:
-        os.close(file)
 
 
 def _read(layer: _FileLayer, options: FileOptions) -> LayerTree:

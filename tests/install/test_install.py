@@ -18,7 +18,9 @@ from convert import VERSION
 VERSION_TEXT = ROOT / "examples" / "version.txt"
 _OPTION = re.compile(r"(?<![\w-])--[a-z][a-z-]*")
 _WIDTH = 111  # of the help texts; what the options mean is broken as the terminal wants it
-_COMMANDS = ("scan", "store", "build", "unpack", "pack", "flatten", "vacuum", "deref", "merge", "sizes", "diff", "mounted")
+_COMMANDS = (
+    "scan", "store", "build", "unpack", "pack", "flatten", "vacuum", "deref", "merge", "sizes", "ls", "cat", "diff", "mounted",
+)
 INSTALLED = [
     "bin/layers", "bin/ovl_layers",
     "share/bash-completion/completions/layers", "share/bash-completion/completions/ovl_layers",
