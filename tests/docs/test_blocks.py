@@ -4,6 +4,7 @@ The blocks of one document are run in their order, in a folder that has the repo
 is written into the repository. The program is the one that is built, or what `LAYERS_TEST_PROGRAM` says.
 """
 
+import hashlib
 import json
 import os
 import re
@@ -15,6 +16,7 @@ import sys
 import tempfile
 import unittest
 from pathlib import Path
+from typing import Any
 
 from documents import KINDS, ROOT, Block, blocks_of, documents, lines_outside
 
@@ -58,6 +60,31 @@ def why_not(needs: list[str]) -> str | None:
         if missing:
             return f"needs {need}" + " program" * (need in BUILT)
     return None
+
+
+def write_base(image: Path, out: Path) -> None:
+    """Writes an image of only the lowest layer of another, both layouts."""
+    shutil.copytree(image, out)
+    blobs = out / "blobs" / "sha256"
+
+    def read(descriptor: dict[str, Any]) -> dict[str, Any]:
+        found: dict[str, Any] = json.loads((blobs / descriptor["digest"].removeprefix("sha256:")).read_bytes())
+        return found
+
+    def put(descriptor: dict[str, Any], value: dict[str, Any]) -> None:
+        data = json.dumps(value).encode()
+        name = hashlib.sha256(data).hexdigest()
+        (blobs / name).write_bytes(data)
+        descriptor.update(digest=f"sha256:{name}", size=len(data))
+
+    index = json.loads((out / "index.json").read_bytes())
+    manifest = read(index["manifests"][0])
+    config = read(manifest["config"])
+    del manifest["layers"][1:], config["rootfs"]["diff_ids"][1:]
+    config.pop("history", None)
+    put(manifest["config"], config)
+    put(index["manifests"][0], manifest)
+    (out / "index.json").write_text(json.dumps(index), encoding="ascii")
 
 
 class DocumentTest(unittest.TestCase):
@@ -156,6 +183,8 @@ class Jobs(DocumentTest):
             "layers pack given/l1.json given/l2.json --blobs given/blobs --config given/config.json --out old.tar\n"
         )
         self.assertEqual(made.returncode, 0, made.stdout)
+        write_base(ROOT / "examples" / "image", self.work / "base")
+        self.run_lines("tar -C base -cf base.tar .")
 
     def commands(self, part: str, least: int) -> list[str]:
         """The commands that have this part, at least so many."""
@@ -169,7 +198,7 @@ class Jobs(DocumentTest):
         with self.subTest(command):
             ran = self.run_lines(command)
             self.assertEqual(ran.returncode, status, ran.stdout)
-            self.run_lines("rm -rf s flat flat.tar new.squashfs")
+            self.run_lines("rm -rf s flat flat.tar new new.squashfs")
 
     def test_images(self) -> None:
         """Two of them find what they look for, and end with 1."""
