@@ -44,7 +44,7 @@ _layers() {
                     '--overlay-marks[takes attributes trusted.overlay.* of the image'\''s archives too, which change what the layers show]' \
                     '--skip-unsupported[leaves out what can'\''t be stated, with a warning each, instead of refusing it]' \
                     '--out[folder to make, or a file whose name ends in .tar]:IMAGE:_files' \
-                    '--compress[packs the layers, at a level such as gzip\:9]:none|gzip|zstd|xz|lz4|METHOD:LEVEL:(none gzip zstd xz lz4)' \
+                    '--compress[packs the layers, at a level such as gzip\:9]:none|gzip|zstd|xz|lz4|METHOD\:LEVEL:(none gzip zstd xz lz4)' \
                     '-t[name of the new image, such as shop\:2]:NAME:' \
                     '--name[name of the new image, such as shop\:2]:NAME:' \
                     '--layers[how many layers are left at most]:N:' \
@@ -171,7 +171,7 @@ _layers() {
                     '-h[show this help message and exit]' \
                     '--help[show this help message and exit]' \
                     '--out[folder to make, absent or empty, or a file whose name ends in .squashfs]:OUT:_files' \
-                    '--compress[packs the squashfs, at a level such as gzip\:9]:gzip|xz|zstd|lz4|METHOD:LEVEL:(gzip xz zstd lz4)' \
+                    '--compress[packs the squashfs, at a level such as gzip\:9]:gzip|xz|zstd|lz4|METHOD\:LEVEL:(gzip xz zstd lz4)' \
                     '--keep[folder to make, absent or empty, for all that is made on the way]:DIR:_files -/' \
                     '--stack[layers, the topmost first]:LAYER:_files' \
                     '--data-layers[how many of the layers, the lowest ones, are data-only]:K:' \
@@ -189,7 +189,7 @@ _layers() {
                     '-h[show this help message and exit]' \
                     '--help[show this help message and exit]' \
                     '--out[folder to make, absent or empty, or a file whose name ends in .squashfs]:OUT:_files' \
-                    '--compress[packs the squashfs, at a level such as gzip\:9]:gzip|xz|zstd|lz4|METHOD:LEVEL:(gzip xz zstd lz4)' \
+                    '--compress[packs the squashfs, at a level such as gzip\:9]:gzip|xz|zstd|lz4|METHOD\:LEVEL:(gzip xz zstd lz4)' \
                     '--keep[folder to make, absent or empty, for all that is made on the way]:DIR:_files -/' \
                     '--stack[layers, the topmost first]:LAYER:_files' \
                     '--data-layers[how many of the layers, the lowest ones, are data-only]:K:' \
@@ -208,7 +208,7 @@ _layers() {
                     '--help[show this help message and exit]' \
                     '--down-to[how many layers are left]:N:' \
                     '--out[folder to make, absent or empty, or a file whose name ends in .squashfs]:OUT:_files' \
-                    '--compress[packs the squashfs, at a level such as gzip\:9]:gzip|xz|zstd|lz4|METHOD:LEVEL:(gzip xz zstd lz4)' \
+                    '--compress[packs the squashfs, at a level such as gzip\:9]:gzip|xz|zstd|lz4|METHOD\:LEVEL:(gzip xz zstd lz4)' \
                     '--keep[folder to make, absent or empty, for all that is made on the way]:DIR:_files -/' \
                     '--stack[layers, the topmost first]:LAYER:_files' \
                     '--data-layers[how many of the layers, the lowest ones, are data-only]:K:' \
@@ -246,7 +246,7 @@ _layers() {
                     '--help[show this help message and exit]' \
                     '--blobs[folder with the contents of their files]:DIR:_files -/' \
                     '--out[folder to make, or a file whose name ends in .tar]:IMAGE:_files' \
-                    '--compress[packs the layers, at a level such as gzip\:9]:none|gzip|zstd|METHOD:LEVEL:(none gzip zstd)' \
+                    '--compress[packs the layers, at a level such as gzip\:9]:none|gzip|zstd|METHOD\:LEVEL:(none gzip zstd)' \
                     '--config[what the image runs, as whom and on which platform, such as the config.json that unpack writes]:FILE:_files' \
                     '--platform[what the image says that it is for]:OS/ARCH:' \
                     '-t[name of the new image, such as shop\:2]:NAME:' \
@@ -291,7 +291,7 @@ _layers() {
                     '--help[show this help message and exit]' \
                     '--blobs[folder with the contents of its files]:DIR:_files -/' \
                     '--out[folder to make, absent or empty, or a file whose name ends in .squashfs]:OUT:_files' \
-                    '--compress[packs the squashfs, at a level such as gzip\:9]:gzip|xz|zstd|lz4|METHOD:LEVEL:(gzip xz zstd lz4)' \
+                    '--compress[packs the squashfs, at a level such as gzip\:9]:gzip|xz|zstd|lz4|METHOD\:LEVEL:(gzip xz zstd lz4)' \
                     '--userxattr[writes marks as user.overlay.*, as the mount option of this name does]' \
                     '--no-userxattr[writes marks as user.overlay.*, as the mount option of this name does]' \
                     '*:LAYER:_files'

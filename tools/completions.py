@@ -192,7 +192,7 @@ def _zsh_option(option: Option) -> Iterator[str]:
     value = ""
     if option.value:
         offered = f"({' '.join(option.choices)})" if option.choices else _zsh_files(option.value)
-        value = f":{option.value}:{offered}"
+        value = f":{_escaped(option.value)}:{offered}"
     for name in option.names:
         yield _quoted(f"{name}[{_escaped(_short(option.about))}]{value}")
 

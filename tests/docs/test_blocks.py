@@ -177,8 +177,9 @@ class Jobs(DocumentTest):
         super().setUp()
         self.begin()
         made = self.run_lines(
-            "tar -C examples/image -cf shop.tar .\n"
             "layers unpack examples/image --out given\n"
+            "layers pack given/l?.json --blobs given/blobs --config given/config.json --out shop.tar\n"
+            "layers pack given/l2.json --blobs given/blobs --config given/config.json --out base.tar\n"
             "layers pack given/l?.json --blobs given/blobs --config given/config.json --platform linux/arm64 --out shop\n"
             "layers pack given/l1.json given/l2.json --blobs given/blobs --config given/config.json --out old.tar\n"
         )

@@ -57,7 +57,7 @@ class Completions(FolderTest):
             pass
         for words, offered in (
             (("layers", "fl"), ["flatten"]), (("ovl_layers", "f"), ["fsck", "flatten"]),
-            (("layers", "--unproved", "fl"), ["flatten"]), (("layers", "--v"), ["--version"]),
+            (("layers", "--unproved", "fl"), ["flatten"]), (("layers", "--v"), ["--verbose", "--version"]),
             (("layers", "flatten", "--dry"), ["--dry-run"]), (("ovl_layers", "merge", "--d"), ["--down-to", "--data-layers"]),
             (("layers", "pack", "--compress", ""), ["none", "gzip", "zstd"]),
             (("ovl_layers", "fsck", "--blobs", "bl"), ["blobs"]),
