@@ -19,7 +19,7 @@ _layers() {
         flatten/--data-layers) compopt +o default && return ;;
         flatten/--workers) compopt +o default && return ;;
         flatten/--blobs) compopt -o filenames; mapfile -t COMPREPLY < <(compgen -d -- "$word") && return ;;
-        flatten/--form) mapfile -t COMPREPLY < <(compgen -W 'folder squashfs' -- "$word") && return ;;
+        flatten/--form) mapfile -t COMPREPLY < <(compgen -W 'folder squashfs tar' -- "$word") && return ;;
         check/--base) compopt +o default && return ;;
         check/--max-waste) compopt +o default && return ;;
         check/--platform) compopt +o default && return ;;
@@ -53,20 +53,20 @@ _layers() {
         vacuum/--data-layers) compopt +o default && return ;;
         vacuum/--workers) compopt +o default && return ;;
         vacuum/--blobs) compopt -o filenames; mapfile -t COMPREPLY < <(compgen -d -- "$word") && return ;;
-        vacuum/--form) mapfile -t COMPREPLY < <(compgen -W 'folder squashfs' -- "$word") && return ;;
+        vacuum/--form) mapfile -t COMPREPLY < <(compgen -W 'folder squashfs tar' -- "$word") && return ;;
         deref/--compress) mapfile -t COMPREPLY < <(compgen -W 'gzip xz zstd lz4' -- "$word") && return ;;
         deref/--keep) compopt -o filenames; mapfile -t COMPREPLY < <(compgen -d -- "$word") && return ;;
         deref/--data-layers) compopt +o default && return ;;
         deref/--workers) compopt +o default && return ;;
         deref/--blobs) compopt -o filenames; mapfile -t COMPREPLY < <(compgen -d -- "$word") && return ;;
-        deref/--form) mapfile -t COMPREPLY < <(compgen -W 'folder squashfs' -- "$word") && return ;;
+        deref/--form) mapfile -t COMPREPLY < <(compgen -W 'folder squashfs tar' -- "$word") && return ;;
         merge/--down-to) compopt +o default && return ;;
         merge/--compress) mapfile -t COMPREPLY < <(compgen -W 'gzip xz zstd lz4' -- "$word") && return ;;
         merge/--keep) compopt -o filenames; mapfile -t COMPREPLY < <(compgen -d -- "$word") && return ;;
         merge/--data-layers) compopt +o default && return ;;
         merge/--workers) compopt +o default && return ;;
         merge/--blobs) compopt -o filenames; mapfile -t COMPREPLY < <(compgen -d -- "$word") && return ;;
-        merge/--form) mapfile -t COMPREPLY < <(compgen -W 'folder squashfs' -- "$word") && return ;;
+        merge/--form) mapfile -t COMPREPLY < <(compgen -W 'folder squashfs tar' -- "$word") && return ;;
         unpack/--platform) compopt +o default && return ;;
         unpack/--from-tag) compopt +o default && return ;;
         unpack/--out) compopt -o filenames; mapfile -t COMPREPLY < <(compgen -d -- "$word") && return ;;
@@ -86,7 +86,7 @@ _layers() {
     esac
     case $command in
         '') mapfile -t COMPREPLY < <(compgen -W 'flatten check sizes ls cat diff vacuum deref merge unpack pack scan store build mounted -h --help -q --quiet -v --verbose --color --unproved -V --version' -- "$word") ;;
-        flatten) [[ $word != -* ]] || mapfile -t COMPREPLY < <(compgen -W '-h --help --platform --from-tag --overlay-marks --skip-unsupported --out --compress -t --name --layers --base --keep --exclude --dry-run --stack --data-layers --userxattr --no-userxattr --cross-file-systems --workers --blobs --form' -- "$word") ;;
+        flatten) [[ $word != -* ]] || mapfile -t COMPREPLY < <(compgen -W '-h --help --platform --from-tag --overlay-marks --skip-unsupported --out --compress -t --name --layers --base --keep --rootfs --exclude --dry-run --stack --data-layers --userxattr --no-userxattr --cross-file-systems --workers --blobs --form' -- "$word") ;;
         check) [[ $word != -* ]] || mapfile -t COMPREPLY < <(compgen -W '-h --help --strict --json --base --max-waste --platform --from-tag --overlay-marks --skip-unsupported --stack --data-layers --userxattr --no-userxattr --cross-file-systems --workers --blobs' -- "$word") ;;
         sizes) [[ $word != -* ]] || mapfile -t COMPREPLY < <(compgen -W '-h --help --platform --from-tag --overlay-marks --skip-unsupported --stack --data-layers --userxattr --no-userxattr --cross-file-systems --workers --json --bytes --advice --html --base --max-waste --fail-over' -- "$word") ;;
         ls) [[ $word != -* ]] || mapfile -t COMPREPLY < <(compgen -W '-h --help --platform --from-tag --overlay-marks --skip-unsupported --stack --data-layers --userxattr --no-userxattr --cross-file-systems --workers --layer --removed -R --recursive --no-recursive --full-time --long-layer --bytes --json' -- "$word") ;;

@@ -50,6 +50,7 @@ _layers() {
                     '--layers[how many layers are left at most]:N:' \
                     '--base[the lowest N layers, or those of this image, stay byte for byte, and all above becomes one layer]:N|IMAGE:' \
                     '--keep[folder to make, absent or empty, for all that is made on the way]:DIR:_files -/' \
+                    '--rootfs[what is shown in place of an image]' \
                     '--exclude[leaves PATH out with all below it, as if the topmost layer had removed it]:PATH:' \
                     '--dry-run[prints the commands, as a shell takes them, and runs none]' \
                     '--stack[layers in place of an image, the topmost first]:LAYER:_files' \
@@ -59,7 +60,7 @@ _layers() {
                     '--cross-file-systems[enters other file systems too]' \
                     '--workers[how many processes read files, 1 to 64]:N:' \
                     '--blobs[with --stack]:DIR:_files -/' \
-                    '--form[with --stack]:FORM:(folder squashfs)' \
+                    '--form[with --stack]:FORM:(folder squashfs tar)' \
                     '*:IMAGE:_files'
                     ;;
                 check)
@@ -170,7 +171,7 @@ _layers() {
                     _arguments \
                     '-h[show this help message and exit]' \
                     '--help[show this help message and exit]' \
-                    '--out[folder to make, absent or empty, or a file whose name ends in .squashfs]:OUT:_files' \
+                    '--out[folder to make, absent or empty, or a file whose name ends in .squashfs or .tar]:OUT:_files' \
                     '--compress[packs the squashfs, at a level such as gzip\:9]:gzip|xz|zstd|lz4|METHOD\:LEVEL:(gzip xz zstd lz4)' \
                     '--keep[folder to make, absent or empty, for all that is made on the way]:DIR:_files -/' \
                     '--stack[layers, the topmost first]:LAYER:_files' \
@@ -180,7 +181,7 @@ _layers() {
                     '--cross-file-systems[enters other file systems too]' \
                     '--workers[how many processes read files, 1 to 64]:N:' \
                     '--blobs[folder with the contents of manifests]:DIR:_files -/' \
-                    '--form[what layers are written as]:FORM:(folder squashfs)' \
+                    '--form[what layers are written as]:FORM:(folder squashfs tar)' \
                     '--skip-unsupported[leaves out what can'\''t be stated, with a warning each, instead of refusing it]' \
                     '*::'
                     ;;
@@ -188,7 +189,7 @@ _layers() {
                     _arguments \
                     '-h[show this help message and exit]' \
                     '--help[show this help message and exit]' \
-                    '--out[folder to make, absent or empty, or a file whose name ends in .squashfs]:OUT:_files' \
+                    '--out[folder to make, absent or empty, or a file whose name ends in .squashfs or .tar]:OUT:_files' \
                     '--compress[packs the squashfs, at a level such as gzip\:9]:gzip|xz|zstd|lz4|METHOD\:LEVEL:(gzip xz zstd lz4)' \
                     '--keep[folder to make, absent or empty, for all that is made on the way]:DIR:_files -/' \
                     '--stack[layers, the topmost first]:LAYER:_files' \
@@ -198,7 +199,7 @@ _layers() {
                     '--cross-file-systems[enters other file systems too]' \
                     '--workers[how many processes read files, 1 to 64]:N:' \
                     '--blobs[folder with the contents of manifests]:DIR:_files -/' \
-                    '--form[what layers are written as]:FORM:(folder squashfs)' \
+                    '--form[what layers are written as]:FORM:(folder squashfs tar)' \
                     '--skip-unsupported[leaves out what can'\''t be stated, with a warning each, instead of refusing it]' \
                     '*::'
                     ;;
@@ -207,7 +208,7 @@ _layers() {
                     '-h[show this help message and exit]' \
                     '--help[show this help message and exit]' \
                     '--down-to[how many layers are left]:N:' \
-                    '--out[folder to make, absent or empty, or a file whose name ends in .squashfs]:OUT:_files' \
+                    '--out[folder to make, absent or empty, or a file whose name ends in .squashfs or .tar]:OUT:_files' \
                     '--compress[packs the squashfs, at a level such as gzip\:9]:gzip|xz|zstd|lz4|METHOD\:LEVEL:(gzip xz zstd lz4)' \
                     '--keep[folder to make, absent or empty, for all that is made on the way]:DIR:_files -/' \
                     '--stack[layers, the topmost first]:LAYER:_files' \
@@ -217,7 +218,7 @@ _layers() {
                     '--cross-file-systems[enters other file systems too]' \
                     '--workers[how many processes read files, 1 to 64]:N:' \
                     '--blobs[folder with the contents of manifests]:DIR:_files -/' \
-                    '--form[what layers are written as]:FORM:(folder squashfs)' \
+                    '--form[what layers are written as]:FORM:(folder squashfs tar)' \
                     '--skip-unsupported[leaves out what can'\''t be stated, with a warning each, instead of refusing it]' \
                     '*::'
                     ;;
@@ -290,7 +291,7 @@ _layers() {
                     '-h[show this help message and exit]' \
                     '--help[show this help message and exit]' \
                     '--blobs[folder with the contents of its files]:DIR:_files -/' \
-                    '--out[folder to make, absent or empty, or a file whose name ends in .squashfs]:OUT:_files' \
+                    '--out[folder to make, absent or empty, or a file whose name ends in .squashfs or .tar]:OUT:_files' \
                     '--compress[packs the squashfs, at a level such as gzip\:9]:gzip|xz|zstd|lz4|METHOD\:LEVEL:(gzip xz zstd lz4)' \
                     '--userxattr[writes marks as user.overlay.*, as the mount option of this name does]' \
                     '--no-userxattr[writes marks as user.overlay.*, as the mount option of this name does]' \

@@ -17,15 +17,17 @@ from .common.progress import Verbosity, choose_verbosity, complain, note
 from .flatten.exclusion import excluded_path
 from .flatten.image import FlattenOptions, flatten, flatten_commands
 from .flatten.rewrite import RewriteOptions, Rewriting, rewrite
+from .flatten.rootfs import RootfsOptions, flatten_rootfs
 from .flatten.stack import NewLayersOptions, OutForm, flatten_stack
 from .folder.build import BuildOptions
-from .folder.build_squashfs import build_layer
+from .folder.build_file import build_layer
 from .folder.mounted import report
 from .folder.scan import ScanOptions, scan
 from .folder.stack_layers import StackOptions, layers_of_mount, write_stack
 from .folder.stores import StoreOptions, store
 from .image.compression import LEVELS, NONE
 from .image.configuration import Making
+from .image.images import image_place, paths_of_image
 from .image.pack import PackOptions, pack
 from .image.targets import Form, Target, target_of
 from .image.unpack import UnpackOptions, unpack
@@ -40,7 +42,7 @@ from .words import Run, parser_of
 
 _INTERRUPTED = 128
 _OF_IMAGES = ("platform", "from_tag", "overlay_marks", "dry_run")  # words of commands that take an image or a stack
-_OF_STACKS = ("blobs", "data_layers", "form", "userxattr", "cross_file_systems")
+_OF_STACKS = ("blobs", "data_layers", "userxattr", "cross_file_systems")
 
 
 def main(words: Sequence[str]) -> int:
@@ -201,13 +203,35 @@ def _stack_of(words: argparse.Namespace, digests_only: bool = False) -> StackOpt
 
 def _flatten(words: argparse.Namespace) -> None:
     _require_one_sort(words)
-    if words.stack is None:
-        _flatten_image(words)
-    else:
+    if words.stack is not None:
         _flatten_stack(words)
+    elif words.rootfs:
+        _flatten_rootfs(words)
+    else:
+        _flatten_image(words)
+
+
+def _flatten_rootfs(words: argparse.Namespace) -> None:
+    for name, is_given in (("base", words.base), ("layers", words.layers != 1), ("name", words.name), ("dry-run", words.dry_run)):
+        if is_given:
+            raise UsageFault(f"--rootfs makes one tree and no image, without --{name}")
+    if words.compress and words.compress.method == NONE:
+        raise UsageFault("--compress none is for images alone")
+    image = _folder(words.image)
+    path, _ = image_place(image, words.from_tag)
+    flatten_rootfs(RootfsOptions(
+        image=image, platform=words.platform, tag=words.from_tag, skip_unsupported=words.skip_unsupported,
+        overlay_marks=words.overlay_marks, new=NewLayersOptions(
+            stack=StackOptions(layers=paths_of_image(path)), out=_folder(words.out),
+            form=words.form and OutForm(words.form), keep=words.keep and _folder(words.keep), compress=words.compress,
+            excluded=list(map(excluded_path, words.exclude)),
+        ),
+    ))
 
 
 def _flatten_image(words: argparse.Namespace) -> None:
+    if words.form is not None:
+        raise UsageFault("--form is for --stack and --rootfs alone")
     if words.compress and words.compress.problem(LEVELS):
         raise UsageFault(f"--compress {words.compress} is for a squashfs alone")
     out = _target(words.out, words.dry_run)
@@ -226,6 +250,8 @@ def _flatten_image(words: argparse.Namespace) -> None:
 def _flatten_stack(words: argparse.Namespace) -> None:
     if words.name is not None:
         raise UsageFault("--name is for images alone")
+    if words.rootfs and words.layers != 1:
+        raise UsageFault("--rootfs makes one tree, without --layers")
     if words.base is not None:
         raise UsageFault("--base is for images alone; --layers N leaves N layers of a stack")
     if words.compress and words.compress.method == NONE:

@@ -6,7 +6,7 @@ from collections.abc import Callable, Mapping
 from . import VERSION
 from .common.progress import note
 from .flatten.stack import OutForm
-from .folder.build_squashfs import SUFFIX as SQUASHFS_SUFFIX
+from .folder.build_file import SUFFIXES
 from .image.compression import LEVELS, PLAIN, Compression, compression_of
 from .image.configuration import MAKER, USUAL_PLATFORM
 from .look.changes import ASPECTS
@@ -72,8 +72,8 @@ DIR is the folder of the topmost layer, such as /var/lib/docker/overlay2/ID or
 Only root can read the marks of an overlay (trusted.overlay.*)."""
 
 _BUILD = """\
-Make the folder of a manifest, or a squashfs if the name ends in .squashfs: kinds, modes, owners, times,
-attributes, devices and whiteouts, as the kernel has them. Contents are checked against their digests. Names
+Make the folder of a manifest, or a squashfs or a plain archive of it if the name ends in .squashfs or .tar: kinds,
+modes, owners, times, attributes, devices and whiteouts, as the kernel has them. Contents are checked against their digests. Names
 that are one file, by the LAYER.links that `scan` writes beside LAYER.json, become hard links. Owners, devices
 and trusted.overlay.* attributes of a folder need root.
 
@@ -130,9 +130,12 @@ command. --out is as for `pack`: with -, an archive on standard output, nothing 
 --dry-run prints the commands that do the same by hand, and says what by hand can't be done.
 
 With --stack LAYER.. layers on a disk take an image's place, the topmost first: folders, squashfs files, tar
-archives of folders, or manifests with --blobs. One layer is written: a squashfs if the name of --out ends
-in .squashfs, else a folder; with --layers over 1, a folder of layers l0, the topmost, l1 and so on. The
-steps and comparisons are the same, but a squashfs has no sockets, and only times in whole seconds."""
+archives of folders, or manifests with --blobs. One layer is written: a squashfs or a plain archive if
+the name of --out ends in .squashfs or .tar, else a folder; with --layers over 1, a folder of layers l0, the
+topmost, l1 and so on. The steps and comparisons are the same, but files have no sockets, and a squashfs only
+times in whole seconds. --rootfs writes what an image shows in these forms.
+
+--exclude PATH leaves out what is shown there, with all below it, as if the topmost layer had removed it."""
 
 _SIZES = """\
 Print where the bytes of an image's layers go, the topmost layer first: the step of the Dockerfile, the bytes,
@@ -245,6 +248,7 @@ _NEW_IMAGE = (
     "folder to make, or a file whose name ends in .tar; - is such an archive on standard output; or as skopeo "
     "names it: oci:DIR:TAG, oci-archive:FILE:TAG, docker-archive:FILE:NAME, dir:DIR"
 )
+_OF_FILES = " or ".join(SUFFIXES)
 _PACKS = (
     "packs the layers, at a level such as gzip:9; zstd needs the program of that name, and is read by podman, buildah, "
     "containerd and docker from 23 on, not by umoci and older dockers"
@@ -312,7 +316,7 @@ def _add_build(parser: argparse.ArgumentParser) -> None:
     parser.add_argument("--blobs", metavar="DIR", required=True, help="folder with the contents of its files")
     parser.add_argument(
         "--out", metavar="OUT", required=True,
-        help=f"folder to make, absent or empty, or a file whose name ends in {SQUASHFS_SUFFIX}",
+        help=f"folder to make, absent or empty, or a file whose name ends in {_OF_FILES}",
     )
     parser.add_argument(
         "--compress", metavar=_methods(squashfs.LEVELS), type=_compression(squashfs.LEVELS),
@@ -415,7 +419,7 @@ def _methods(levels: Mapping[str, range]) -> str:
 def _add_flatten(parser: argparse.ArgumentParser) -> None:
     every = {**LEVELS, **squashfs.LEVELS}
     _add_image(parser, may_be_absent=True)
-    _add_out(parser, f"{_NEW_IMAGE}; with --stack a folder, or a file whose name ends in {SQUASHFS_SUFFIX}")
+    _add_out(parser, f"{_NEW_IMAGE}; with --stack or --rootfs a folder, or a file whose name ends in {_OF_FILES}")
     parser.add_argument(
         "--compress", metavar=_methods(every), type=_compression(every),
         help=f"{_PACKS}; xz and lz4 are for a squashfs [default: as the topmost given layer, or squashfs, is packed]",
@@ -431,6 +435,10 @@ def _add_flatten(parser: argparse.ArgumentParser) -> None:
         help="the lowest N layers, or those of this image, stay byte for byte, and all above becomes one layer",
     )
     _add_keep(parser)
+    parser.add_argument(
+        "--rootfs", action="store_true",
+        help=f"what is shown in place of an image: a folder, or a file whose name ends in {_OF_FILES}",
+    )
     parser.add_argument(
         "--exclude", metavar="PATH", action="append", default=[],
         help="leaves PATH out with all below it, as if the topmost layer had removed it; may be given again",
@@ -474,7 +482,7 @@ def _add_rewriting(parser: argparse.ArgumentParser) -> None:
     """The options of a command that writes a layer of a stack anew."""
     parser.add_argument(
         "--out", metavar="OUT", required=True,
-        help=f"folder to make, absent or empty, or a file whose name ends in {SQUASHFS_SUFFIX}",
+        help=f"folder to make, absent or empty, or a file whose name ends in {_OF_FILES}",
     )
     parser.add_argument(
         "--compress", metavar=_methods(squashfs.LEVELS), type=_compression(squashfs.LEVELS),

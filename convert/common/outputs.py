@@ -20,7 +20,7 @@ from .stages import Stage, lock, tidy
 STANDARD_OUTPUT = "-"
 NEW = "new"  # in a stage: what is to get the path
 _AT_ONCE = 1 << 18
-_USUAL_MODE = 0o666  # less what the umask takes
+USUAL_MODE = 0o666  # less what the umask takes
 _MOST_LINKS = 40  # on the way to a file
 
 
@@ -101,7 +101,7 @@ def write_text(path: str, pieces: Iterable[str]) -> None:
     write_file(path, fill)
 
 
-def write_file(path: str, fill: Callable[[Write], None], mode: int = _USUAL_MODE) -> None:
+def write_file(path: str, fill: Callable[[Write], None], mode: int = USUAL_MODE) -> None:
     """Has a file filled.
 
     Nothing, or a regular file, is replaced as a whole by one that was filled in a stage beside it; a link leads

@@ -13,7 +13,7 @@ from pathlib import Path
 
 from ..common.contents import PIECE
 from ..common.disk_space import require_room
-from ..common.faults import Fault, UsageFault, cannot_read, cannot_write
+from ..common.faults import UsageFault, cannot_read, cannot_write
 from ..common.outputs import NEW, folder_made, new_file, note_stages_beside, passing_folder, standard_output
 from ..common.program import NAME, find_program, makes_layers, word_of_path, words_of
 from ..common.progress import counted
@@ -235,10 +235,7 @@ class _ImageRunner(Runner):
     def _kept(self, layers: Sequence[str]) -> Sequence[ImageLayer]:
         """The given layers that stay as they are, the lowest first."""
         count = min(self.unchanged(layers), len(self._layers)) if self._layers else 0
-        if count < self.base:
-            raise Fault(
-                f"layer {self.count - 1 - count}, of the base, has redirects or metacopy files, so it can't stay as it is"
-            )
+        assert count >= self.base
         return self._layers[:count]
 
     def _packing(self, made: Sequence[str], kept: Sequence[ImageLayer], new_layers: NewLayers | None) -> PackOptions:

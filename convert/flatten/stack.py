@@ -4,7 +4,7 @@ import contextlib
 import os
 import sys
 import time
-from collections.abc import Iterable, Iterator, Sequence
+from collections.abc import Callable, Iterable, Iterator, Mapping, Sequence
 from dataclasses import dataclass, replace
 from enum import Enum
 
@@ -15,7 +15,7 @@ from ..common.outputs import NEW, folder_made, new_file, note_stages_beside, req
 from ..common.progress import counted, layers_at_work, note_path
 from ..common.stages import Stage
 from ..folder.build import BuildOptions, build
-from ..folder.build_squashfs import SUFFIX, build_squashfs
+from ..folder.build_file import SUFFIXES, build_file
 from ..folder.stack_layers import StackOptions, read_stack, require_forms, require_ordinary
 from ..image.compression import Compression
 from ..model import stacks
@@ -27,7 +27,7 @@ from ..model.manifests import read_manifest
 from ..model.show_report import ShowLine, escaped_path, read_report, report_of
 from ..squashfs import programs as squashfs
 from ..squashfs.layer_files import Form
-from ..squashfs.limits import fitted_lines
+from ..squashfs.limits import fitted_lines, lines_without_sockets
 from ..squashfs.programs import Packing
 from .steps import AGAIN, STACK, Runner, carry_out, timed, work_folder
 
@@ -36,7 +36,7 @@ _FITTED = "fitted.show"
 _SHOWN = f"{_NEW}.show"
 
 
-_OF_OTHERS = (".tar", ".img", ".raw", ".iso", ".ext4", ".qcow2", ".sqfs", ".sqsh", ".json")
+_OF_OTHERS = (".img", ".raw", ".iso", ".ext4", ".qcow2", ".sqfs", ".sqsh", ".json")
 
 
 class OutForm(Enum):
@@ -44,6 +44,13 @@ class OutForm(Enum):
 
     FOLDER = "folder"
     SQUASHFS = "squashfs"
+    ARCHIVE = "tar"
+
+
+_OF_FILES = {OutForm.SQUASHFS: Form.SQUASHFS, OutForm.ARCHIVE: Form.ARCHIVE}
+_Fit = Callable[[Iterable[ShowLine]], Iterator[ShowLine]]
+_FITTING: Mapping[OutForm, _Fit] = {OutForm.SQUASHFS: fitted_lines, OutForm.ARCHIVE: lines_without_sockets}
+_SUFFIXES = {OutForm(suffix[1:]): suffix for suffix in SUFFIXES} | {OutForm.FOLDER: ""}
 
 
 @dataclass(frozen=True, kw_only=True)
@@ -59,13 +66,18 @@ class NewLayersOptions:
     excluded: Sequence[str] = ()
     compress: Compression | None = None  # of a squashfs; otherwise as the topmost given one is packed
 
+    def written_as(self) -> OutForm:
+        """What each layer is written as."""
+        by_name = next((form for form, suffix in _SUFFIXES.items() if suffix and self.out.endswith(suffix)), OutForm.FOLDER)
+        return self.form or by_name
+
     def is_squashfs(self) -> bool:
         """Whether squashfs files are written."""
-        return self.form is OutForm.SQUASHFS if self.form else self.out.endswith(SUFFIX)
+        return self.written_as() is OutForm.SQUASHFS
 
     def is_file(self) -> bool:
-        """Whether --out is one squashfs file."""
-        return self.is_squashfs() and self.layers == 1
+        """Whether --out is one file."""
+        return self.written_as() in _OF_FILES and self.layers == 1
 
 
 def flatten_stack(options: NewLayersOptions) -> None:
@@ -94,12 +106,18 @@ def require_sound(options: NewLayersOptions) -> list[Form]:
     """What the layers are given as; refuses at once what couldn't be done in the end."""
     forms = require_forms(options.stack)
     require_ordinary(len(forms), options.data_layers)
-    if options.layers > 1 and options.out.endswith(SUFFIX):
+    require_place(options)
+    return forms
+
+
+def require_place(options: NewLayersOptions) -> None:
+    """Refuses at once a place where nothing could be written in the end."""
+    if options.layers > 1 and options.out.endswith(tuple(SUFFIXES)):
         raise UsageFault("with --layers over 1 --out is a folder of layers; --form squashfs makes them squashfs files")
     _require_outside(options)
     if options.form is None and options.out.endswith(_OF_OTHERS):
         raise UsageFault(
-            f"--out {options.out}: layers are written as folders, or as a file whose name ends in {SUFFIX}; "
+            f"--out {options.out}: layers are written as folders, or as a file whose name ends in {' or '.join(SUFFIXES)}; "
             "--form folder makes a folder of this name"
         )
     if options.keep is not None and os.path.realpath(options.keep) == os.path.realpath(options.out):
@@ -107,15 +125,14 @@ def require_sound(options: NewLayersOptions) -> list[Form]:
     if options.is_squashfs():
         squashfs.require_programs()
     elif options.compress is not None:
-        raise UsageFault(f"--compress is of squashfs, and --out doesn't end in {SUFFIX}")
-    elif not options.stack.userxattr:
+        raise UsageFault("--compress is of squashfs, and --out doesn't end in .squashfs")
+    elif options.written_as() is OutForm.FOLDER and not options.stack.userxattr:
         require_trusted(options.out)
     if options.is_file():
         if os.path.lexists(options.out) and not os.path.isfile(options.out):
             raise cannot_write(options.out, "it is no regular file")
     else:
         require_empty(options.out)
-    return forms
 
 
 def _packing_of(options: NewLayersOptions, forms: Sequence[Form]) -> Packing:
@@ -160,9 +177,8 @@ class StackRunner(Runner):
         self._options = options
         self._made = made
         self.excluded = options.excluded
-        self._packing = Packing()
-        if options.is_squashfs():
-            self._packing = _packing_of(options, forms)
+        self._packing = _packing_of(options, forms) if options.is_squashfs() else Packing()
+        if options.written_as() in _OF_FILES:
             self.bytes_given = _bytes_of(options.stack.layers, forms)
 
     def unpack(self) -> int:
@@ -195,7 +211,7 @@ class StackRunner(Runner):
         """Writes a new layer in its form; gives its path."""
         out, name = self._made, self._options.out
         if self._options.layers > 1:
-            suffix = SUFFIX if self._options.is_squashfs() else ""
+            suffix = _SUFFIXES[self._options.written_as()]
             with writing(name):
                 os.makedirs(out, 0o700, exist_ok=True)
             out, name = f"{out}/l{number}{suffix}", f"{name}/l{number}{suffix}"
@@ -204,8 +220,9 @@ class StackRunner(Runner):
             layer=self.path(manifest), blobs=self.path(f"{STACK}/{stacks.BLOBS}"), out=out,
             userxattr=bool(self._options.stack.userxattr), packing=self._packing, name=name,
         )
-        if self._options.is_squashfs():
-            build_squashfs(options)
+        form = _OF_FILES.get(self._options.written_as())
+        if form is not None:
+            build_file(options, form)
             self.bytes_made = (self.bytes_made or 0) + os.path.getsize(out)
         else:
             build(options)
@@ -221,7 +238,7 @@ class StackRunner(Runner):
         take_links(self.path(layer), entries, self.path(f"{STACK}/{stacks.SHOWN_LINKS}"))
         for place, entry in enumerate(entries):
             marks += drop_host_marks(entry)
-            if entry.kind == SOCKET and self._options.is_squashfs() and hides:
+            if entry.kind == SOCKET and self._options.written_as() in _OF_FILES and hides:
                 losses.add(Loss.SOCKET, entry.path)
                 entries[place] = replace(whiteout(), path=entry.path)
         losses.report(self._options.out)
@@ -241,16 +258,17 @@ class StackRunner(Runner):
     def _wanted(self, topmost: str | None) -> str:
         """The report that the new layers are to show: that of the given ones, as far as the form of the new ones can hold
         it. If they are over others, only what the topmost one has is of that form."""
-        if not self._options.is_squashfs():
+        fit = _FITTING.get(self._options.written_as())
+        if fit is None:
             return self.wanted()
         lines = read_report(self.path(self.wanted()))
-        fitting = fitted_lines(lines) if topmost is None else _fitted_above(lines, read_manifest(self.path(topmost)))
+        fitting = fit(lines) if topmost is None else _fitted_above(lines, read_manifest(self.path(topmost)), fit)
         write_text(self.path(_FITTED), report_of(fitting))
         return _FITTED
 
 
-def _fitted_above(lines: Iterable[ShowLine], entries: Iterable[Entry]) -> Iterator[ShowLine]:
-    """The lines of a report of `show`, those of the entries of the topmost layer as a squashfs can hold them.
+def _fitted_above(lines: Iterable[ShowLine], entries: Iterable[Entry], fit: _Fit) -> Iterator[ShowLine]:
+    """The lines of a report of `show`, those of the entries of the topmost layer as its form can hold them.
 
     Each of its entries but whiteouts is shown at its path; both are in path order.
     """
@@ -259,6 +277,6 @@ def _fitted_above(lines: Iterable[ShowLine], entries: Iterable[Entry]) -> Iterat
     for line in lines:
         if line.path == path:
             path = next(paths, None)
-            yield from fitted_lines([line])
+            yield from fit([line])
         else:
             yield line

@@ -97,9 +97,11 @@ def _merged_down(plan: Plan, given: Sequence[str], wanted: int, data_layers: int
     left."""
     layers = list(given)
     plan.run("fsck", "fsck", layers, f"fsck.{REPORT}")
+    if plan.base == len(layers):
+        return layers
     layers[0] = plan.vacuum("vacuum", layers, "vacuum")
-    # Over layers without redirects each loses its own, and then no merge makes any.
-    for number in plan.moved(layers[:len(layers) - data_layers]):
+    # Over layers without redirects each loses its own, and then no merge makes any; those of a base keep theirs.
+    for number in plan.moved(layers[:len(layers) - max(data_layers, plan.base)]):
         plan.run(f"deref of layer {number}", "deref", layers[number:], f"deref-{number}")
         layers[number] = new_layer(f"deref-{number}")
     merges = max(0, len(layers) - data_layers - wanted)

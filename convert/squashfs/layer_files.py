@@ -152,9 +152,9 @@ def scan_file(
     return tree.entries()
 
 
-def squashfs_tree(path: str, reported_path: str, userxattr: bool) -> LayerTree:
-    """The entries of a squashfs that was written here, with the digests of its files."""
-    with opened_layer(path, Form.SQUASHFS, reported_path) as layer:
+def tree_of_file(path: str, form: Form, reported_path: str, userxattr: bool) -> LayerTree:
+    """The entries of a layer's file that was written here, with the digests of its files."""
+    with opened_layer(path, form, reported_path) as layer:
         read_options = ReadOptions(
             out=reported_path, overlay_marks=True, writer=Digester(), budget=Budget(), below=MergedTree(),
             is_folder=True, userxattr=userxattr,

@@ -28,12 +28,18 @@ def owners_problem(entries: Iterable[Entry]) -> str | None:
     return f"{count:,} users and groups: a squashfs has at most {MAX_OWNERS:,}" if count > MAX_OWNERS else None
 
 
-def fitted(entries: Iterable[Entry], losses: Losses) -> Iterator[Entry]:
-    """The entries as a squashfs has them: without sockets, and with times in whole seconds of its range."""
+def without_sockets(entries: Iterable[Entry], losses: Losses) -> Iterator[Entry]:
+    """The entries as an archive has them, of which a squashfs is made."""
     for entry in entries:
         if entry.kind == SOCKET:
             losses.add(Loss.SOCKET, entry.path)
-            continue
+        else:
+            yield entry
+
+
+def fitted(entries: Iterable[Entry], losses: Losses) -> Iterator[Entry]:
+    """The entries as a squashfs has them: without sockets, and with times in whole seconds of its range."""
+    for entry in without_sockets(entries, losses):
         time = fitting_time(entry.mtime_ns)
         if time != entry.mtime_ns:
             is_cut = 0 <= entry.mtime_ns - time < ONE_SECOND
@@ -47,8 +53,12 @@ def fitting_time(time_ns: int) -> int:
     return min(max(time_ns // ONE_SECOND, 0), _MAX_TIME) * ONE_SECOND
 
 
+def lines_without_sockets(lines: Iterable[ShowLine]) -> Iterator[ShowLine]:
+    """The lines of the report of `show` as of a tree that an archive can hold."""
+    return (line for line in lines if line.kind != SOCKET)
+
+
 def fitted_lines(lines: Iterable[ShowLine]) -> Iterator[ShowLine]:
     """The lines of the report of `show` as of a tree that a squashfs can hold."""
-    for line in lines:
-        if line.kind != SOCKET:
-            yield line._replace(mtime=shown(fitting_time(of_shown(line.mtime))))
+    for line in lines_without_sockets(lines):
+        yield line._replace(mtime=shown(fitting_time(of_shown(line.mtime))))

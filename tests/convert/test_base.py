@@ -150,6 +150,12 @@ class Bases(BaseTest):
             self.assertIn(" (100.0 %), ", result[2])
             shutil.rmtree(new.path)
 
+    def test_a_base_that_has_what_changes_nothing(self) -> None:
+        layers = [*LAYERS[:2], archive([member("d/.wh.absent"), folder("d")])]
+        self.given.write([packed(layer) for layer in layers], layers, HISTORY)
+        self.require_done(self.flatten("--base", "3"))
+        self.require_kept(self.made("flat"), 3)
+
     def test_through_pipes(self) -> None:
         """Of the image's base, whose blobs are those of the base's image, if the image has them otherwise."""
         write_saved(self.path("in", "saved.tar"), LAYERS, {"os": "linux", "architecture": "amd64", "history": HISTORY})
@@ -248,15 +254,16 @@ class Refused(BaseTest):
             self.left()
 
     def test_marks_in_the_base(self) -> None:
+        """They stay; those of layers above it go."""
         moved = archive([member(".wh.d"), folder("new", pax={"SCHILY.xattr.trusted.overlay.redirect": "/d"})])
         layers = [LAYERS[0], moved, archive([folder("new"), member("new/f", b"topmost")])]
         self.given.write([packed(layer) for layer in layers], layers, HISTORY)
-        result = self.flatten("--overlay-marks", "--base", 2)
-        self.assertEqual(result[0], 5, result[2])
-        self.assertIn("layer 1, of the base, has redirects or metacopy files, so it can't", result[2].splitlines()[-1])
-        self.left()
-        self.require_done(self.flatten("--overlay-marks", "--base", 1))
-        self.require_kept(self.made("flat"), 1)
+        wanted = self.shown(self.image, "--overlay-marks")
+        for base in (3, 2, 1):
+            self.require_done(self.flatten("--overlay-marks", "--base", base))
+            self.require_kept(self.made("flat"), base)
+            self.assertEqual(self.shown(self.path("all", "flat"), "--overlay-marks"), wanted)
+            shutil.rmtree(self.path("all", "flat"))
 
     def test_digests_that_are_absent(self) -> None:
         """A layer without a digest of its contents is packed anew, or refused as a base."""

@@ -4,6 +4,7 @@ import contextlib
 import hashlib
 import json
 import os
+import re
 import shutil
 import signal
 import subprocess
@@ -640,6 +641,36 @@ class Umoci(ImageTest):
             self.require_done(self.flatten("--layers", layers, image=self.path("in", "made"), out=f"flat{layers}"))
             self.assertEqual(self.tree(flat, f"bundle-{layers}"), tree)
             self.assertEqual(self.configuration(flat), configuration)
+
+    def test_root_file_systems(self) -> None:
+        """Each form of one, unpacked by its own tool, is the tree that umoci makes; without what is excluded, too."""
+        for tool in ("tar2sqfs", "sqfs2tar", "unsquashfs"):
+            if shutil.which(tool) is None:
+                self.skipTest(f"needs {tool}")
+        self.make()
+        tree = self.tree("made", "bundle-of-made")
+        left = [line for line in tree.splitlines(True) if " /usr" not in line]
+        for words, wanted in (((), tree), (("--exclude", "/usr"), "".join(left[:-1]) + f"entries {len(left) - 1}\n")):
+            for out in ("root", "root.tar", "root.squashfs"):
+                self.require_done(self.flatten("--rootfs", *words, image=self.path("in", "made"), out=out))
+                place = self.path("all", "root")
+                if out != "root":
+                    os.mkdir(place)
+                    unpack = {
+                        "root.tar": ["tar", "--xattrs", "--xattrs-include=*", "-xpf", self.path("all", out), "-C", place],
+                        "root.squashfs": ["unsquashfs", "-f", "-d", place, self.path("all", out)],
+                    }
+                    self.run_in(*unpack[out])
+                    os.unlink(self.path("all", out))
+                status, printed, messages = call("mounted", place)
+                self.assertEqual(status, 0, messages)
+                self.assertEqual(without_fractions(printed), without_fractions(wanted), out)
+                shutil.rmtree(place)
+
+
+def without_fractions(report: str) -> str:
+    """A report with times in whole seconds, as a squashfs has them."""
+    return re.sub(r"(?m)^(\S+ \S+ \S+ \S+ \d+)\+\d+", r"\1", report)
 
 
 if __name__ == "__main__":

@@ -200,7 +200,7 @@ class Stacks(StackTest):
             self.require_fault(result, 2, messages)
         layers = "--stack", self.middle, self.lowest, "--out", self.path("flat.squashfs")
         self.require_fault(call("flatten", *layers), 2, "middle.json is a manifest: --blobs must name")
-        self.require_fault(call("flatten", "x.tar", "--form", "folder", "--out", "y"), 2, "--form is for --stack alone")
+        self.require_fault(call("flatten", "x.tar", "--form", "folder", "--out", "y"), 2, "--form is for --stack and --rootfs alone")
         self.require_fault(call("flatten", "x.tar", "--compress", "xz", "--out", "y"), 2, "xz is for a squashfs alone")
         os.mkdir(self.path("flat.squashfs"))
         self.require_fault(self.flatten(), 4, "flat.squashfs: it is no regular file")
