@@ -125,7 +125,7 @@ def require_place(options: NewLayersOptions) -> None:
     if options.is_squashfs():
         squashfs.require_programs()
     elif options.compress is not None:
-        raise UsageFault("--compress is of squashfs, and --out doesn't end in .squashfs")
+        raise UsageFault("--compress is of a squashfs, and --out doesn't end in .squashfs")
     elif options.written_as() is OutForm.FOLDER and not options.stack.userxattr:
         require_trusted(options.out)
     if options.is_file():

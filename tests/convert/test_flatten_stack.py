@@ -194,7 +194,7 @@ class Stacks(StackTest):
             (("--compress", "none"), "--compress none is for images alone"), ((self.topmost,), "name an IMAGE"),
             (("--layers", 2), "--form squashfs makes them squashfs files"), (("--data-layers", 3), "of 3 layers 3 can't"),
             (("--keep", self.path("flat.squashfs")), "--keep and --out must be two places"),
-            (("--form", "folder", "--compress", "xz"), "--compress is of squashfs"),
+            (("--form", "folder", "--compress", "xz"), "--compress is of a squashfs"),
         ):
             result = self.flatten(*words)
             self.require_fault(result, 2, messages)

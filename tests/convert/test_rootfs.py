@@ -72,7 +72,7 @@ class Rootfs(BaseTest):
             (("--base", "1"), "x", "--rootfs makes one tree and no image, without --base"),
             (("--layers", "2"), "x", "without --layers"), (("-t", "a"), "x", "without --name"),
             (("--dry-run",), "x", "without --dry-run"), (("--compress", "none"), "x.tar", "--compress none is for images"),
-            (("--compress", "gzip"), "x.tar", "--compress is of squashfs"), ((), "x.img", "a file whose name ends in"),
+            (("--compress", "gzip"), "x.tar", "--compress is of a squashfs"), ((), "x.img", "a file whose name ends in"),
             ((), "image", "is a layer that is read"),
         ):
             self.require_fault(self.flatten("--rootfs", *words, out=out), 2, problem)
@@ -106,7 +106,7 @@ class Rootfs(BaseTest):
         self.require_done(call("scan", words[-1], "--out", self.path("in", "again.json"), "--digests-only"))
         self.assertEqual(read_manifest(self.path("in", "again.json")), read_manifest(manifest))
         self.assertEqual(read_manifest(manifest)[0].mtime_ns, -1_500_000_000)
-        self.require_fault(call(*words, "--compress", "gzip"), 2, "--compress is of squashfs")
+        self.require_fault(call(*words, "--compress", "gzip"), 2, "--compress is of a squashfs")
 
 
 if __name__ == "__main__":
