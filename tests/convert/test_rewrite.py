@@ -234,7 +234,7 @@ class Refused(RewriteTest):
             (("deref", "--stack", self.path("in"), layers[0], "--out", self.path("in", "new.squashfs")), "is in the layer "),
             (("deref", "--stack", self.path("in"), layers[0], *out, "--keep", self.path("in", "a", "b")), "is in the layer "),
             (("deref", "--stack", *layers, "--out", self.path("new.tar")), "layers are written as folders, or as a file"),
-            (("deref", "--stack", *layers, *out, "--form", "folder", "--compress", "xz"), "--compress is of squashfs"),
+            (("deref", "--stack", *layers, *out, "--form", "folder", "--compress", "xz"), "--compress is of a squashfs"),
         ):
             with self.subTest(words):
                 self.require_fault(call(*words), 2, told)
