@@ -1,4 +1,9 @@
-"""The command line: what each command runs, statuses and fault lines."""
+"""The command line: what each command runs, statuses and fault lines.
+
+The modules of a command are imported once it is chosen: all of them take most of the time of a short run.
+"""
+
+from __future__ import annotations
 
 import argparse
 import os
@@ -7,38 +12,22 @@ import sys
 import traceback
 from collections.abc import Iterable, Mapping, Sequence
 from dataclasses import replace
+from typing import TYPE_CHECKING
 
-from .check.command import CheckOptions, check
 from .common.colours import When, choose_colours
 from .common.faults import OTHER, USAGE, ClosedPipe, Fault, UsageFault
 from .common.outputs import standard_output
 from .common.program import choose_program
 from .common.progress import Verbosity, choose_verbosity, complain, note
-from .flatten.exclusion import excluded_path
-from .flatten.image import FlattenOptions, flatten, flatten_commands
-from .flatten.rewrite import RewriteOptions, Rewriting, rewrite
-from .flatten.rootfs import RootfsOptions, flatten_rootfs
-from .flatten.stack import NewLayersOptions, OutForm, flatten_stack
-from .folder.build import BuildOptions
-from .folder.build_file import build_layer
-from .folder.mounted import report
-from .folder.scan import ScanOptions, scan
-from .folder.stack_layers import StackOptions, layers_of_mount, write_stack
-from .folder.stores import StoreOptions, store
-from .image.compression import LEVELS, NONE
-from .image.configuration import Making
-from .image.images import image_place, paths_of_image
-from .image.pack import PackOptions, pack
-from .image.targets import Form, Target, target_of
-from .image.unpack import UnpackOptions, unpack
-from .look.contents import print_contents
-from .look.diff import DiffOptions, diff
-from .look.listing import ListOptions, list_entries
-from .look.sources import Choice, Source
 from .model.stacks import BLOBS, require_order, stack_in
-from .sizes.command import SizesOptions, sizes
-from .squashfs.programs import Packing
 from .words import Run, parser_of
+
+if TYPE_CHECKING:
+    from .flatten.rewrite import Rewriting
+    from .flatten.stack import NewLayersOptions
+    from .folder.stack_layers import StackOptions
+    from .image.targets import Target
+    from .look.sources import Choice, Source
 
 _INTERRUPTED = 128
 _OF_IMAGES = ("platform", "from_tag", "overlay_marks", "dry_run")  # words of commands that take an image or a stack
@@ -50,7 +39,7 @@ def main(words: Sequence[str]) -> int:
     for number in (signal.SIGTERM, signal.SIGHUP):
         signal.signal(number, _end)
     try:
-        parser = parser_of(_RUNS)
+        parser = parser_of(_RUNS, words)
         if not words:
             parser.print_help()
             return USAGE
@@ -97,6 +86,8 @@ def _folder(path: str) -> str:
 
 
 def _scan(words: argparse.Namespace) -> None:
+    from .folder.scan import ScanOptions, scan
+
     if stack_in(_folder(words.layer)):
         raise UsageFault(f"{words.layer} is a folder that unpack wrote, and no layer: it has manifests already")
     scan(ScanOptions(
@@ -107,6 +98,8 @@ def _scan(words: argparse.Namespace) -> None:
 
 
 def _store(words: argparse.Namespace) -> None:
+    from .folder.stores import StoreOptions, store
+
     store(StoreOptions(
         folder=_folder(words.folder), out=_folder(words.out), userxattr=words.userxattr,
         cross_file_systems=words.cross_file_systems, skip_unsupported=words.skip_unsupported,
@@ -115,6 +108,10 @@ def _store(words: argparse.Namespace) -> None:
 
 
 def _build(words: argparse.Namespace) -> None:
+    from .folder.build import BuildOptions
+    from .folder.build_file import build_layer
+    from .squashfs.programs import Packing
+
     build_layer(BuildOptions(
         layer=words.layer, blobs=_folder(words.blobs), out=_folder(words.out), userxattr=bool(words.userxattr),
         packing=Packing(words.compress),
@@ -122,6 +119,9 @@ def _build(words: argparse.Namespace) -> None:
 
 
 def _unpack(words: argparse.Namespace) -> None:
+    from .folder.stack_layers import write_stack
+    from .image.unpack import UnpackOptions, unpack
+
     _require_one_sort(words)
     if words.stack is not None:
         write_stack(_stack_of(words, words.digests_only), _folder(words.out))
@@ -133,6 +133,9 @@ def _unpack(words: argparse.Namespace) -> None:
 
 
 def _pack(words: argparse.Namespace) -> None:
+    from .image.configuration import Making
+    from .image.pack import PackOptions, pack
+
     require_order(words.layers)
     out = _target(words.out)
     pack(PackOptions(
@@ -144,6 +147,8 @@ def _pack(words: argparse.Namespace) -> None:
 
 def _name(out: Target, name: str | None) -> str | None:
     """The name of a new image, which the word of its place may have too."""
+    from .image.targets import Form
+
     if None not in (out.tag, name) and out.tag != name:
         raise UsageFault(f"{out.word}:{out.tag} and --name give two names")
     if name is not None and out.form is Form.ARCHIVE and out.is_path and not out.docker_names(name):
@@ -153,6 +158,8 @@ def _name(out: Target, name: str | None) -> str | None:
 
 def _take_mount(words: argparse.Namespace) -> None:
     """Takes layers that are named as a mount does, in an image's place."""
+    from .folder.stack_layers import layers_of_mount
+
     image = getattr(words, "image", None)
     mount = layers_of_mount(image) if image and words.stack is None else None
     if mount is not None:
@@ -193,6 +200,8 @@ def _require_fitting(words: argparse.Namespace) -> None:
 
 def _stack_of(words: argparse.Namespace, digests_only: bool = False) -> StackOptions:
     """The layers of --stack, and how they are read."""
+    from .folder.stack_layers import StackOptions
+
     blobs = getattr(words, "blobs", None)
     return StackOptions(
         layers=[_folder(layer) for layer in words.stack], blobs=blobs and _folder(blobs), userxattr=words.userxattr,
@@ -212,6 +221,13 @@ def _flatten(words: argparse.Namespace) -> None:
 
 
 def _flatten_rootfs(words: argparse.Namespace) -> None:
+    from .flatten.exclusion import excluded_path
+    from .flatten.rootfs import RootfsOptions, flatten_rootfs
+    from .flatten.stack import NewLayersOptions, OutForm
+    from .folder.stack_layers import StackOptions
+    from .image.compression import NONE
+    from .image.images import image_place, paths_of_image
+
     for name, is_given in (("base", words.base), ("layers", words.layers != 1), ("name", words.name), ("dry-run", words.dry_run)):
         if is_given:
             raise UsageFault(f"--rootfs makes one tree and no image, without --{name}")
@@ -230,6 +246,10 @@ def _flatten_rootfs(words: argparse.Namespace) -> None:
 
 
 def _flatten_image(words: argparse.Namespace) -> None:
+    from .flatten.exclusion import excluded_path
+    from .flatten.image import FlattenOptions, flatten, flatten_commands
+    from .image.compression import LEVELS
+
     if words.form is not None:
         raise UsageFault("--form is for --stack and --rootfs alone")
     if words.compress and words.compress.problem(LEVELS):
@@ -248,6 +268,10 @@ def _flatten_image(words: argparse.Namespace) -> None:
 
 
 def _flatten_stack(words: argparse.Namespace) -> None:
+    from .flatten.exclusion import excluded_path
+    from .flatten.stack import flatten_stack
+    from .image.compression import NONE
+
     if words.name is not None:
         raise UsageFault("--name is for images alone")
     if words.rootfs and words.layers != 1:
@@ -261,6 +285,8 @@ def _flatten_stack(words: argparse.Namespace) -> None:
 
 
 def _new_layers(words: argparse.Namespace, layers: int) -> NewLayersOptions:
+    from .flatten.stack import NewLayersOptions, OutForm
+
     return NewLayersOptions(
         stack=_stack_of(words), out=_folder(words.out), form=words.form and OutForm(words.form), layers=layers,
         data_layers=words.data_layers, keep=words.keep and _folder(words.keep), compress=words.compress,
@@ -268,24 +294,34 @@ def _new_layers(words: argparse.Namespace, layers: int) -> NewLayersOptions:
 
 
 def _vacuum(words: argparse.Namespace) -> None:
+    from .flatten.rewrite import Rewriting
+
     _rewrite(words, Rewriting.VACUUM)
 
 
 def _deref(words: argparse.Namespace) -> None:
+    from .flatten.rewrite import Rewriting
+
     _rewrite(words, Rewriting.DEREF)
 
 
 def _merge(words: argparse.Namespace) -> None:
+    from .flatten.rewrite import Rewriting
+
     _rewrite(words, Rewriting.MERGE)
 
 
 def _rewrite(words: argparse.Namespace, rewriting: Rewriting) -> None:
+    from .flatten.rewrite import RewriteOptions, Rewriting, rewrite
+
     _take_folder_of_unpack(words)
     down_to = words.down_to if rewriting is Rewriting.MERGE else None
     rewrite(RewriteOptions(rewriting=rewriting, new=_new_layers(words, 1), down_to=down_to), _print)
 
 
 def _sizes(words: argparse.Namespace) -> None:
+    from .sizes.command import SizesOptions, sizes
+
     _require_one_sort(words)
     stack = None if words.stack is None else _stack_of(words, True)
     sizes(SizesOptions(
@@ -297,6 +333,8 @@ def _sizes(words: argparse.Namespace) -> None:
 
 
 def _check(words: argparse.Namespace) -> None:
+    from .check.command import CheckOptions, check
+
     check(CheckOptions(
         source=_source(words), max_waste=words.max_waste, base=words.base and _folder(words.base),
         is_strict=words.strict, as_json=words.json,
@@ -305,6 +343,8 @@ def _check(words: argparse.Namespace) -> None:
 
 def _source(words: argparse.Namespace) -> Source:
     """What is looked at: an image, a folder that `unpack` or `store` wrote with its configuration, or layers."""
+    from .look.sources import Source
+
     if words.stack is not None and len(words.stack) == 1 and stack_in(_folder(words.stack[0])) and words.image is None:
         words.image, words.stack = words.stack[0], None
     _take_mount(words)
@@ -316,6 +356,8 @@ def _source(words: argparse.Namespace) -> Source:
 
 
 def _ls(words: argparse.Namespace) -> None:
+    from .look.listing import ListOptions, list_entries
+
     source, path = _source_and_path(words)
     list_entries(ListOptions(
         source=source, path=path or "/", layer=words.layer, only_removed=words.removed, is_recursive=words.recursive,
@@ -324,6 +366,8 @@ def _ls(words: argparse.Namespace) -> None:
 
 
 def _cat(words: argparse.Namespace) -> None:
+    from .look.contents import print_contents
+
     source, path = _source_and_path(words)
     if path is None:
         raise UsageFault("name the PATH of a file")
@@ -341,6 +385,9 @@ def _source_and_path(words: argparse.Namespace) -> tuple[Source, str | None]:
 
 def _named_source(words: argparse.Namespace, word: str) -> Source:
     """What a word names, of several."""
+    from .folder.stack_layers import layers_of_mount
+    from .look.sources import Source
+
     mount = layers_of_mount(word)
     if mount is None:
         return Source(word=_folder(word), choice=_choice(words))
@@ -349,6 +396,8 @@ def _named_source(words: argparse.Namespace, word: str) -> Source:
 
 
 def _diff(words: argparse.Namespace) -> None:
+    from .look.diff import DiffOptions, diff
+
     diff(DiffOptions(
         old=_named_source(words, words.old), new=_named_source(words, words.new), ignored=words.ignore,
         with_configuration=words.config, as_json=words.json, only_sums=words.stat,
@@ -356,6 +405,8 @@ def _diff(words: argparse.Namespace) -> None:
 
 
 def _choice(words: argparse.Namespace) -> Choice:
+    from .look.sources import Choice
+
     return Choice(
         platform=words.platform, tag=words.from_tag, skip_unsupported=words.skip_unsupported,
         overlay_marks=words.overlay_marks,
@@ -364,6 +415,8 @@ def _choice(words: argparse.Namespace) -> Choice:
 
 def _target(word: str, is_told: bool = False) -> Target:
     """Where an image goes; never to a terminal."""
+    from .image.targets import target_of
+
     target = target_of(word)
     if target.is_standard_output and sys.stdout.isatty() and not is_told:
         raise UsageFault("standard output is a terminal; send the image into a file or a pipe")
@@ -371,6 +424,8 @@ def _target(word: str, is_told: bool = False) -> Target:
 
 
 def _mounted(words: argparse.Namespace) -> None:
+    from .folder.mounted import report
+
     _print(report(_folder(words.folder), words.cross_file_systems))
 
 

@@ -1,20 +1,20 @@
-"""The words of the command line, and its help."""
+"""The words of the command line, and its help. Those of a command are made once it is chosen."""
+
+from __future__ import annotations
 
 import argparse
-from collections.abc import Callable, Mapping
+from collections.abc import Callable, Mapping, Sequence
+from typing import TYPE_CHECKING
 
 from . import VERSION
 from .common.progress import note
-from .flatten.stack import OutForm
-from .folder.build_file import SUFFIXES
-from .image.compression import LEVELS, PLAIN, Compression, compression_of
-from .image.configuration import MAKER, USUAL_PLATFORM
-from .look.changes import ASPECTS
 from .model.rules import MAX_LAYERS
 from .model.workers import MOST_WORKERS, usual_workers
-from .sizes.limits import Limit, limit_of
-from .squashfs import programs as squashfs
 from .usage import HelpFormatter, Parser, common_words
+
+if TYPE_CHECKING:
+    from .image.compression import Compression
+    from .sizes.limits import Limit
 
 NAME = "layers"
 _MOST_DIGITS = 9
@@ -248,7 +248,6 @@ _NEW_IMAGE = (
     "folder to make, or a file whose name ends in .tar; - is such an archive on standard output; or as skopeo "
     "names it: oci:DIR:TAG, oci-archive:FILE:TAG, docker-archive:FILE:NAME, dir:DIR"
 )
-_OF_FILES = " or ".join(SUFFIXES)
 _PACKS = (
     "packs the layers, at a level such as gzip:9; zstd needs the program of that name, and is read by podman, buildah, "
     "containerd and docker from 23 on, not by umoci and older dockers"
@@ -256,8 +255,8 @@ _PACKS = (
 _MORE_WASTE = "more is wasted, such as 10%%, 50MB or 50MiB"
 
 
-def parser_of(runs: Mapping[str, Run]) -> argparse.ArgumentParser:
-    """The parser of all words, with what each command runs."""
+def parser_of(runs: Mapping[str, Run], words: Sequence[str]) -> argparse.ArgumentParser:
+    """The parser of all words, with what each command runs. Only the commands among these words get their own."""
     parser = Parser(
         prog=NAME, description=_ABOUT, epilog=_MORE.format(name=NAME), allow_abbrev=False, parents=[common_words(False)],
         formatter_class=HelpFormatter,
@@ -270,8 +269,16 @@ def parser_of(runs: Mapping[str, Run]) -> argparse.ArgumentParser:
             formatter_class=HelpFormatter,
         )
         command.set_defaults(run=runs[name])
-        add(command)
+        if name in words:
+            add(command)
     return parser
+
+
+def _of_files() -> str:
+    """How the names of layers end that are written as one file."""
+    from .folder.build_file import SUFFIXES
+
+    return " or ".join(SUFFIXES)
 
 
 def _add_scan(parser: argparse.ArgumentParser) -> None:
@@ -312,11 +319,13 @@ def _add_workers(parser: argparse.ArgumentParser) -> None:
 
 
 def _add_build(parser: argparse.ArgumentParser) -> None:
+    from .squashfs import programs as squashfs
+
     parser.add_argument("layer", metavar="LAYER", help="manifest of a layer")
     parser.add_argument("--blobs", metavar="DIR", required=True, help="folder with the contents of its files")
     parser.add_argument(
         "--out", metavar="OUT", required=True,
-        help=f"folder to make, absent or empty, or a file whose name ends in {_OF_FILES}",
+        help=f"folder to make, absent or empty, or a file whose name ends in {_of_files()}",
     )
     parser.add_argument(
         "--compress", metavar=_methods(squashfs.LEVELS), type=_compression(squashfs.LEVELS),
@@ -355,6 +364,8 @@ def _add_choice(parser: argparse.ArgumentParser) -> None:
 
 
 def _add_pack(parser: argparse.ArgumentParser) -> None:
+    from .image.configuration import MAKER, USUAL_PLATFORM
+
     parser.add_argument("layers", metavar="LAYER", nargs="+", help="manifest of a layer, the topmost layer first")
     parser.add_argument("--blobs", metavar="DIR", required=True, help="folder with the contents of their files")
     _add_new_image(parser)
@@ -384,6 +395,8 @@ def _add_pack(parser: argparse.ArgumentParser) -> None:
 
 def _add_new_image(parser: argparse.ArgumentParser) -> None:
     """Which image is written."""
+    from .image.compression import LEVELS, PLAIN
+
     _add_out(parser, _NEW_IMAGE)
     parser.add_argument(
         "--compress", metavar=_methods(LEVELS), type=_compression(LEVELS), default=PLAIN, help=f"{_PACKS} [default: none]"
@@ -417,9 +430,12 @@ def _methods(levels: Mapping[str, range]) -> str:
 
 
 def _add_flatten(parser: argparse.ArgumentParser) -> None:
+    from .image.compression import LEVELS
+    from .squashfs import programs as squashfs
+
     every = {**LEVELS, **squashfs.LEVELS}
     _add_image(parser, may_be_absent=True)
-    _add_out(parser, f"{_NEW_IMAGE}; with --stack or --rootfs a folder, or a file whose name ends in {_OF_FILES}")
+    _add_out(parser, f"{_NEW_IMAGE}; with --stack or --rootfs a folder, or a file whose name ends in {_of_files()}")
     parser.add_argument(
         "--compress", metavar=_methods(every), type=_compression(every),
         help=f"{_PACKS}; xz and lz4 are for a squashfs [default: as the topmost given layer, or squashfs, is packed]",
@@ -437,7 +453,7 @@ def _add_flatten(parser: argparse.ArgumentParser) -> None:
     _add_keep(parser)
     parser.add_argument(
         "--rootfs", action="store_true",
-        help=f"what is shown in place of an image: a folder, or a file whose name ends in {_OF_FILES}",
+        help=f"what is shown in place of an image: a folder, or a file whose name ends in {_of_files()}",
     )
     parser.add_argument(
         "--exclude", metavar="PATH", action="append", default=[],
@@ -451,6 +467,8 @@ def _add_flatten(parser: argparse.ArgumentParser) -> None:
 
 def _add_stack(parser: argparse.ArgumentParser, only: str) -> None:
     """Which layers are read, and how, and as what layers are written; `only` says when that counts."""
+    from .flatten.stack import OutForm
+
     _add_stack_layers(parser, "reads and writes", only)
     _add_blobs(parser, only)
     parser.add_argument(
@@ -480,9 +498,11 @@ def _add_stack_layers(parser: argparse.ArgumentParser, does: str, only: str = _W
 
 def _add_rewriting(parser: argparse.ArgumentParser) -> None:
     """The options of a command that writes a layer of a stack anew."""
+    from .squashfs import programs as squashfs
+
     parser.add_argument(
         "--out", metavar="OUT", required=True,
-        help=f"folder to make, absent or empty, or a file whose name ends in {_OF_FILES}",
+        help=f"folder to make, absent or empty, or a file whose name ends in {_of_files()}",
     )
     parser.add_argument(
         "--compress", metavar=_methods(squashfs.LEVELS), type=_compression(squashfs.LEVELS),
@@ -567,6 +587,8 @@ def _add_source_and_path(parser: argparse.ArgumentParser, path: str) -> None:
 
 
 def _add_diff(parser: argparse.ArgumentParser) -> None:
+    from .look.changes import ASPECTS
+
     parser.add_argument("old", metavar="OLD", help="image, folder that unpack wrote, or mounted tree; - is standard input")
     parser.add_argument("new", metavar="NEW", help="the same")
     parser.add_argument(
@@ -614,6 +636,8 @@ def _workers(text: str) -> int:
 
 def _compression(levels: Mapping[str, range]) -> Callable[[str], Compression]:
     """Reads one of these methods, with or without a level."""
+    from .image.compression import compression_of
+
 
     def read(text: str) -> Compression:
         found = compression_of(text)
@@ -646,6 +670,8 @@ def _number(text: str) -> int:
 
 
 def _limit(text: str) -> Limit:
+    from .sizes.limits import limit_of
+
     limit = limit_of(text)
     if limit is None:
         raise argparse.ArgumentTypeError("a limit is a share from 0% to 100%, or bytes, such as 50MB or 50MiB")
@@ -653,6 +679,8 @@ def _limit(text: str) -> Limit:
 
 
 def _percent(text: str) -> Limit:
+    from .sizes.limits import limit_of
+
     limit = limit_of(f"{text}%")
     if limit is None:
         raise argparse.ArgumentTypeError("a share is a number from 0 to 100")
@@ -660,6 +688,8 @@ def _percent(text: str) -> Limit:
 
 
 def _aspects(text: str) -> frozenset[str]:
+    from .look.changes import ASPECTS
+
     aspects = frozenset(text.split(","))
     if not aspects <= set(ASPECTS):
         raise argparse.ArgumentTypeError(f"what is ignored is one of {', '.join(ASPECTS)}, or several with commas")

@@ -37,6 +37,17 @@ from convert.image.compression import BLOCK, GZIP, Compression, packing
 from convert.model.manifests import read_manifest
 from convert.usage import JOBS
 
+_IMPORTED = """
+import sys
+sys.path.insert(0, sys.argv[1])
+from convert.cli import main
+try:
+    main(sys.argv[2:])
+except SystemExit:
+    pass
+print(*sys.modules)
+"""
+_OF_COMMANDS = frozenset(["check", "flatten", "folder", "image", "look", "sizes", "squashfs", "tar"])
 A = hashlib.sha256(b"a").hexdigest()
 
 
@@ -104,6 +115,17 @@ class Words(FolderTest):
             self.assertEqual((status, printed, messages == ""), (0, "", is_quiet), messages)
             shutil.rmtree(self.path("out"))
         self.assertEqual(call("-V"), call("--version"))
+
+    def test_a_start_imports_only_what_is_needed(self) -> None:
+        for words, imported in (
+            (["--version"], []), (["--help"], []), (["dance"], []), (["mounted", "/absent"], ["folder"]),
+            (["scan", "--help"], []), (["ls", "--help"], []), (["diff", "--help"], ["look"]),
+        ):
+            ran = subprocess.run(
+                [sys.executable, "-B", "-c", _IMPORTED, str(ROOT), *words], capture_output=True, text=True, check=True,
+            )
+            found = {name.split(".")[1] for name in ran.stdout.splitlines()[-1].split() if name.startswith("convert.")}
+            self.assertEqual(sorted(found & _OF_COMMANDS), imported, words)
 
     def test_colours(self) -> None:
         for when, environment, is_terminal, has_colours in (
