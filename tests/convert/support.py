@@ -63,10 +63,14 @@ def run(*words: object, **more: object) -> "subprocess.CompletedProcess[str]":
     return done
 
 
+# (Python itself may be where only root can read, so all modules are imported before)
 _AS_ANYBODY = """
-import os, sys
+import importlib, os, pkgutil, sys
 sys.path.insert(0, sys.argv[1])
+import convert
 from convert.cli import main
+for module in pkgutil.walk_packages(convert.__path__, "convert."):
+    importlib.import_module(module.name)
 if os.geteuid() == 0:
     os.setgid(65534)
     os.setuid(65534)
