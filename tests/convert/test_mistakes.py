@@ -104,7 +104,7 @@ class FoldersOfUnpack(FolderTest):
 
     def test_as_the_stack_that_it_is(self) -> None:
         for words in (["--stack", self.path("stack")], [self.path("stack")], [self.path("stack") + "/"]):
-            with self.subTest(words=words), mock.patch.object(cli, "sizes") as sizes:
+            with self.subTest(words=words), mock.patch("convert.sizes.command.sizes") as sizes:
                 self.require_done(call("sizes", *words))
             options = sizes.call_args.args[0]
             self.assertIsNone(options.image)
@@ -276,7 +276,7 @@ class Unforeseen(FolderTest):
             error = kind.__new__(kind)
             error.args = ("a\nb\x1b",)
             error.__dict__ |= {"text": "a", "_place": [], "_words": "a\n"}
-            with self.subTest(kind=kind), mock.patch.object(cli, "unpack", side_effect=error):
+            with self.subTest(kind=kind), mock.patch("convert.image.unpack.unpack", side_effect=error):
                 status, _, said = call("unpack", "image", "--out", "out")
             self.assertEqual(status, 128 + signal.SIGPIPE if kind is ClosedPipe else getattr(kind, "status", OTHER), said)
             self.assertLessEqual(len(said.splitlines()), 1)
