@@ -18,7 +18,6 @@ from images import archive, folder, member, packed, put_index, put_manifest, wri
 from support import COMMAND, FolderTest, call, why_no_trusted
 
 import convert
-from convert import cli
 from convert.common.faults import OTHER, ClosedPipe, Fault
 from convert.folder import mounts
 from convert.image.targets import target_of
@@ -109,7 +108,7 @@ class FoldersOfUnpack(FolderTest):
             options = sizes.call_args.args[0]
             self.assertIsNone(options.image)
             self.assertEqual(options.stack.layers, layer_paths(self.path("stack"), 2))
-        with mock.patch.object(cli, "flatten_stack") as flatten_stack:
+        with mock.patch("convert.flatten.stack.flatten_stack") as flatten_stack:
             self.require_done(call("flatten", self.path("stack"), "--out", self.path("new")))
         options = flatten_stack.call_args.args[0]
         self.assertEqual((options.stack.layers, options.stack.blobs), (layer_paths(self.path("stack"), 2), self.path("stack", "blobs")))
@@ -140,7 +139,7 @@ class Places(FolderTest):
 
     def test_layers_of_another_kind(self) -> None:
         os.mkdir(self.path("upper"))
-        for name in ("z.tar", "z.ext4", "z.img"):
+        for name in ("z.qcow2", "z.ext4", "z.img"):
             result = call("flatten", "--stack", self.path("upper"), "--userxattr", "--out", self.path(name))
             self.require_fault(result, 2, "layers are written as folders, or as a file whose name ends in .squashfs")
 
