@@ -100,11 +100,10 @@ def writing(path: str) -> Iterator[None]:
     """Tells an error of the system inside as one of writing this path."""
     try:
         yield
-    except PermissionError as error:
-        hint = "" if os.geteuid() == 0 else "; owners, devices and trusted.* attributes need root"
-        raise cannot_write(path, reason_of(error) + hint) from error
     except OSError as error:
-        raise cannot_write(path, reason_of(error)) from error
+        is_not_root = error.errno == errno.EPERM and os.geteuid() != 0  # a folder that can't be written to gives EACCES
+        hint = "; owners, devices and trusted.* attributes need root" if is_not_root else ""
+        raise cannot_write(path, reason_of(error) + hint) from error
 
 
 @contextlib.contextmanager

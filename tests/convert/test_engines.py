@@ -123,6 +123,15 @@ class Engines(unittest.TestCase):
         self.assertIn("Loaded image: small:1\n", messages)
         self.require_same("small:1")
 
+    def test_by_name(self) -> None:
+        """What skopeo fetches from docker is what docker saves."""
+        if shutil.which("skopeo") is None:
+            self.skipTest("needs skopeo")
+        self.docker.pipe(
+            "layers unpack docker-daemon:given:1 --out $1/fetched; layers unpack $1/small.tar --out $1/saved; "
+            "diff -r $1/fetched $1/saved", self.folder,
+        )
+
     def test_loaded_from_a_file(self) -> None:
         self.assertEqual(self.docker("load", "-i", f"{self.folder}/flat.tar"), "Loaded image: flat:1\n")
         self.require_same("flat:1")

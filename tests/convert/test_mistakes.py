@@ -15,7 +15,7 @@ from pathlib import Path
 from unittest import mock
 
 from images import archive, folder, member, packed, put_index, put_manifest, write_layout
-from support import COMMAND, FolderTest, call, why_no_trusted
+from support import COMMAND, FolderTest, call, run_as_anybody, why_no_trusted
 
 import convert
 from convert.common.faults import OTHER, ClosedPipe, Fault
@@ -142,6 +142,21 @@ class Places(FolderTest):
         for name in ("z.qcow2", "z.ext4", "z.img"):
             result = call("flatten", "--stack", self.path("upper"), "--userxattr", "--out", self.path(name))
             self.require_fault(result, 2, "layers are written as folders, or as a file whose name ends in .squashfs")
+
+    def test_no_right_to_write(self) -> None:
+        """Only what needs root is said to."""
+        os.chmod(self.folder, 0o755)
+        write_layout(self.path("image"), [archive([folder("./"), member("f", b"a")])])
+        os.mkdir(self.path("shut"), 0o555)
+        ran = run_as_anybody("unpack", self.path("image"), "--out", self.path("shut", "out"))
+        self.assertEqual((ran.returncode, ran.stderr), (4, f"layers: cannot write {self.path('shut', 'out')}: Permission denied\n"))
+        os.mkdir(self.path("open"), 0o777)
+        os.chmod(self.path("open"), 0o777)
+        self.require_done(call("unpack", self.path("image"), "--out", self.path("stack")))
+        subprocess.run(["chmod", "-R", "a+rX", self.path("stack")], check=True)
+        ran = run_as_anybody("build", self.path("stack", "l0.json"), "--blobs", self.path("stack", "blobs"), "--out", self.path("open", "o"))
+        self.assertEqual(ran.returncode, 4)
+        self.assertIn("Operation not permitted; owners, devices and trusted.* attributes need root", ran.stderr)
 
     def test_the_input(self) -> None:
         write_layout(self.path("image"), [archive([member("f", b"a")])])

@@ -10,12 +10,13 @@ import signal
 import stat
 import subprocess
 import sys
+import tarfile
 import time
 import unittest
 from unittest import mock
 
 from images import archive, folder, member, write_layout, write_saved
-from support import COMMAND, FolderTest, call
+from support import COMMAND, FolderTest, call, program_words
 
 from convert.image.fetched import name_of
 from convert.model.stacks import layer_paths
@@ -85,6 +86,18 @@ class Fetched(FolderTest):
                 shutil.rmtree(self.path("out"))
                 with open(self.path("words"), encoding="utf-8") as file, open(self.path("place"), encoding="utf-8") as place:
                     self.assertEqual(file.read(), f"{wanted}{place.read().strip()}/image\n")
+
+    def test_flattened(self) -> None:
+        """The new image has the name."""
+        if not program_words():
+            self.skipTest("the program isn't built")
+        self.put_skopeo(_COPIES)
+        with mock.patch.dict(os.environ, self.environment):
+            self.require_done(call("flatten", "docker-daemon:shop", "--out", self.path("flat.tar")))
+        with tarfile.open(self.path("flat.tar")) as file:
+            listed = file.extractfile("manifest.json")
+            assert listed is not None
+            self.assertEqual(json.load(listed)[0]["RepoTags"], ["shop:latest"])
 
     def test_names_of_images(self) -> None:
         for word, name in (
