@@ -18,6 +18,7 @@ from .waste import Place, large_places
 _LEAST_PART = 1_000  # advice is listed from this part of all bytes on
 _NEAR = 10  # a size is near another one if it differs by less than this part of it
 _COPIES = ("COPY", "ADD")
+_WHOLE_TREES = ("COPY /", "ADD /")
 _RUN = "RUN"
 
 
@@ -113,14 +114,12 @@ RULES = (
         "{word} to the final path in {other}", "mv in the RUN of {other}", "the final path in {other}",
     ),
     Rule(
-        "rewritten", _is_rewritten, "rewritten in {other}, of nearly the same size",
-        "copy it as {other} leaves it, or take a newer base",
-        "write it once, in one RUN with {other}", "write it once, as {other} does",
+        "rewritten", _is_rewritten, "rewritten at nearly its size in {other}",
+        "copy it as {other} leaves it", "write it once, in one RUN with {other}", "write it once, as {other} does",
     ),
     Rule(
         "replaced", lambda it: it.replacing is not None, "replaced in {other}",
-        "leave it out of what is copied, or take a newer base", "write it once, in one RUN with {other}",
-        "leave it out of {own}",
+        "leave it out of what is copied (.dockerignore)", "write it once, in one RUN with {other}", "leave it out of {own}",
     ),
     Rule(
         "removed", lambda it: it.other is not None, "removed in {other}",
@@ -220,7 +219,8 @@ def _used(sizes: Sizes) -> Mapping[bytes, int]:
 
 def _cache_of(file: LayerFile) -> Cache | None:
     """The cache that a file is in with all its names: it may be in use by another one."""
-    return cache_at(file.path) if all(map(cache_at, file.names())) else None
+    cache = cache_at(file.path)
+    return cache if cache is not None and all(map(cache_at, file.names())) else None
 
 
 def _rights_below(file: LayerFile) -> Rights | None:
@@ -229,8 +229,9 @@ def _rights_below(file: LayerFile) -> Rights | None:
 
 
 def _word_of(origin: Origin) -> str:
-    """The word of the Dockerfile's line that made a layer."""
-    return short_command(origin.made_by).partition(" ")[0] if origin.step and origin.made_by else ""
+    """The word of the Dockerfile's line that made a layer; none of one that copies a base's whole tree."""
+    command = short_command(origin.made_by) if origin.step and origin.made_by else ""
+    return "" if command in _WHOLE_TREES else command.partition(" ")[0]
 
 
 def worth_listing(advice: Sequence[Advice], total: int) -> Sequence[Advice]:

@@ -170,7 +170,7 @@ class _Table:
         elif not listed:
             yield "\nAdvice: none\n"
         if not self._waste.has_base and (saved := self._waste.total - self._sizes.merged.bytes) > 0:
-            yield f"layers flatten saves {self._size(saved)} of what is wasted at once\n"
+            yield f"At once: layers flatten saves {self._size(saved)}\n"
 
     def _advice_lines(self, listed: Sequence[Advice]) -> Iterator[str]:
         steps = [self._origins[it.layer].step for it in listed]

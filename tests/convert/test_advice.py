@@ -48,7 +48,7 @@ BYTES  FILES  STEP  WHAT AND WHERE
   40K      1   2/5  only another mode than in step 1: /opt/data.bin
                     -> COPY --chmod=755 in step 1
 1 smaller, 27 in all
-layers flatten saves 40K of what is wasted at once
+At once: layers flatten saves 40K
 
 """
 _TOOLS = ("sh", "chown", "chmod", "setcap", "touch", "cp", "mv", "rm", "mkdir", "head")
@@ -62,7 +62,7 @@ _DOCKERFILES = (
     ("moved", "COPY data /opt/; RUN mv /opt/data /opt/other", "COPY to the final path in step 2"),
     ("rewritten", "RUN mkdir /opt && head -c 9000 /dev/urandom > /opt/a; RUN head -c 9 /dev/urandom >> /opt/a",
      "write it once, in one RUN with step 3"),
-    ("replaced", "COPY data /opt/; RUN echo new > /opt/data", "leave it out of what is copied, or take a newer base"),
+    ("replaced", "COPY data /opt/; RUN echo new > /opt/data", "leave it out of what is copied (.dockerignore)"),
     ("removed", "COPY data /opt/; RUN rm /opt/data", "RUN --mount=type=bind in place of COPY, or .dockerignore"),
     ("removed", "RUN head -c 9000 /dev/urandom > /a; RUN rm /a", "remove it in the same RUN"),
     ("cache", "RUN mkdir -p /var/cache/apt && head -c 9000 /dev/urandom > /var/cache/apt/x",
@@ -76,12 +76,15 @@ _CASES = (
     (_COPY, _data(), "chmod", _data(mode=0o755), "mode", 2, 40_000, "COPY --chmod=755 in step 1"),
     (_COPY, _data(), "x", _data(uid=1, mode=0o750), "owner", 2, 40_000, "COPY --chmod=750 --chown=1:1 in step 1"),
     (_RUN, _data(), "chown", _data(uid=33), "owner", 2, 40_000, "chown in the RUN of step 1"),
-    ("ADD x /", _data(), "chown", _data(uid=33), "owner", 2, 40_000, "ADD --chown=33:33 in step 1"),
+    ("ADD / /", _data(), "chown", _data(uid=33), "owner", 2, 40_000, "the final owner in step 1"),
+    ("ADD x /opt/", _data(), "chown", _data(uid=33), "owner", 2, 40_000, "ADD --chown=33:33 in step 1"),
     ("bazel", _data(), "chown", _data(uid=33), "owner", 2, 40_000, "the final owner in step 1"),
-    (_RUN, _data(), "setcap", _data(**{"SCHILY.xattr.user.a": "b"}), "attributes", 2, 40_000, "set them in the RUN of step 1"),
+    (_RUN, _data(), "setcap", _data(**{"SCHILY.xattr.user.a": "b"}), "attributes", 2, 40_000,
+     "set them in the RUN of step 1"),
     (_COPY, _data(), _COPY, _data(), "unchanged", 2, 40_000, "leave it out of step 2"),
     (_COPY, _data(), _RUN, _SAME, "copied", 2, 40_000, "a symlink in place of the copy"),
-    (_RUN, _data(), "mv", archive([member("opt/.wh.data.bin"), member("srv/b", _BIG)]), "moved", 2, 40_000, "mv in the RUN of step 1"),
+    (_RUN, _data(), "mv", archive([member("opt/.wh.data.bin"), member("srv/b", _BIG)]), "moved", 2, 40_000,
+     "mv in the RUN of step 1"),
     (_RUN, _data(), "rm", _gone(), "removed", 1, 40_000, "remove it in the same RUN"),
     (_COPY, _data(), "rm", _gone(), "removed", 1, 40_000, "RUN --mount=type=bind in place of COPY, or .dockerignore"),
     (_RUN, _data(), "sed", _data(_BIG + b"c"), "rewritten", 1, 40_000, "write it once, in one RUN with step 2"),
@@ -136,11 +139,14 @@ class Advice(SizesTest):
         """Two lines for each, the largest first; small ones are summed up."""
         small = [member(f"srv/{number}", bytes([number]) * 9) for number in range(3)]
         layers = [
-            _data(), _data(mode=0o755), archive([folder("var/cache/apt"), member("var/cache/apt/archives/x", b"x" * 50_000)]),
+            _data(), _data(mode=0o755),
+            archive([folder("var/cache/apt"), member("var/cache/apt/archives/x", b"x" * 50_000)]),
             archive(small), archive([member(f"srv/.wh.{number}") for number in range(3)]),
         ]
         self.put("image", layers, [_COPY, "RUN chmod 755 /opt/data.bin", "RUN apt-get install x", "RUN touch", "RUN rm"])
-        self.assertIn(_TEXT, call("sizes", self.path("image"), "--advice")[1])
+        printed = call("sizes", self.path("image"), "--advice")[1]
+        self.assertIn(_TEXT, printed)
+        self.assertLessEqual(max(map(len, printed.splitlines()[:-1])), 80)
 
 
 class Numbers(StacksTest):
@@ -200,8 +206,10 @@ class OfBuiltImages(SizesTest):
         """Builds an image of a Dockerfile."""
         with open(self.path("context", name), "w", encoding="ascii") as file:
             file.write(text)
-        self.buildah("build", "--isolation", "chroot", "--layers", "--pull-never", "--ignorefile", "/dev/null", "--tag", name,
-                     "--file", self.path("context", name), self.path("context"))
+        self.buildah(
+            "build", "--isolation", "chroot", "--layers", "--pull-never", "--ignorefile", "/dev/null", "--tag", name,
+            "--file", self.path("context", name), self.path("context"),
+        )
 
     def test_rules(self) -> None:
         for number, (rule, lines, remedy) in enumerate(_DOCKERFILES):
@@ -223,8 +231,8 @@ class Caches(unittest.TestCase):
             for home in ("/root", "/home/user"):
                 self.assertEqual(cache_at(cache.place.replace("~", home) + "/some/file"), cache)
         for path in (
-            "/var/lib/apt/lists", "/var/lib/apt/listsx/a", "/home/.cache/pip/a", "/home/a/b/.cache/pip/x", "/srv/var/cache/apt/x",
-            "/root/Xcache/pip/a", "/usr/bin/apt",
+            "/var/lib/apt/lists", "/var/lib/apt/listsx/a", "/home/.cache/pip/a", "/home/a/b/.cache/pip/x",
+            "/srv/var/cache/apt/x", "/root/Xcache/pip/a", "/usr/bin/apt",
         ):
             self.assertIsNone(cache_at(path), path)
 

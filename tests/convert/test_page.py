@@ -338,7 +338,8 @@ class InBrowser(PageTest):
         self.browser.press("ArrowRight")
         self.assertTrue(self.value("document.activeElement.textContent").startswith("opt/ "))
         for number, (address, way, view) in enumerate((
-            ("layer=3&path=/usr/lib", "/usr/lib", "all"), ("path=/usr/none", "/usr", "wasted"), ("layer=9&view=x", "/", "wasted"),
+            ("layer=3&path=/usr/lib", "/usr/lib", "all"), ("path=/usr/none", "/usr", "wasted"),
+            ("layer=9&view=x", "/", "wasted"),
             ("view=added", "/", "wasted"), ("path=/usr/tool&view=all", "/usr/tool", "all"), ("%", "/", "wasted"),
         )):
             self.browser.open(f"{self.page}?{number}#{address}")
@@ -350,7 +351,8 @@ class InBrowser(PageTest):
         self.type("GON")
         self.assertEqual(self.rows("files"), [["7.9K", "3", "removed in 2/4", "/usr/gone"]])
         self.type("/usr")
-        self.assertEqual(self.value("document.querySelector('.found').textContent"), "5 files, 71K; 2 paths without bytes of their own")
+        found = self.value("document.querySelector('.found').textContent")
+        self.assertEqual(found, "5 files, 71K; 2 paths without bytes of their own")
         self.assertEqual([row[3] for row in self.rows("files")][-2:], ["/usr/", "/usr/lib/"])
         self.assertEqual(self.value("location.hash"), "#find=/usr")
         self.type("<img")

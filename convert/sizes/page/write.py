@@ -60,7 +60,7 @@ def page(subject: Subject, sizes: Sizes, waste: Waste, advice: Sequence[Advice])
     yield from layer_table(sizes, subject.origins)
     yield from advice_list(advice, subject.origins, waste)
     yield _EXPLORER
-    yield from waste_lists(sizes, subject.origins, waste_of(sizes, 0))
+    yield from waste_lists(sizes, subject.origins, waste_of(sizes, 0) if waste.has_base else waste)
     yield f'<script type="application/octet-stream" id="data">{packed(sizes, subject.origins)}</script>\n'
     yield f"<script>{script}</script>\n</body>\n</html>\n"
 
@@ -75,8 +75,8 @@ _EXPLORER = """\
 <nav class="views" aria-label="which files"></nav>
 <p><label>Search all paths <input id="search" type="search" autocomplete="off" spellcheck="false"></label>
 <span class="found faint" aria-live="polite"></span></p>
-<p class="faint">Area by bytes, colour by layer; striped: duplicate, dashed: deleted. A click goes into a directory; by keyboard
-arrows and Enter, and Escape back.</p>
+<p class="faint">Area by bytes, colour by layer; striped: duplicate, dashed: deleted. A click goes into a directory; by
+keyboard arrows and Enter, and Escape back.</p>
 <nav class="way" aria-label="way to the directory"></nav>
 <div class="map"></div>
 <p class="description" aria-live="polite"></p>

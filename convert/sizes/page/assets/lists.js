@@ -118,11 +118,14 @@ class Lists {
     const items = [...selection.items].sort((one, other) => tree.bytes[other] - tree.bytes[one] || one - other);
     const entries = [...items.map((item) => ({ item, node: tree.nodes[item] })), ...paths.map((node) => ({ item: null, node }))];
     const { bytes, layer, why, path } = COLUMNS;
-    this.files.show(title, [bytes, layer, why, path], entries, ({ item, node }) => (
-      item === null
-        ? ["-", "", "no bytes of its own", this.link(isFolder(tree, node) ? directoryText(tree, node) : pathOf(tree, node), { node })]
-        : [sizeText(tree.bytes[item]), String(tree.layers[item]), whyOf(tree, item), this.fileLink(tree, item)]
-    ));
+    this.files.show(title, [bytes, layer, why, path], entries, ({ item, node }) => {
+      if (item === null) return ["-", "", "no bytes of its own", this.pathLink(tree, node)];
+      return [sizeText(tree.bytes[item]), String(tree.layers[item]), whyOf(tree, item), this.fileLink(tree, item)];
+    });
+  }
+
+  pathLink(tree, node) {
+    return this.link(isFolder(tree, node) ? directoryText(tree, node) : pathOf(tree, node), { node });
   }
 
   fileLink(tree, item) {

@@ -12,7 +12,9 @@ class Explorer {
     addEventListener("hashchange", () => this.follow());
     addEventListener("keydown", (event) => this.leave(event));
     this.search.addEventListener("input", () => this.go({ find: this.search.value }, true));
-    document.querySelectorAll("tr[data-layer]").forEach((row) => row.addEventListener("click", (event) => this.choose(event, row)));
+    for (const row of document.querySelectorAll("tr[data-layer]")) {
+      row.addEventListener("click", (event) => this.choose(event, row));
+    }
   }
 
   // Draws for the first time, at the map if the address asks for something.
@@ -80,14 +82,14 @@ class Explorer {
 
   // The links of the layers, each to that layer or, of the chosen one, back to all.
   drawLayers() {
-    document.querySelectorAll("tr[data-layer]").forEach((row) => {
+    for (const row of document.querySelectorAll("tr[data-layer]")) {
       const layer = Number(row.dataset.layer);
       const isChosen = layer === this.state.layer;
-      row.classList.toggle("chosen", isChosen);
       const link = row.querySelector("a");
+      row.classList.toggle("chosen", isChosen);
       link.setAttribute("aria-current", isChosen);
       link.href = this.linkTo({ layer: isChosen ? null : layer, view: null });
-    });
+    }
     const { layer } = this.state;
     this.part("h2").textContent = layer === null ? "All layers" : `Layer ${layer}: ${this.tree.made[layer][1]}`;
   }
@@ -130,10 +132,11 @@ class Explorer {
 
   drawFound(paths) {
     const { bytes, files } = this.selection.totals[this.selection.view];
-    const parts = [`${filesText(files)}, ${sizeText(bytes)}`, paths ? `${paths.toLocaleString("en")} paths without bytes of their own` : ""];
     const left = this.tree.pathCount - this.tree.names.length;
+    const parts = [`${filesText(files)}, ${sizeText(bytes)}`];
+    if (paths) parts.push(`${paths.toLocaleString("en")} paths without bytes of their own`);
     if (this.state.find && left > 0) parts.push(`${left.toLocaleString("en")} of the smallest aren't searched`);
-    this.part(".found").textContent = parts.filter(Boolean).join("; ");
+    this.part(".found").textContent = parts.join("; ");
   }
 
   tell(text) {
