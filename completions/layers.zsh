@@ -39,7 +39,7 @@ _layers() {
                     _arguments \
                     '-h[show this help message and exit]' \
                     '--help[show this help message and exit]' \
-                    '--platform[which of several images, such as linux/amd64]:OS/ARCH:' \
+                    '--platform[which of several images, such as linux/amd64 or arm64]:OS/ARCH:' \
                     '--from-tag[which of several images, by its name in the image'\''s index]:NAME:' \
                     '--overlay-marks[takes attributes trusted.overlay.* of the image'\''s archives too, which change what the layers show]' \
                     '--skip-unsupported[leaves out what can'\''t be stated, with a warning each, instead of refusing it]' \
@@ -71,7 +71,7 @@ _layers() {
                     '--json[prints one object for a program]' \
                     '--base[the lowest N layers, or those of this image, are a base, which doesn'\''t count as waste]:N|IMAGE:' \
                     '--max-waste[takes it for a fault if more is wasted, such as 10%%, 50MB or 50MiB]:PERCENT|BYTES:' \
-                    '--platform[which of several images, such as linux/amd64]:OS/ARCH:' \
+                    '--platform[which of several images, such as linux/amd64 or arm64]:OS/ARCH:' \
                     '--from-tag[which of several images, by its name in the image'\''s index]:NAME:' \
                     '--overlay-marks[takes attributes trusted.overlay.* of the image'\''s archives too, which change what the layers show]' \
                     '--skip-unsupported[leaves out what can'\''t be stated, with a warning each, instead of refusing it]' \
@@ -88,7 +88,7 @@ _layers() {
                     _arguments \
                     '-h[show this help message and exit]' \
                     '--help[show this help message and exit]' \
-                    '--platform[which of several images, such as linux/amd64]:OS/ARCH:' \
+                    '--platform[which of several images, such as linux/amd64 or arm64]:OS/ARCH:' \
                     '--from-tag[which of several images, by its name in the image'\''s index]:NAME:' \
                     '--overlay-marks[takes attributes trusted.overlay.* of the image'\''s archives too, which change what the layers show]' \
                     '--skip-unsupported[leaves out what can'\''t be stated, with a warning each, instead of refusing it]' \
@@ -111,7 +111,7 @@ _layers() {
                     _arguments \
                     '-h[show this help message and exit]' \
                     '--help[show this help message and exit]' \
-                    '--platform[which of several images, such as linux/amd64]:OS/ARCH:' \
+                    '--platform[which of several images, such as linux/amd64 or arm64]:OS/ARCH:' \
                     '--from-tag[which of several images, by its name in the image'\''s index]:NAME:' \
                     '--overlay-marks[takes attributes trusted.overlay.* of the image'\''s archives too, which change what the layers show]' \
                     '--skip-unsupported[leaves out what can'\''t be stated, with a warning each, instead of refusing it]' \
@@ -136,7 +136,7 @@ _layers() {
                     _arguments \
                     '-h[show this help message and exit]' \
                     '--help[show this help message and exit]' \
-                    '--platform[which of several images, such as linux/amd64]:OS/ARCH:' \
+                    '--platform[which of several images, such as linux/amd64 or arm64]:OS/ARCH:' \
                     '--from-tag[which of several images, by its name in the image'\''s index]:NAME:' \
                     '--overlay-marks[takes attributes trusted.overlay.* of the image'\''s archives too, which change what the layers show]' \
                     '--skip-unsupported[leaves out what can'\''t be stated, with a warning each, instead of refusing it]' \
@@ -157,7 +157,7 @@ _layers() {
                     '--no-config[doesn'\''t compare the configurations]' \
                     '--stat[prints only numbers]' \
                     '--json[prints objects for a program, one a line]' \
-                    '--platform[which of several images, such as linux/amd64]:OS/ARCH:' \
+                    '--platform[which of several images, such as linux/amd64 or arm64]:OS/ARCH:' \
                     '--from-tag[which of several images, by its name in the image'\''s index]:NAME:' \
                     '--overlay-marks[takes attributes trusted.overlay.* of the image'\''s archives too, which change what the layers show]' \
                     '--skip-unsupported[leaves out what can'\''t be stated, with a warning each, instead of refusing it]' \
@@ -226,7 +226,7 @@ _layers() {
                     _arguments \
                     '-h[show this help message and exit]' \
                     '--help[show this help message and exit]' \
-                    '--platform[which of several images, such as linux/amd64]:OS/ARCH:' \
+                    '--platform[which of several images, such as linux/amd64 or arm64]:OS/ARCH:' \
                     '--from-tag[which of several images, by its name in the image'\''s index]:NAME:' \
                     '--overlay-marks[takes attributes trusted.overlay.* of the image'\''s archives too, which change what the layers show]' \
                     '--skip-unsupported[leaves out what can'\''t be stated, with a warning each, instead of refusing it]' \

@@ -248,6 +248,7 @@ _NEW_IMAGE = (
     "folder to make, or a file whose name ends in .tar; - is such an archive on standard output; or as skopeo "
     "names it: oci:DIR:TAG, oci-archive:FILE:TAG, docker-archive:FILE:NAME, dir:DIR"
 )
+_PLATFORM = "a platform is OS/ARCH, OS/ARCH/VARIANT or ARCH"
 _PACKS = (
     "packs the layers, at a level such as gzip:9; zstd needs the program of that name, and is read by podman, buildah, "
     "containerd and docker from 23 on, not by umoci and older dockers"
@@ -353,7 +354,9 @@ def _add_image(parser: argparse.ArgumentParser, may_be_absent: bool = False) -> 
 
 def _add_choice(parser: argparse.ArgumentParser) -> None:
     """Which of several images is read, and how."""
-    parser.add_argument("--platform", metavar="OS/ARCH", help="which of several images, such as linux/amd64")
+    parser.add_argument(
+        "--platform", metavar="OS/ARCH", type=_platform, help="which of several images, such as linux/amd64 or arm64"
+    )
     parser.add_argument("--from-tag", metavar="NAME", help="which of several images, by its name in the image's index")
     parser.add_argument("--tag", dest="from_tag", action=_OldTag, help=argparse.SUPPRESS)
     parser.add_argument(
@@ -374,7 +377,7 @@ def _add_pack(parser: argparse.ArgumentParser) -> None:
         help="what the image runs, as whom and on which platform, such as the config.json that unpack writes",
     )
     parser.add_argument(
-        "--platform", metavar="OS/ARCH", type=_platform,
+        "--platform", metavar="OS/ARCH", type=_whole_platform,
         help=f"what the image says that it is for [default: that of --config, or {USUAL_PLATFORM}]",
     )
     _add_name(parser, "--tag")
@@ -697,9 +700,20 @@ def _aspects(text: str) -> frozenset[str]:
 
 
 def _platform(text: str) -> str:
-    if text.count("/") not in (1, 2) or not all(text.split("/")):
-        raise argparse.ArgumentTypeError("a platform is OS/ARCH or OS/ARCH/VARIANT")
-    return text
+    from .image.platforms import platform_named
+
+    found = platform_named(text)
+    if found is None:
+        raise argparse.ArgumentTypeError(_PLATFORM)
+    return str(found)
+
+
+def _whole_platform(text: str) -> str:
+    """The same with a processor, as an image has one."""
+    platform = _platform(text)
+    if "/" not in platform:
+        raise argparse.ArgumentTypeError(_PLATFORM)
+    return platform
 
 
 def _name(text: str) -> str:

@@ -22,6 +22,7 @@ from .documents import (
 )
 from .fetched import fetched, is_fetched, name_of
 from .members import STANDARD_INPUT, Members, opened_members
+from .platforms import is_meant
 from .quick_gzip import find_program, unpacked_quickly
 from .targets import TRANSPORTS
 
@@ -174,7 +175,7 @@ class _Choice:
 
     def matches(self, platform: str | None, tag: str | None) -> bool:
         """Whether it is meant by what a person asked for."""
-        is_platform = platform is None or self.platform == platform or self.platform.startswith(platform + "/")
+        is_platform = platform is None or is_meant(platform, self.platform)
         return is_platform and (tag is None or not spellings(tag).isdisjoint(self.names))
 
     def __str__(self) -> str:
@@ -457,8 +458,9 @@ def _require_count(documents: _Documents, count: int) -> None:
 def _one_of(path: str, choices: Sequence[_C], platform: str | None, tag: str | None) -> _C:
     """The one image that is meant, or a fault that lists those that are there."""
     fitting = [choice for choice in choices if choice.matches(platform, tag)]
-    if len(fitting) == 1:
-        return fitting[0]
+    exact = [choice for choice in fitting if choice.platform == platform]
+    if len(fitting) == 1 or len(exact) == 1:
+        return (exact or fitting)[0]
     asked = " and ".join([f"{word} {value}" for word, value in (("--from-tag", tag), ("--platform", platform)) if value])
     raise _not_one(path, list(map(str, choices)), f"none of them is {asked}" if not fitting else None)
 
