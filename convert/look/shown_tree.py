@@ -66,8 +66,11 @@ class ShownTree:
                 high = begin
         return None
 
-    def followed(self, path: str, folder: str = ROOT) -> Found:
-        """What a path leads to, counted from a folder if it is relative; no link leads out of the tree."""
+    def followed(self, path: str, folder: str = ROOT, follows_last: bool = True) -> Found:
+        """What a path leads to, counted from a folder if it is relative; no link leads out of the tree.
+
+        A link at the end of the path itself may be what it leads to.
+        """
         names, links = deque(f"{folder}/{path}".split("/") if not path.startswith("/") else path.split("/")), 0
         found = self._root()
         while names:
@@ -78,7 +81,7 @@ class ShownTree:
                 found = self._above(found)
             elif name not in ("", "."):
                 inner = self._inner(found, name)
-                if inner.line.kind != SYMLINK:
+                if inner.line.kind != SYMLINK or not (names or follows_last):
                     found = inner
                     continue
                 links += 1

@@ -242,14 +242,14 @@ class Listed(ImageTest):
     def test_faults(self) -> None:
         for words, status, said in (
             (["ls", "image", "/absent"], 3, "image shows nothing at /absent"), (["ls", "image", "/gone"], 3, "shows nothing at /gone"),
-            (["ls", "image", "/etc/app/x"], 3, "/etc/app/x leads through /etc/app, which is no directory"),
-            (["ls", "image", "/loop/x"], 3, "leads through over 40 links"), (["ls", "image", "--layer", "3"], 2, "--layer is 3, and there are 3 layers"),
+            (["ls", "image", "/etc/app/x"], 3, "/etc/app/x leads nowhere: /etc/app is no directory"),
+            (["ls", "image", "/loop/x"], 3, "/loop is reached by too many links"), (["ls", "image", "--layer", "3"], 2, "--layer is 3, and there are 3 layers"),
             (["ls", "image", "--layer", "1", "--removed"], 2, "give one of them"), (["ls"], 2, "name an IMAGE, or layers"),
             (["ls", "image", "--layer", "1", "/absent"], 3, "there is nothing of layer 1 at /absent"),
             (["ls", "image", "--removed", "/bin"], 3, "there is nothing of a layer that isn't shown at /bin"),
             (["ls", "lowerdir=a::b:c"], 2, "data-only ones after :: each"), (["ls", "lowerdir=a:"], 2, "lowerdir=UPPER:LOWER"),
             (["ls", "/x", "y", "--stack", "image"], 2, "with --stack a PATH alone"), (["cat", "image", "/etc"], 3, "/etc is a directory"),
-            (["cat", "image", "/null"], 3, "/null is a device"), (["cat", "image", "/loop"], 3, "leads through over 40 links"),
+            (["cat", "image", "/null"], 3, "/null is a device"), (["cat", "image", "/loop"], 3, "/loop is reached by too many links"),
             (["cat", "image"], 2, "name the PATH of a file"),
         ):
             with self.subTest(words):
