@@ -20,7 +20,7 @@ from .common.outputs import standard_output
 from .common.program import choose_program
 from .common.progress import Verbosity, choose_verbosity, complain, note
 from .model.stacks import BLOBS, require_order, stack_in
-from .words import Run, parser_of
+from .words import ALL, Run, parser_of
 
 if TYPE_CHECKING:
     from .flatten.rewrite import Rewriting
@@ -231,6 +231,8 @@ def _flatten_rootfs(words: argparse.Namespace) -> None:
     for name, is_given in (("base", words.base), ("layers", words.layers != 1), ("name", words.name), ("dry-run", words.dry_run)):
         if is_given:
             raise UsageFault(f"--rootfs makes one tree and no image, without --{name}")
+    if words.platform == ALL:
+        raise UsageFault(f"--rootfs makes one tree, not those of --platform {ALL}")
     if words.compress and words.compress.method == NONE:
         raise UsageFault("--compress none is for images alone")
     image = _folder(words.image)
@@ -248,6 +250,7 @@ def _flatten_rootfs(words: argparse.Namespace) -> None:
 def _flatten_image(words: argparse.Namespace) -> None:
     from .flatten.exclusion import excluded_path
     from .flatten.image import FlattenOptions, flatten, flatten_commands
+    from .flatten.platforms import flatten_all
     from .image.compression import LEVELS
 
     if words.form is not None:
@@ -261,7 +264,11 @@ def _flatten_image(words: argparse.Namespace) -> None:
         keep=words.keep and _folder(words.keep), platform=words.platform, tag=words.from_tag,
         skip_unsupported=words.skip_unsupported, overlay_marks=words.overlay_marks, compress=words.compress,
     )
-    if words.dry_run:
+    if words.platform == ALL:
+        if words.dry_run:
+            raise UsageFault(f"--dry-run has no commands for --platform {ALL}")
+        flatten_all(options)
+    elif words.dry_run:
         _print(flatten_commands(options))
     else:
         flatten(options)

@@ -248,6 +248,7 @@ _NEW_IMAGE = (
     "folder to make, or a file whose name ends in .tar; - is such an archive on standard output; or as skopeo "
     "names it: oci:DIR:TAG, oci-archive:FILE:TAG, docker-archive:FILE:NAME, dir:DIR"
 )
+ALL = "all"  # platforms
 _PLATFORM = "a platform is OS/ARCH, OS/ARCH/VARIANT or ARCH"
 _PACKS = (
     "packs the layers, at a level such as gzip:9; zstd needs the program of that name, and is read by podman, buildah, "
@@ -343,19 +344,21 @@ def _add_unpack(parser: argparse.ArgumentParser) -> None:
     _add_blobs(parser)
 
 
-def _add_image(parser: argparse.ArgumentParser, may_be_absent: bool = False) -> None:
+def _add_image(parser: argparse.ArgumentParser, may_be_absent: bool = False, may_be_all: bool = False) -> None:
     """Which image is read, and how."""
     if may_be_absent:
         parser.add_argument("image", metavar="IMAGE", nargs="?", help=_IMAGE)
     else:
         parser.add_argument("image", metavar="IMAGE", help=_IMAGE)
-    _add_choice(parser)
+    _add_choice(parser, may_be_all)
 
 
-def _add_choice(parser: argparse.ArgumentParser) -> None:
+def _add_choice(parser: argparse.ArgumentParser, may_be_all: bool = False) -> None:
     """Which of several images is read, and how."""
+    every = "; `all` writes an index of all" if may_be_all else ""
     parser.add_argument(
-        "--platform", metavar="OS/ARCH", type=_platform, help="which of several images, such as linux/amd64 or arm64"
+        "--platform", metavar="OS/ARCH", type=_platform_or_all if may_be_all else _platform,
+        help=f"which of several images, such as linux/amd64 or arm64{every}",
     )
     parser.add_argument("--from-tag", metavar="NAME", help="which of several images, by its name in the image's index")
     parser.add_argument("--tag", dest="from_tag", action=_OldTag, help=argparse.SUPPRESS)
@@ -437,7 +440,7 @@ def _add_flatten(parser: argparse.ArgumentParser) -> None:
     from .squashfs import programs as squashfs
 
     every = {**LEVELS, **squashfs.LEVELS}
-    _add_image(parser, may_be_absent=True)
+    _add_image(parser, may_be_absent=True, may_be_all=True)
     _add_out(parser, f"{_NEW_IMAGE}; with --stack or --rootfs a folder, or a file whose name ends in {_of_files()}")
     parser.add_argument(
         "--compress", metavar=_methods(every), type=_compression(every),
@@ -703,9 +706,15 @@ def _platform(text: str) -> str:
     from .image.platforms import platform_named
 
     found = platform_named(text)
+    if text == ALL:
+        raise argparse.ArgumentTypeError(f"{ALL} is for flatten alone")
     if found is None:
         raise argparse.ArgumentTypeError(_PLATFORM)
     return str(found)
+
+
+def _platform_or_all(text: str) -> str:
+    return text if text == ALL else _platform(text)
 
 
 def _whole_platform(text: str) -> str:

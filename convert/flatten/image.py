@@ -64,12 +64,12 @@ def flatten(options: FlattenOptions) -> None:
 
     Nothing is written unless it shows, read again, what the given image shows.
     """
-    options = _with_place(options)
-    _require_free(options)
+    options = with_place(options)
+    require_free(options)
     begun = time.monotonic()
-    with _new_image(options.out) as stage:
+    with new_image(options.out) as stage:
         with work_folder(stage, options.keep) as folder, contextlib.ExitStack() as opened:
-            runner = _ImageRunner(options, folder, f"{stage}/{NEW}", opened)
+            runner = ImageRunner(options, folder, f"{stage}/{NEW}", opened)
             before, after = carry_out(runner, options.layers)
     runner.sum_up(options.out.label, before, after, time.monotonic() - begun)
 
@@ -78,19 +78,19 @@ def flatten_commands(options: FlattenOptions) -> list[str]:
     """The commands that do the same by hand, each a line for a shell."""
     if options.excluded:
         raise UsageFault("--dry-run has no commands for --exclude")
-    dry_run = _DryRun(_with_place(options))
+    dry_run = _DryRun(with_place(options))
     carry_out(dry_run, options.layers)
     return dry_run.lines
 
 
-def _with_place(options: FlattenOptions) -> FlattenOptions:
+def with_place(options: FlattenOptions) -> FlattenOptions:
     image, tag = image_place(options.image, options.tag)
     if options.base == image == STANDARD_INPUT:
         raise UsageFault("the image and its base can't both be standard input")
     return replace(options, image=image, tag=tag)
 
 
-def _require_free(options: FlattenOptions) -> None:
+def require_free(options: FlattenOptions) -> None:
     """Refuses at once what couldn't be written in the end."""
     out = options.out
     if out.is_standard_output:
@@ -104,7 +104,7 @@ def _require_free(options: FlattenOptions) -> None:
 
 
 @contextlib.contextmanager
-def _new_image(out: Target) -> Iterator[str]:
+def new_image(out: Target) -> Iterator[str]:
     """A stage, in which the new image is to be made. It gets its name at the end, and only there."""
     if out.is_standard_output:
         with passing_folder(tempfile.gettempdir(), out.label) as folder:
@@ -167,7 +167,7 @@ def _opened(options: FlattenOptions) -> Iterator[tuple[Image, int]]:
             yield replace(image, layers=[*base, *image.layers[len(base):]]), len(base)
 
 
-class _ImageRunner(Runner):
+class ImageRunner(Runner):
     """Does the steps of an image, and reports each with its time. The image is open until the new one is written, if
     layers of it stay as they are."""
 
@@ -177,11 +177,16 @@ class _ImageRunner(Runner):
             paths_of_image(options.image),
         )
         self._options = options
-        self._image = image
+        self.image = image
         self._opened = opened
         self.excluded = options.excluded
         self._layers: Sequence[ImageLayer] = ()  # that may stay as they are, the lowest first
         self._given = _Given(0, None, False, PLAIN, Making())
+
+    @property
+    def name(self) -> str | None:
+        """The name of the new image."""
+        return self._given.name
 
     def unpack(self) -> int:
         """See `Plan`."""
@@ -206,7 +211,7 @@ class _ImageRunner(Runner):
         """See `Plan`."""
         super().run(step, what, layers, new, own)
         if new == BEFORE and self._given.compress == PLAIN and not self._layers and not self.excluded:
-            require_room(self._options.out.label, self._image, least_shown(self.path(new)))
+            require_room(self._options.out.label, self.image, least_shown(self.path(new)))
 
     def pack(self, layers: Sequence[str]) -> None:
         """See `Plan`."""
@@ -229,7 +234,7 @@ class _ImageRunner(Runner):
             if new_layers is None:
                 drop_blobs()
             with timed("the new image, read again") as words:
-                words.append(self._shown(self._image, new_layers, bool(kept)))
+                words.append(self._shown(self.image, new_layers, bool(kept)))
                 self.compare(_SHOWN)
 
     def _kept(self, layers: Sequence[str]) -> Sequence[ImageLayer]:
@@ -242,14 +247,14 @@ class _ImageRunner(Runner):
         """How the image is packed of layers that are made and such that stay."""
         blobs, config, links = (self.path(f"{STACK}/{name}") for name in _FOR_PACK)
         return PackOptions(
-            layers=[self.path(layer) for layer in made], kept=kept, blobs=blobs, out=self._target(), name=self._given.name,
+            layers=[self.path(layer) for layer in made], kept=kept, blobs=blobs, out=self.target(), name=self._given.name,
             config=config, compress=self._given.compress, links=links, has_checked_blobs=True, new_layers=new_layers,
             annotations=self.path(_ANNOTATIONS) if self._given.has_annotations else None, making=self._given.making,
         )
 
-    def _target(self) -> Target:
+    def target(self) -> Target:
         """The image that is made, on its way to its name."""
-        return replace(self._options.out, path=self._image, given=self._options.out.path)
+        return replace(self._options.out, path=self.image, given=self._options.out.path)
 
     def _shown(self, image: str, new_layers: NewLayers | None, has_kept: bool) -> str:
         """Writes what an image shows. Of layers that stayed it was reported already what they lose."""

@@ -5,9 +5,12 @@ from collections.abc import Callable
 from typing import IO, Protocol
 
 from ..common.contents import PIECE, PRIVATE_MODE
+from ..common.faults import writing
 from ..common.open_dirs import FOLDER_MODE
+from ..common.outputs import new_folder, write_file_in_place
 from ..tar.headers import BLOCK_BYTES, DIRECTORY, Header, header_block
 from ..tar.writer import TarWriter
+from .targets import Form, Target
 
 Fill = Callable[[IO[bytes]], str]
 BLOBS = "blobs/sha256"
@@ -89,6 +92,22 @@ class ArchiveFiles:
     def end(self) -> None:
         """Writes the end of the archive."""
         self._archive.end()
+
+
+def write_image_files(out: Target, write: Callable[[ImageFiles], None]) -> None:
+    """Has the files of a new image written, into a folder or one tar archive."""
+    if out.form is Form.ARCHIVE:
+
+        def fill(file: IO[bytes]) -> None:
+            files = ArchiveFiles(file)
+            write(files)
+            files.end()
+
+        with writing(out.label):
+            write_file_in_place(out.path, out.place, fill, PRIVATE_MODE)
+        return
+    with new_folder(out.path) as folder, writing(out.label):
+        write(FolderFiles(folder, "" if out.form is Form.COPY else BLOBS))
 
 
 def _header(name: str, size: int) -> Header:

@@ -240,6 +240,30 @@ def opened_image(path: str, platform: str | None, tag: str | None) -> Iterator[I
         yield replace(_image_of(members, platform, None), names=(name,) if name else ())
 
 
+def platforms_in(path: str, tag: str | None) -> list[str]:
+    """The platforms of all images at a path, or of those of a name, each of one image."""
+    with opened_members(path) as members:
+        choices = [choice for choice in _choices_in(members) if choice.matches(None, tag)]
+        found = [choice.platform for choice in choices]
+        if not found:
+            raise _not_one(members.path, [], None)
+        twice = next((platform for platform in found if found.count(platform) > 1), None)
+        if twice is not None:
+            raise cannot_read(members.path, f"it has several images of {twice}; say which by --from-tag")
+        return found
+
+
+def _choices_in(members: Members) -> "Sequence[_Choice]":
+    """All images that are there."""
+    documents = _Documents(members)
+    if members.size("index.json") is not None:
+        return _Layout(documents).choices()
+    value = documents.read("manifest.json") if members.size("manifest.json") is not None else None
+    if not isinstance(value, list):
+        raise cannot_read(members.path, "it is neither an OCI image layout nor what docker save wrote")
+    return _saved_choices(documents, value)
+
+
 def _image_of(members: Members, platform: str | None, tag: str | None) -> Image:
     documents = _Documents(members)
     if members.size("index.json") is not None:
@@ -348,13 +372,17 @@ class _Layout:
         self._descriptors: dict[Digest, Descriptor] = {}
         self._visited: set[tuple[Digest, tuple[str, ...]]] = set()
 
-    def image(self, platform: str | None, tag: str | None) -> Image:
-        """The one image that is meant."""
+    def choices(self) -> Sequence[_InLayout]:
+        """All images that it has."""
         index = self._documents.decoded("index.json", index_of, self._documents.read("index.json"))
         self._visit(index, "index.json", (), {}, 0)
         if self._members.size("manifest.json") is not None:
             self._require_agreement(self._documents.read("manifest.json"))
-        chosen = _one_of(self._members.path, list(self._choices.values()), platform, tag)
+        return list(self._choices.values())
+
+    def image(self, platform: str | None, tag: str | None) -> Image:
+        """The one image that is meant."""
+        chosen = _one_of(self._members.path, self.choices(), platform, tag)
         image = _image(self._documents, chosen, _blob_in_layout)
         return replace(image, names=tuple(chosen.names), manifest_digest=chosen.digest)
 
@@ -490,13 +518,17 @@ def _digits(name: str) -> str | None:
     return found[1] if found else None
 
 
-def _saved_image(documents: _Documents, value: Json, platform: str | None, tag: str | None) -> Image:
-    """The one image that is meant of those that `docker save` wrote."""
-    choices = [
+def _saved_choices(documents: _Documents, value: Json) -> Sequence[_Saved]:
+    """The images that `docker save` wrote."""
+    return [
         _Saved(platform_text(documents.read(it.configuration)) or "unknown", dict.fromkeys(it.names), it)
         for it in documents.decoded("manifest.json", saved_images_of, value)
     ]
-    chosen = _one_of(documents.members.path, choices, platform, tag)
+
+
+def _saved_image(documents: _Documents, value: Json, platform: str | None, tag: str | None) -> Image:
+    """The one image that is meant of those that `docker save` wrote."""
+    chosen = _one_of(documents.members.path, _saved_choices(documents, value), platform, tag)
     image = chosen.image
     _require_count(documents, len(image.layers))
     digits = _digits(image.configuration)

@@ -15,6 +15,7 @@ from .new_layers import ALGORITHM
 from .targets import Form, Target
 
 _INDEX_TYPE = "application/vnd.oci.image.index.v1+json"
+_DOCKER_LIST_TYPE = "application/vnd.docker.distribution.manifest.list.v2+json"
 _LAYOUT = {"imageLayoutVersion": "1.0.0"}
 _SAVED = "manifest.json"  # of docker's archives, and of skopeo's dir:
 _COPY = b"Directory Transport Version: 1.1\n"
@@ -104,6 +105,17 @@ def put_index(files: ImageFiles, out: Target, images: Sequence[Listed]) -> None:
     files.put("index.json", _json(index))
     if out.form is Form.ARCHIVE:
         files.put(_SAVED, _json([image.saved for image in images]))
+    files.put("oci-layout", _json(_LAYOUT))
+
+
+def put_list(files: ImageFiles, out: Target, images: Sequence[Document], name: str | None) -> None:
+    """Writes what lists the images of several platforms as one, of this name."""
+    is_docker = all(image["mediaType"] == _DOCKER.manifest for image in images)
+    kind = _DOCKER_LIST_TYPE if is_docker else _INDEX_TYPE
+    listed = _put(files, out, kind, {"schemaVersion": 2, "mediaType": kind, "manifests": list(images)})
+    if name is not None:
+        listed["annotations"] = {REF_NAME: name}
+    files.put("index.json", _json({"schemaVersion": 2, "mediaType": _INDEX_TYPE, "manifests": [listed]}))
     files.put("oci-layout", _json(_LAYOUT))
 
 

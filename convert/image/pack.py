@@ -28,11 +28,11 @@ from .compression import NONE, PLAIN, Compression, packing, require_program
 from .configuration import (
     USUAL_PLATFORM, Document, Making, for_layers, platform_text, read_annotations, read_configuration,
 )
-from .image_files import ArchiveFiles, FolderFiles, ImageFiles
+from .image_files import ImageFiles, write_image_files
 from .images import ImageLayer
-from .new_documents import MediaTypes, NewImage, blob_name, descriptor, put_image, put_index, types_beside
+from .new_documents import MediaTypes, NewImage, descriptor, put_image, put_index, types_beside
 from .new_layers import ALGORITHM, NewLayers
-from .targets import Form, Target
+from .targets import Target
 
 
 @dataclass(frozen=True, kw_only=True)
@@ -82,18 +82,7 @@ def pack(options: PackOptions) -> None:
     out = options.out
     least = sum(map(least_archive, layers)) if options.compress == PLAIN else 0
     require_room(out.label, out.place, least + sum(layer.size for layer in set(options.kept)))
-    if out.form is Form.ARCHIVE:
-
-        def fill(file: IO[bytes]) -> None:
-            files = ArchiveFiles(file)
-            _write_image(files, layers, given, options)
-            files.end()
-
-        with writing(out.label):
-            write_file_in_place(out.path, out.place, fill, PRIVATE_MODE)
-        return
-    with new_folder(out.path) as folder, writing(out.label):
-        _write_image(FolderFiles(folder, blob_name(out, "")), layers, given, options)
+    write_image_files(out, lambda files: _write_image(files, layers, given, options))
 
 
 def _given_configuration(options: PackOptions) -> Document:
