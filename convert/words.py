@@ -28,6 +28,7 @@ _MORE = """\
 IMAGE is an OCI image layout, what docker save wrote, or - for standard input; skopeo fetches docker-daemon:NAME,
 containers-storage:NAME and docker://NAME. A layer on a disk is a folder, a squashfs, a tar archive, or a
 manifest: a JSON file of what is in it, with contents in a folder of blobs. The topmost layer comes first.
+lowerdir=UPPER:LOWER in IMAGE's place names layers as a mount does.
 
 examples:
   docker save NAME | {name} flatten - --out - | docker load

@@ -102,7 +102,7 @@ class _Lister:
         if options.layer is not None or options.only_removed:
             path = "/" + "/".join(name for name in options.path.split("/") if name not in ("", "."))
             return escaped_path(path)
-        return find(self._shown.report, options.path, options.source.name, False).path
+        return find(self._shown.report, options.path, options.source.name, options.path.endswith("/")).path
 
     def lines(self) -> Iterator[str]:
         """All of them; fails if there is none."""

@@ -61,6 +61,7 @@ drwxr-xr-x     0     0     - 1970-01-01 00:00 0 /s
 lrwxrwxrwx     0     0    17 1970-01-01 00:00 0 /s/app -> ../s/../etc/./app
 lrwxrwxrwx     0     0     8 1970-01-01 00:00 0 /s/root -> /etc/app
 """
+_BIN = ["lrwxrwxrwx     0     0            9 1970-01-01 00:00 0 /bin -> /etc/d/.."]
 _REMOVED = """\
 -rw-r--r--     0     0     3 1970-01-01 00:00 2 /etc/app
 -rw-r--r--     0     0     1 1970-01-01 00:00 2 /etc/d/x
@@ -195,7 +196,7 @@ class Listed(ImageTest):
         self.assertEqual(self.ls("--layer", 1), _OF_A_LAYER)
         for words, lines in (
             (["/etc"], _LISTED.splitlines()[3:7]), (["etc/d/"], _LISTED.splitlines()[5:7]), (["/bin/app"], _LISTED.splitlines()[4:5]),
-            (["/bin"], _LISTED.splitlines()[2:3]), (["/etc", "--no-recursive"], _LISTED.splitlines()[3:6]),
+            (["/bin"], _LISTED.splitlines()[2:3]), (["/bin/"], _LISTED.splitlines()[3:7]), (["--bytes", "--", "/bin"], _BIN), (["/etc", "--no-recursive"], _LISTED.splitlines()[3:6]),
             (["/etc/d", "--removed"], _REMOVED.splitlines()[1:2]), (["--layer", 1, "/etc/key"], ["- /etc/key"]),
         ):
             with self.subTest(words):
@@ -238,6 +239,24 @@ class Listed(ImageTest):
         self.assertIn(f"1 {'..' if len(lower) > 40 else lower}"[:3], call("ls", "/f", "--long-layer", "--stack", upper, lower)[1])
         self.assertEqual(call("sizes", "--json", *words)[:2], call("sizes", "--json", "--stack", upper, lower)[:2])
         self.assertEqual(call("diff", *words, *words)[:2], (0, ""))
+
+    def test_a_manifest_that_is_written_otherwise(self) -> None:
+        self.require_done(call("unpack", self.path("image"), "--out", self.path("stack"), "--digests-only"))
+        with open(self.path("stack", "l1.json"), "r+", encoding="utf-8") as file:
+            value = json.load(file)
+            file.seek(0)
+            json.dump(value, file, indent=1)
+        self.assertEqual(self.ls(source="stack"), _LISTED)
+        with open(self.path("stack", "l1.json"), "a", encoding="utf-8") as file:
+            file.write("x")
+        self.assertEqual(call("ls", self.path("stack"))[:2], (3, ""))
+
+    def test_as_many_links_as_a_kernel_follows(self) -> None:
+        links = [member(f"l{number}", kind=tarfile.SYMTYPE, target=f"l{number - 1}", mode=0o777) for number in range(1, 42)]
+        with open(self.path("links.tar"), "wb") as file:
+            file.write(archive([folder("./"), folder("l0"), *links]))
+        for number, said in ((40, "/l0 is a directory"), (41, "leads through over 40 links")):
+            self.require_fault(call("cat", f"l{number}", "--stack", self.path("links.tar")), 3, said)
 
     def test_faults(self) -> None:
         for words, status, said in (
