@@ -30,11 +30,12 @@ def layer_text(origins: Sequence[Origin], layer: int | None) -> str:
     return "" if layer is None else f"step {step.number}" if step else f"layer {layer}"
 
 
-def command_text(origin: Origin) -> str:
-    """What made a layer, in short."""
+def command_text(origin: Origin, most: int | None = None) -> str:
+    """What made a layer, in short, in at most this many letters."""
     if origin.made_by is None:
         return NONE
-    return printable(short_command(origin.made_by) if origin.step else origin.made_by)
+    text = printable(short_command(origin.made_by) if origin.step else origin.made_by)
+    return text if most is None or len(text) <= most else text[:most] + " .."
 
 
 def cause_text(cause: Cause | None, origins: Sequence[Origin]) -> str:

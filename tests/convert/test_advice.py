@@ -191,6 +191,7 @@ class OfBuiltImages(SizesTest):
             self._add_tool(str(shutil.which(tool)))
         try:
             self.build("base", "FROM scratch\nCOPY tools /\n")
+            self.build("probe", "FROM base\nRUN mkdir /srv\n")
         except RuntimeError as problem:
             self.skipTest(f"buildah can't build here: {problem}")
 

@@ -8,6 +8,7 @@ from dataclasses import dataclass
 from ...common.escaping import printable
 
 FIRST = 20  # rows of a list that are seen at once
+MOST_OF_COMMAND = 300  # letters
 _MOST_TEXT = 500_000  # bytes of the texts of a list
 
 

@@ -7,11 +7,10 @@ from ..advice import Advice, smaller_text, worth_listing
 from ..layer_sizes import LayerSizes, NotShown, Sizes
 from ..texts import Origin, cause_text, command_text, layer_text, not_shown_text, packed_sum
 from ..waste import Place, Waste, cause_of
-from .markup import BYTES, COMMAND, DIRECTORY, FILES, LAYER, PATH, WHY, Column, listing, text
+from .markup import BYTES, COMMAND, DIRECTORY, FILES, LAYER, MOST_OF_COMMAND, PATH, WHY, Column, listing, text
 
 _MOST_FILES = 1_000
 _MOST_DIRECTORIES = 200
-_MOST_OF_MAKING = 300  # letters
 _LEAST_PART = 0.4  # per cent of a bar that anything takes
 _PARTS = (("shown", "shown"), ("repeated", "duplicate of a lower layer"), ("hidden", "deleted but shipped"))
 _HEADS = ("Bytes", "Packed", "Wasted", "Share", "Shown", "Deleted", "Duplicate", "Entries", "Files", "Whiteouts", "Opaque")
@@ -29,7 +28,7 @@ def layer_table(sizes: Sizes, origins: Sequence[Origin]) -> Iterator[str]:
     for number, (own, origin) in enumerate(zip(sizes.layers, origins)):
         yield f'<tr data-layer="{number}"><td class="number layer">{_key(number, "shown")} '
         yield f'<a href="#layer={number}">{number}</a>' + f'<td class="number step">{origin.step}' * has_steps
-        yield f'<td class="made">{_made(command_text(origin))}{_bar(number, own, most)}{_numbers(own, origin.packed)}</tr>\n'
+        yield f'<td class="made">{text(command_text(origin, MOST_OF_COMMAND))}{_bar(number, own, most)}{_numbers(own, origin.packed)}</tr>\n'
     yield '</tbody>\n<tfoot><tr><th class="number layer">sum' + '<td class="step">' * has_steps + '<td class="made">'
     yield f"{_numbers(sizes.sums, packed_sum(origins))}</tr></tfoot>\n</table>\n</section>\n"
 
@@ -43,10 +42,6 @@ def _part(name: str, at: str, width: str) -> str:
     """A part of a bar."""
     place = f'x="{at}" y="1" width="{width}" height="10"'
     return f'<rect class="{name}" {place}/>' + f'<rect class="stripes" {place}/>' * (name == "repeated")
-
-
-def _made(command: str) -> str:
-    return text(command if len(command) <= _MOST_OF_MAKING else command[:_MOST_OF_MAKING] + " ..")
 
 
 def _bar(number: int, own: LayerSizes, most: int) -> str:
@@ -100,7 +95,10 @@ def waste_lists(sizes: Sizes, origins: Sequence[Origin], waste: Waste) -> Iterat
     ))
     yield '</section>\n<section id="by-command"><h2>Wasted, by command</h2>\n'
     yield from listing((BYTES, FILES, WHY, COMMAND), (
-        (size_text(it.bytes), f"{it.files:,}", cause_text(cause, origins), command_text(origins[cause.layer]))
+        (
+            size_text(it.bytes), f"{it.files:,}", cause_text(cause, origins),
+            command_text(origins[cause.layer], MOST_OF_COMMAND),
+        )
         for cause, it in waste.causes.items()
     ))
     yield '</section>\n<section id="files"><h2>Wasted, by file</h2>\n'

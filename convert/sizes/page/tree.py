@@ -16,6 +16,7 @@ from ...model.merged_tree import LayerFile
 from ..layer_sizes import NotShown, Sizes
 from ..texts import Origin, command_text
 from ..waste import Kind, cause_of
+from .markup import MOST_OF_COMMAND
 
 ROOM = 1 << 24  # bytes of the columns, before they are packed
 _NODE_BYTES = 8  # of a node beside its name, at most
@@ -162,7 +163,7 @@ def packed(sizes: Sizes, origins: Sequence[Origin]) -> str:
     """The columns, and what made each layer, as the page has them: JSON, by deflate, in letters."""
     value: dict[str, object] = {
         **columns_of(sizes),
-        "made": [[str(origin.step or ""), command_text(origin)] for origin in origins],
+        "made": [[str(origin.step or ""), command_text(origin, MOST_OF_COMMAND)] for origin in origins],
     }
     text = json.dumps(value, ensure_ascii=False, separators=(",", ":"))
     return base64.b64encode(zlib.compress(text.encode())).decode()
