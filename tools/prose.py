@@ -22,7 +22,7 @@ LENGTHS = {
     "docs/HEADLINE.md": 2_500, "docs/PROVED.md": 1_200, "docs/GLOSSARY.md": 1_200, "docs/GATE.md": 400,
     "docs/DECISIONS.md": 5_600, "docs/PROFILE.md": 5_300, "docs/FORMATS.md": 2_700,
     "convert/README.md": 4_400, "bench/README.md": 600, "bench/FIGURES.md": 2_200, "examples/README.md": 600,
-    "tests/README.md": 600,
+    "tests/README.md": 600, "docs/CI.md": 200,
 }
 ALL = 30_500
 # What is refused, and what to write.

@@ -1,7 +1,7 @@
 """The repository's documents, and their blocks of code.
 
 A block is fenced, and says what it is: `sh` is run, `output` is printed by the block of `sh` before it, `json` is read,
-and `text` or nothing is a figure or a form. A comment right above a block of `sh` says what is special:
+`yaml` is a job whose lines tests/install runs, and `text` or nothing is a figure or a form. A comment right above a block of `sh` says what is special:
 
     <!-- status: 1 -->              the status that it ends with, if that isn't 0
     <!-- needs: root, sqfs2tar -->  what it can't be run without: root, the `built` or `unproved` program of this
@@ -17,7 +17,7 @@ from dataclasses import dataclass, field
 from pathlib import Path
 
 ROOT = Path(__file__).resolve().parents[2]
-KINDS = ("sh", "output", "json", "text", "")
+KINDS = ("sh", "output", "json", "yaml", "text", "")
 _FENCE = re.compile(r"```(\w*)$")
 _NOTE = re.compile(r"<!-- (status|needs|skip): (.+) -->$")
 _MADE = {"out", "try", ".git"}  # folders that aren't the repository's

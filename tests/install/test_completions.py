@@ -20,7 +20,7 @@ _$2
 printf '%s\\n' "${COMPREPLY[@]}"
 """
 # A terminal in which zsh completes what is typed.
-_ZSH = """
+ZSH = """
 zmodload zsh/zpty
 zpty shell zsh -fi
 zpty -w shell "PS1= ; fpath=($1 \\$fpath); autoload -Uz compinit; compinit -D -u; compdef _layers layers
@@ -77,7 +77,7 @@ class Completions(FolderTest):
             ("layers pack --compress ", ("gzip", "zstd")), ("ovl_layers merge --d", ("--down-to", "--data-layers")),
         ):
             ran = subprocess.run(
-                ["zsh", "-fc", _ZSH, "zsh", functions, typed], stdin=subprocess.DEVNULL, capture_output=True, text=True,
+                ["zsh", "-fc", ZSH, "zsh", functions, typed], stdin=subprocess.DEVNULL, capture_output=True, text=True,
                 check=False, cwd=self.folder, timeout=60, env={**os.environ, "HOME": self.folder, "TERM": "dumb"},
             )
             for word in offered:

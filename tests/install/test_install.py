@@ -25,8 +25,8 @@ INSTALLED = [
     "bin/layers", "bin/ovl_layers",
     "share/bash-completion/completions/layers", "share/bash-completion/completions/ovl_layers",
     *(f"share/doc/ovl-layers/{name}" for name in (
-        "README.md", "convert/README.md", "docs/FORMATS.md", "docs/GLOSSARY.md", "docs/HEADLINE.md", "docs/PROFILE.md",
-        "docs/PROVED.md", "docs/TUTORIAL.md",
+        "README.md", "convert/README.md", "docs/CI.md", "docs/FORMATS.md", "docs/GLOSSARY.md", "docs/HEADLINE.md",
+        "docs/PROFILE.md", "docs/PROVED.md", "docs/TUTORIAL.md",
     )),
     "share/man/man1/layers.1", "share/man/man1/ovl_layers.1",
     "share/zsh/site-functions/_layers", "share/zsh/site-functions/_ovl_layers",
