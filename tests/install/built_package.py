@@ -41,12 +41,13 @@ bash -euc '
     echo "bash: ${COMPREPLY[*]}"'
 zsh -fc "$(cat ../zsh)" zsh /usr/share/zsh/vendor-completions 'layers flatten --dry' | tr -d '\\r'
 """
-# Installs, uses and removes the package; nothing is left but dpkg's lists and logs, and the list of manual pages.
+# Installs, uses and removes the package; nothing is left but dpkg's lists and logs, and the cache of manual pages.
 _IN_ROOT = """
 set -eu
 cd /tmp
 list() {
-    find / -xdev \\( -path /proc -o -path /sys -o -path /dev -o -path /var/lib/dpkg -o -path /var/log -o -path /tmp \\) -prune -o -print | sort
+    find / -xdev \\( -path /proc -o -path /sys -o -path /dev -o -path /tmp \\
+        -o -path /var/lib/dpkg -o -path /var/log -o -path /var/cache/man \\) -prune -o -print | sort
 }
 list > before
 dpkg -i package.deb > /dev/null
