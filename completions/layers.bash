@@ -100,7 +100,7 @@ _layers() {
         scan) [[ $word != -* ]] || mapfile -t COMPREPLY < <(compgen -W '-h --help --out --blobs --digests-only --userxattr --no-userxattr --cross-file-systems --skip-unsupported --workers' -- "$word") ;;
         store) [[ $word != -* ]] || mapfile -t COMPREPLY < <(compgen -W '-h --help --out --digests-only --userxattr --no-userxattr --cross-file-systems --skip-unsupported --workers' -- "$word") ;;
         build) [[ $word != -* ]] || mapfile -t COMPREPLY < <(compgen -W '-h --help --blobs --out --compress --userxattr --no-userxattr' -- "$word") ;;
-        mounted) [[ $word != -* ]] || mapfile -t COMPREPLY < <(compgen -W '-h --help --cross-file-systems' -- "$word") ;;
+        mounted) [[ $word != -* ]] || mapfile -t COMPREPLY < <(compgen -W '-h --help --json --cross-file-systems' -- "$word") ;;
     esac
 }
 complete -o default -F _layers layers

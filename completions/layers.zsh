@@ -301,6 +301,7 @@ _layers() {
                     _arguments \
                     '-h[show this help message and exit]' \
                     '--help[show this help message and exit]' \
+                    '--json[prints objects for a program, one a line]' \
                     '--cross-file-systems[enters other file systems too]' \
                     '*:DIR:_files -/'
                     ;;

@@ -431,9 +431,12 @@ def _target(word: str, is_told: bool = False) -> Target:
 
 
 def _mounted(words: argparse.Namespace) -> None:
-    from .folder.mounted import report
+    from .folder.mounted import mounted_lines
+    from .look.texts import json_report
+    from .model.show_report import report_of
 
-    _print(report(_folder(words.folder), words.cross_file_systems))
+    lines = mounted_lines(_folder(words.folder), words.cross_file_systems)
+    _print(json_report(lines) if words.json else report_of(lines))
 
 
 def _print(lines: Iterable[str]) -> None:

@@ -245,6 +245,7 @@ _IMAGE = (
     "containers-storage:NAME, docker://NAME"
 )
 _WITH_STACK = "with --stack: "
+_ON_A_DISK = "layers on a disk"
 _NEW_IMAGE = (
     "folder to make, or a file whose name ends in .tar; - is such an archive on standard output; or as skopeo "
     "names it: oci:DIR:TAG, oci-archive:FILE:TAG, docker-archive:FILE:NAME, dir:DIR"
@@ -314,7 +315,7 @@ def _add_reading(parser: argparse.ArgumentParser) -> None:
     _add_workers(parser)
 
 
-def _add_workers(parser: argparse.ArgumentParser) -> None:
+def _add_workers(parser: argparse._ActionsContainer) -> None:
     parser.add_argument(
         "--workers", metavar="N", type=_workers, default=usual_workers(),
         help=f"how many processes read files, 1 to {MOST_WORKERS} [default: the processors, at most 4]",
@@ -356,18 +357,25 @@ def _add_image(parser: argparse.ArgumentParser, may_be_absent: bool = False, may
 
 def _add_choice(parser: argparse.ArgumentParser, may_be_all: bool = False) -> None:
     """Which of several images is read, and how."""
+    choice = _group(parser, "which image")
     every = "; `all` writes an index of all" if may_be_all else ""
-    parser.add_argument(
+    choice.add_argument(
         "--platform", metavar="OS/ARCH", type=_platform_or_all if may_be_all else _platform,
         help=f"which of several images, such as linux/amd64 or arm64{every}",
     )
-    parser.add_argument("--from-tag", metavar="NAME", help="which of several images, by its name in the image's index")
-    parser.add_argument("--tag", dest="from_tag", action=_OldTag, help=argparse.SUPPRESS)
-    parser.add_argument(
+    choice.add_argument("--from-tag", metavar="NAME", help="which of several images, by its name in the image's index")
+    choice.add_argument("--tag", dest="from_tag", action=_OldTag, help=argparse.SUPPRESS)
+    choice.add_argument(
         "--overlay-marks", action="store_true",
         help="takes attributes trusted.overlay.* of the image's archives too, which change what the layers show",
     )
-    _add_skip(parser)
+    _add_skip(choice)
+
+
+def _group(parser: argparse.ArgumentParser, title: str) -> argparse._ArgumentGroup:
+    """Options of one matter, which help lists together."""
+    groups = {group.title: group for group in parser._action_groups}
+    return groups.get(title) or parser.add_argument_group(title)
 
 
 def _add_pack(parser: argparse.ArgumentParser) -> None:
@@ -478,29 +486,32 @@ def _add_stack(parser: argparse.ArgumentParser, only: str) -> None:
 
     _add_stack_layers(parser, "reads and writes", only)
     _add_blobs(parser, only)
-    parser.add_argument(
+    _group(parser, _ON_A_DISK).add_argument(
         "--form", choices=[form.value for form in OutForm],
         help=f"{only}what layers are written as [default: what the name of --out says]",
     )
 
 
 def _add_blobs(parser: argparse.ArgumentParser, only: str = _WITH_STACK) -> None:
-    parser.add_argument("--blobs", metavar="DIR", help=f"{only}folder with the contents of manifests")
+    _group(parser, _ON_A_DISK).add_argument(
+        "--blobs", metavar="DIR", help=f"{only}folder with the contents of manifests"
+    )
 
 
 def _add_stack_layers(parser: argparse.ArgumentParser, does: str, only: str = _WITH_STACK) -> None:
     instead = "layers in place of an image" if only else "layers"
-    parser.add_argument(
+    layers = _group(parser, _ON_A_DISK)
+    layers.add_argument(
         "--stack", metavar="LAYER", nargs="+", required=not only,
         help=f"{instead}, the topmost first: folders, squashfs files, tar archives or manifests",
     )
-    parser.add_argument(
+    layers.add_argument(
         "--data-layers", metavar="K", type=_data_layers, default=0,
         help=f"{only}how many of the layers, the lowest ones, are data-only [default: 0]",
     )
-    _add_userxattr(parser, f"{only}{does}")
-    _add_cross(parser)
-    _add_workers(parser)
+    _add_userxattr(layers, f"{only}{does}")
+    _add_cross(layers)
+    _add_workers(layers)
 
 
 def _add_rewriting(parser: argparse.ArgumentParser) -> None:
@@ -613,21 +624,22 @@ def _add_diff(parser: argparse.ArgumentParser) -> None:
 
 def _add_mounted(parser: argparse.ArgumentParser) -> None:
     parser.add_argument("folder", metavar="DIR", help="mounted tree")
+    parser.add_argument("--json", action="store_true", help="prints objects for a program, one a line")
     _add_cross(parser)
 
 
-def _add_userxattr(parser: argparse.ArgumentParser, does: str) -> None:
+def _add_userxattr(parser: argparse._ActionsContainer, does: str) -> None:
     parser.add_argument(
         "--userxattr", action=argparse.BooleanOptionalAction,
         help=f"{does} marks as user.overlay.*, as the mount option of this name does",
     )
 
 
-def _add_cross(parser: argparse.ArgumentParser) -> None:
+def _add_cross(parser: argparse._ActionsContainer) -> None:
     parser.add_argument("--cross-file-systems", action="store_true", help="enters other file systems too")
 
 
-def _add_skip(parser: argparse.ArgumentParser) -> None:
+def _add_skip(parser: argparse._ActionsContainer) -> None:
     parser.add_argument(
         "--skip-unsupported", action="store_true",
         help="leaves out what can't be stated, with a warning each, instead of refusing it",

@@ -19,7 +19,6 @@ from pathlib import Path
 
 TOP = Path(__file__).resolve().parent.parent
 DATE = "2026-11"
-_HEADING = re.compile(r"(?:Usage|Commands|Arguments|Options|Exit status|Examples?|Positional arguments):$", re.IGNORECASE)
 _ITEM = "  - "
 _WIDE = {**os.environ, "COLUMNS": "10000", "PYTHONDONTWRITEBYTECODE": "1"}  # so that nothing is broken
 
@@ -47,7 +46,7 @@ def help_of(text: str) -> Help:
         first, *rest = block.split("\n")
         if usage := re.match(r"usage: (.*)", first, re.IGNORECASE):
             found.usage = usage[1]
-        elif _HEADING.match(first):
+        elif first.endswith(":") and rest and all(line.startswith("  ") for line in rest):
             found.sections[first.rstrip(":").lower().replace("examples", "example")] = rest
         else:
             found.paragraphs.append(block)
@@ -87,7 +86,7 @@ def page(name: str, about: str, see: str, helps: tuple[Help, dict[str, Help]]) -
     ]
     for command, told in commands.items():
         lines += [f".SS {command}", f".B {_plain(told.usage)}", *_paragraphs(["", *told.paragraphs])]
-        lines += _rows(told.rows("positional arguments", "arguments", "options"))
+        lines += _rows(told.rows(*(name for name in told.sections if name not in ("example", "exit status"))))
         lines += _example(told)
     lines += [".SH OPTIONS", *_rows(whole.rows("options"))]
     lines += [".SH EXIT STATUS", *_rows(whole.rows("exit status")), ".SH EXAMPLES", *_example(whole)]

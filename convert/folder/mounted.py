@@ -17,13 +17,18 @@ from .walks import Found, walk
 
 
 def report(folder: str, cross_file_systems: bool) -> Iterator[str]:
-    """The lines of the show report for a folder, such as a mounted overlay."""
+    """The text of the show report for a folder, such as a mounted overlay."""
+    return report_of(mounted_lines(folder, cross_file_systems))
+
+
+def mounted_lines(folder: str, cross_file_systems: bool) -> Iterator[ShowLine]:
+    """The lines of that report."""
     if not can_read_trusted():
         note("trusted.* attributes can't be read without CAP_SYS_ADMIN; the report has none of them")
     with reading(folder):
         root = open_root(folder)
     try:
-        yield from report_of(_lines(root, folder, cross_file_systems))
+        yield from _lines(root, folder, cross_file_systems)
     finally:
         os.close(root)
 

@@ -1,12 +1,16 @@
 """How lines of the show report are written for a person, and for a program."""
 
+import json
 import time
+from collections.abc import Iterable, Iterator
 from typing import Any
 
 from ..common.escaping import printable, unescaped
 from ..model import times
 from ..model.entries import BLOCK, CHAR, FILE, SYMLINK
 from ..model.show_report import NONE, ShowLine
+
+_VERSION = 1
 
 
 def name_text(text: str) -> str:
@@ -30,6 +34,13 @@ def time_text(text: str, is_full: bool) -> str:
         return f"{time.strftime('%Y-%m-%d %H:%M:%S', local)}.{over:09} {time.strftime('%z', local)}"
     except (OverflowError, ValueError, OSError):
         return f"@{times.to_decimal(time_ns)}"  # no calendar has it
+
+
+def json_report(lines: Iterable[ShowLine]) -> Iterator[str]:
+    """A show report for a program: a line with the version of this form, and an object for each path."""
+    yield json.dumps({"layers-mounted": _VERSION}) + "\n"
+    for line in lines:
+        yield json.dumps({"path": decoded(line.path), **object_of(line)}) + "\n"
 
 
 def attributes_of(line: ShowLine) -> dict[str, str]:

@@ -695,6 +695,14 @@ class Mounted(CommandTest):
             f"symlink 0777 {owner} -2+500000000 - \\xc3\\xa9\\x5c /l", f"fifo 0600 {owner} -1+999999999 - - /p", "entries 4",
         ])
 
+    def test_for_a_program(self) -> None:
+        os.mkdir(self.path("in"))
+        os.symlink("a\xe9", self.path("in", "l"))
+        first, *found = map(json.loads, call("mounted", self.path("in"), "--json")[1].splitlines())
+        self.assertEqual(first, {"layers-mounted": 1})
+        kinds = [(it["path"], it["kind"], it.get("target")) for it in found]
+        self.assertEqual(kinds, [("/", "dir", None), ("/l", "symlink", "a\xe9")])
+
     def test_a_report_that_can_not_be_written(self) -> None:
         with open("/dev/full", "wb") as full:
             result = subprocess.run(
