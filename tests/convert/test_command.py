@@ -118,7 +118,7 @@ class Words(FolderTest):
 
     def test_a_start_imports_only_what_is_needed(self) -> None:
         for words, imported in (
-            (["--version"], []), (["--help"], []), (["dance"], []), (["mounted", "/absent"], ["folder"]),
+            (["--version"], []), (["--help"], []), (["dance"], []), (["mounted", "/absent"], ["folder", "look"]),
             (["scan", "--help"], []), (["ls", "--help"], []), (["diff", "--help"], ["look"]),
         ):
             ran = subprocess.run(
