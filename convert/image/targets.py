@@ -106,7 +106,7 @@ def _require_path(word: str) -> None:
     if word.endswith(_OF_OTHERS):
         raise UsageFault(
             f"--out {word}: an image is written as a folder or a {ARCHIVE_SUFFIX} (oci:{word} is a folder of this name); "
-            "`layers flatten --stack` writes a squashfs"
+            "`layers flatten --rootfs` writes a squashfs"
         )
 
 

@@ -174,6 +174,16 @@ class Bases(BaseTest):
         """Words that run the command in a process, with the program."""
         return [sys.executable, "-B", "-c", _WITH_PROGRAM.format(str(COMMAND.parent), self.program)]
 
+    def test_by_hand(self) -> None:
+        """The script says that layers don't stay; with one layer it makes the same image."""
+        status, script, messages = self.flatten("--base", 1, "--dry-run")
+        self.assertEqual((status, messages), (0, ""))
+        self.assertIn("\n# (flatten copies lower layers that stay the same, with their digests; pack packs all anew)\n", script)
+        self.require_done(self.flatten(out="wanted"))
+        subprocess.run(["sh"], input=self.flatten("--dry-run")[1], text=True, capture_output=True, check=True)
+        index = [Path(self.path("all", name, "index.json")).read_bytes() for name in ("flat", "wanted")]
+        self.assertEqual(*index)
+
     def test_types_of_docker(self) -> None:
         shutil.rmtree(self.image)
         self.given.write(PACKED, LAYERS, HISTORY, _OF_DOCKER)

@@ -156,6 +156,37 @@ class Engines(unittest.TestCase):
             again = json.loads(self.podman.run(["skopeo", "inspect", out]))
             self.assertEqual(again["Layers"], messages["Layers"])
 
+    def test_a_base_that_stays(self) -> None:
+        """An image over another one, as one layer over it: same blobs to skopeo, same run and lines to docker and podman."""
+        base, flat = f"{self.folder}/base.oci", f"{self.folder}/over.tar"
+        with open(f"{self.folder}/context/Over", "w", encoding="utf-8") as file:
+            file.write("FROM given:1\nUSER 0\nRUN rm /etc/note\nRUN echo more > /srv/more\nENV C=d\n")
+        self.docker("build", "--network", "none", "--tag", "over:1", "-f", f"{self.folder}/context/Over", f"{self.folder}/context")
+        self.docker("tag", "over:1", "given-over:1")
+        self.docker.pipe("docker save over:1 > $1", f"{self.folder}/given-over.tar")
+        copy = ["skopeo", "copy", "--quiet", "--insecure-policy"]
+        self.docker.run([*copy, f"docker-archive:{self.folder}/small.tar", f"oci:{base}:1"])
+        words = [sys.executable, "-B", str(COMMAND), "flatten", f"{self.folder}/given-over.tar", "--base", f"oci:{base}:1"]
+        self.docker.run([*words, "--out", flat])
+        raw = [
+            json.loads(self.docker.run(["skopeo", "inspect", "--raw", place]))["layers"]
+            for place in (f"oci:{base}:1", f"oci-archive:{flat}")
+        ]
+        self.assertEqual((raw[1][:_LAYERS], len(raw[1])), (raw[0], _LAYERS + 1))
+        self.docker("rmi", "over:1")
+        self.docker("load", "-i", flat)
+        for what in (".Config", ".Os", ".Created"):
+            self.assertEqual(self.inspected("over:1", what), self.inspected("given-over:1", what))
+        self.assertEqual(self.export(self.docker, "over:1"), self.export(self.docker, "given-over:1"))
+        listed = [
+            self.docker("history", "--no-trunc", "--format", "{{.CreatedBy}}", image).splitlines()
+            for image in ("given-over:1", "over:1")
+        ]
+        self.assertEqual(listed[1][1:], listed[0])
+        self.assertRegex(listed[1][0], r"^layers flatten: lines \d+ to \d+ of over:1 \(sha256:[0-9a-f]{12}\)$")
+        self.podman("load", "-i", flat)
+        self.assertEqual(len(self.podman("history", "--quiet", "localhost/over:1").split()), len(listed[1]))
+
     def test_the_store(self) -> None:
         """The layer of a running container beside what the kernel mounts of it."""
         container = self.docker("run", "--detach", "--network", "none", "--user", "0", "given:1", "sleep", "600").strip()

@@ -464,22 +464,28 @@ class Processes(FlattenTest):
     def test_interrupted(self) -> None:
         for number in (signal.SIGTERM, signal.SIGINT, signal.SIGHUP):
             for keep in ((), ("--keep", self.path("in", "kept"))):
-                self.place("bin", "ovl_layers", says=_WAITS.format(self.path("in", "started")))
-                with subprocess.Popen(
-                    self.words(*keep), stderr=subprocess.DEVNULL,
-                    # A shell has commands in the background ignore it, and so all that they start.
-                    preexec_fn=lambda: signal.signal(signal.SIGINT, signal.SIG_DFL),
-                ) as process:
-                    while process.poll() is None and not os.path.exists(self.path("in", "started")):
-                        time.sleep(0.01)
-                    process.send_signal(number)
-                self.assertEqual(process.returncode, 128 + number)
-                self.left()
-                with open(self.path("in", "started"), encoding="utf-8") as file:
-                    self.assertFalse(os.path.exists(f"/proc/{int(file.read())}"))
-                os.unlink(self.path("in", "started"))
+                self.interrupt(number, *keep)
             self.assertEqual(sorted(os.listdir(self.path("in", "kept"))), ["flatten", "stack"])
             shutil.rmtree(self.path("in", "kept"))
+        for words in (("--layers", "2"), ("--rootfs", "--form", "tar"), ("--platform", "all"), ("--exclude", "d")):
+            self.interrupt(signal.SIGTERM, *words)
+
+    def interrupt(self, number: signal.Signals, *words: str) -> None:
+        """Has a signal end the command while it runs the program, which is ended too; nothing is left."""
+        self.place("bin", "ovl_layers", says=_WAITS.format(self.path("in", "started")))
+        with subprocess.Popen(
+            self.words(*words), stderr=subprocess.DEVNULL,
+            # A shell has commands in the background ignore it, and so all that they start.
+            preexec_fn=lambda: signal.signal(signal.SIGINT, signal.SIG_DFL),
+        ) as process:
+            while process.poll() is None and not os.path.exists(self.path("in", "started")):
+                time.sleep(0.01)
+            process.send_signal(number)
+        self.assertEqual(process.returncode, 128 + number, words)
+        self.left()
+        with open(self.path("in", "started"), encoding="utf-8") as file:
+            self.assertFalse(os.path.exists(f"/proc/{int(file.read())}"))
+        os.unlink(self.path("in", "started"))
 
 
 class ImageTest(FlattenTest):
