@@ -4,7 +4,6 @@ The blocks of one document are run in their order, in a folder that has the repo
 is written into the repository. The program is the one that is built, or what `LAYERS_TEST_PROGRAM` says.
 """
 
-import hashlib
 import json
 import os
 import re
@@ -16,7 +15,6 @@ import sys
 import tempfile
 import unittest
 from pathlib import Path
-from typing import Any
 
 from documents import KINDS, ROOT, Block, blocks_of, documents, lines_outside
 
@@ -60,31 +58,6 @@ def why_not(needs: list[str]) -> str | None:
         if missing:
             return f"needs {need}" + " program" * (need in BUILT)
     return None
-
-
-def write_base(image: Path, out: Path) -> None:
-    """Writes an image of only the lowest layer of another, both layouts."""
-    shutil.copytree(image, out)
-    blobs = out / "blobs" / "sha256"
-
-    def read(descriptor: dict[str, Any]) -> dict[str, Any]:
-        found: dict[str, Any] = json.loads((blobs / descriptor["digest"].removeprefix("sha256:")).read_bytes())
-        return found
-
-    def put(descriptor: dict[str, Any], value: dict[str, Any]) -> None:
-        data = json.dumps(value).encode()
-        name = hashlib.sha256(data).hexdigest()
-        (blobs / name).write_bytes(data)
-        descriptor.update(digest=f"sha256:{name}", size=len(data))
-
-    index = json.loads((out / "index.json").read_bytes())
-    manifest = read(index["manifests"][0])
-    config = read(manifest["config"])
-    del manifest["layers"][1:], config["rootfs"]["diff_ids"][1:]
-    config.pop("history", None)
-    put(manifest["config"], config)
-    put(index["manifests"][0], manifest)
-    (out / "index.json").write_text(json.dumps(index), encoding="ascii")
 
 
 class DocumentTest(unittest.TestCase):
@@ -184,8 +157,6 @@ class Jobs(DocumentTest):
             "layers pack given/l1.json given/l2.json --blobs given/blobs --config given/config.json --out old.tar\n"
         )
         self.assertEqual(made.returncode, 0, made.stdout)
-        write_base(ROOT / "examples" / "image", self.work / "base")
-        self.run_lines("tar -C base -cf base.tar .")
 
     def commands(self, part: str, least: int) -> list[str]:
         """The commands that have this part, at least so many."""
