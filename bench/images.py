@@ -66,7 +66,8 @@ def converter(label: str, *words: str) -> Command:
 
 
 def flatten(label: str, image: Made, out: str, *words: str) -> Command:
-    return converter(label, "flatten", f"oci:{image.layout}:{TAG}", "--out", out, *words)
+    """With plain layers, as packing is measured by itself."""
+    return converter(label, "flatten", f"oci:{image.layout}:{TAG}", "--out", out, "--compress", "none", *words)
 
 
 def without_igzip(command: Command) -> Command:

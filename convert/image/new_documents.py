@@ -7,7 +7,7 @@ from dataclasses import dataclass
 from typing import Any
 
 from ..common.progress import note_path
-from .compression import PLAIN, Compression
+from .compression import GZIP, NONE, PLAIN, ZSTD, Compression
 from .configuration import Document, platform_of
 from .image_files import BLOBS, ImageFiles
 from .images import REF_NAME
@@ -23,12 +23,14 @@ _COPY = b"Directory Transport Version: 1.1\n"
 
 @dataclass(frozen=True)
 class MediaTypes:
-    """The media types of an image's manifest, configuration and plain layers, and what joins a method of packing to these."""
+    """The media types of an image's manifest, configuration and plain layers, what joins a method of packing to these, and
+    which methods tools know so."""
 
     manifest: str
     configuration: str
     layer: str
     joint: str
+    methods: tuple[str, ...]
 
     def of_layer(self, compression: Compression) -> str:
         """That of a layer that is packed so."""
@@ -37,11 +39,11 @@ class MediaTypes:
 
 OCI = MediaTypes(
     "application/vnd.oci.image.manifest.v1+json", "application/vnd.oci.image.config.v1+json",
-    "application/vnd.oci.image.layer.v1.tar", "+",
+    "application/vnd.oci.image.layer.v1.tar", "+", (NONE, GZIP, ZSTD),
 )
 _DOCKER = MediaTypes(
     "application/vnd.docker.distribution.manifest.v2+json", "application/vnd.docker.container.image.v1+json",
-    "application/vnd.docker.image.rootfs.diff.tar", ".",
+    "application/vnd.docker.image.rootfs.diff.tar", ".", (NONE, GZIP),
 )
 
 

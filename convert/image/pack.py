@@ -76,13 +76,16 @@ def pack(options: PackOptions) -> None:
     if not 1 <= len(options.layers) + len(options.kept) <= rules.MAX_LAYERS:
         raise UsageFault(f"layers must be 1 to {rules.MAX_LAYERS}")
     require_program(options.compress)
+    types = types_beside([layer.described for layer in options.kept])
+    if options.layers and options.compress.method not in types.methods:
+        raise UsageFault(f"layers that stay have docker's media types, which know no {options.compress.method}: say --compress gzip")
     annotations = read_annotations(options.annotations) if options.annotations is not None else {}
     given = _Given(_given_configuration(options), annotations)
     layers = [list(_packable(path, options)) for path in reversed(options.layers)]
     out = options.out
     least = sum(map(least_archive, layers)) if options.compress == PLAIN else 0
     require_room(out.label, out.place, least + sum(layer.size for layer in set(options.kept)))
-    write_image_files(out, lambda files: _write_image(files, layers, given, options))
+    write_image_files(out, lambda files: _write_image(files, layers, given, types, options))
 
 
 def _given_configuration(options: PackOptions) -> Document:
@@ -136,9 +139,10 @@ def _problem(entry: Entry) -> str | None:
     return problem
 
 
-def _write_image(files: ImageFiles, layers: list[list[Entry]], given: _Given, options: PackOptions) -> None:
+def _write_image(
+    files: ImageFiles, layers: list[list[Entry]], given: _Given, types: MediaTypes, options: PackOptions
+) -> None:
     """The files of the image. Nothing in them depends on when or where they are made."""
-    types = types_beside([layer.described for layer in options.kept])
     written = [_keep_layer(files, layer, types) for layer in options.kept]
     written += [_write_layer(files, layer, types, options) for layer in layers_at_work(layers)]
     digests = [layer.unpacked_digest for layer in written]

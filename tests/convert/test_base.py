@@ -193,6 +193,9 @@ class Bases(BaseTest):
         manifest = new.manifest()
         self.assertEqual((manifest["mediaType"], manifest["config"]["mediaType"]), _OF_DOCKER[:2])
         self.assertEqual(manifest["layers"][1]["mediaType"], _OF_DOCKER[2].removesuffix(".gzip"))
+        if shutil.which("zstd"):
+            result = self.flatten("--base", 1, "--compress", "zstd", out="other")
+            self.assertEqual((result[0], "which know no zstd: say --compress gzip" in result[2]), (2, True), result[2])
         self.assertEqual(self.shown(self.path("all", "flat")), self.shown(self.image))
 
     def test_no_history_of_the_layers(self) -> None:
