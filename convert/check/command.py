@@ -1,5 +1,6 @@
 """`check`: whether what a source holds is fit to ship."""
 
+import itertools
 import json
 import os
 import tempfile
@@ -23,7 +24,7 @@ from ..sizes.limits import Limit
 from ..sizes.waste import Kind, Place, Waste, waste_of
 from .configuration import configuration_findings
 from .contents import Contents
-from .findings import Finding, Level
+from .findings import Finding, Level, ordered
 from .shipped import credential_findings
 from .stack import stack_findings
 
@@ -100,15 +101,14 @@ def _of_shown(options: CheckOptions, shown: Shown, folder: str) -> _Answer:
     layers = [_seen_in(folder, layer) for layer in shown.layers]
     words = words_of("fsck", layers, _seen_in(folder, blobs), "", shown.data_layers)
     run_program(require_program(()), words, folder, _CHECKED, None)
-    findings = list(stack_findings(f"{folder}/{_CHECKED}"))
     sizes = sizes_of(shown.layers, shown.data_layers, shown.report)
-    findings += credential_findings(sizes, blobs)
     waste = waste_of(sizes, base)
-    findings += _waste_findings(waste, options.max_waste)
-    if shown.configuration is not None:
-        with opened_tree(shown.report) as tree:
-            findings += configuration_findings(shown.configuration, tree, Contents(blobs))
-    return _Answer(sorted(findings, key=Finding.order), options.is_strict, waste)
+    with opened_tree(shown.report) as tree:
+        return _Answer(ordered(itertools.chain(
+            stack_findings(f"{folder}/{_CHECKED}"), credential_findings(sizes, blobs),
+            _waste_findings(waste, options.max_waste),
+            configuration_findings(shown.configuration, tree, Contents(blobs)) if shown.configuration is not None else (),
+        )), options.is_strict, waste)
 
 
 def _seen_in(folder: str, path: str) -> str:

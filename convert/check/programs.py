@@ -19,6 +19,7 @@ _MOUNTED = re.compile(r"/(?:proc|sys|dev)(?:/|\Z)")  # engines mount these over 
 _SCRIPT = b"#!"
 _HEAD_BYTES = 256  # in which the kernel looks for the interpreter of a script
 _MOST_INTERPRETERS = 5
+_MOST_FOLDERS = 1_000  # of PATH
 _BY_PATH = "env"  # the interpreter that seeks another one by PATH
 _SPLIT = "-S"
 _ACCESS_LIST = "system.posix_acl_access"
@@ -84,13 +85,15 @@ class Programs:
         if "/" in program.word:
             return self._executable(program, program.word)
         denied: Unfit | None = None
-        for folder in self._in.path.split(":") if self._in.path and program.word else ():
+        folders = list(dict.fromkeys(self._in.path.split(":"))) if self._in.path and program.word else []
+        for folder in folders[:_MOST_FOLDERS]:
             try:
                 return self._executable(program, f"{folder or '.'}/{program.word}")
             except Unfit as problem:
                 is_denied = problem.finding.code.endswith(_DENIED)
                 denied = denied or (problem if is_denied else None)
-        raise denied or program.refused(_MISSING, f"isn't in a directory of PATH: {self._in.path}")
+        first = f"the first {_MOST_FOLDERS:,} directories" if len(folders) > _MOST_FOLDERS else "a directory"
+        raise denied or program.refused(_MISSING, f"isn't in {first} of PATH: {self._in.path}")
 
     def _executable(self, program: _Program, path: str) -> Found | None:
         """The file that a path leads to, which the user may execute."""

@@ -307,6 +307,22 @@ class Shipped(CheckTest):
             self.report = report
             self.require_fault(call("check", self.path("image")), 5, "gave no whole report")
 
+    def test_many_of_a_code(self) -> None:
+        self.put([_TREE])
+        notes = "".join(f"note orphan-whiteout 0 /{number:05}\n" for number in range(12_345))
+        self.report = f"{notes}faults 0 notes 12345\n"
+        found = self.lines()
+        self.assertEqual(len(found), 101)
+        self.assertEqual(found[0], "note orphan-whiteout - -: and 12,245 more")
+        self.assertEqual(found[-1], "note orphan-whiteout 0 /00099: the whiteout hides nothing")
+
+    def test_long_words(self) -> None:
+        path = ":".join(f"/{number}" for number in range(100_000))
+        self.put([_TREE], {"Cmd": ["x" * 2_000_000], "Env": [f"PATH={path}"]})
+        (line,) = self.lines(status=1)
+        self.assertIn("..: the command isn't in the first 1,000 directories of PATH: /0:/1:", line)
+        self.assertLess(len(line), 9_000)
+
     def test_digests(self) -> None:
         self.put([_TREE, [member("x", b"x")]])
         place = self.path("image", "blobs", "sha256")
