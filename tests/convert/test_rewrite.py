@@ -233,7 +233,7 @@ class Refused(RewriteTest):
             (("vacuum", "--stack", *layers, "--out", layers[0]), "0.tar is a layer that is read"),
             (("deref", "--stack", self.path("in"), layers[0], "--out", self.path("in", "new.squashfs")), "is in the layer "),
             (("deref", "--stack", self.path("in"), layers[0], *out, "--keep", self.path("in", "a", "b")), "is in the layer "),
-            (("deref", "--stack", *layers, "--out", self.path("new.tar")), "layers are written as folders, or as a file"),
+            (("deref", "--stack", *layers, "--out", self.path("new.img")), "layers are written as folders, or as a file"),
             (("deref", "--stack", *layers, *out, "--form", "folder", "--compress", "xz"), "--compress is of a squashfs"),
         ):
             with self.subTest(words):
