@@ -25,6 +25,7 @@ from convert.common.amounts import size_text
 from convert.model.entries import DIRECTORY, FILE, Entry, named
 from convert.model.merged_tree import LayerFile
 from convert.sizes.layer_sizes import LayerSizes, Sizes, sizes_of
+from convert.sizes.page.tables import layer_table
 from convert.sizes.page.tree import columns_of, packed
 from convert.sizes.page.write import Subject, write_page
 from convert.sizes.texts import Origin
@@ -89,6 +90,21 @@ class Text(PageTest):
             "base-uri 'none'; form-action 'none'",
         )
         self.assertNotRegex(self.text.partition("<body>")[2].partition("<script>")[0], r'\sstyle=|\son[a-z]+="|src="')
+
+    def test_advice(self) -> None:
+        """What `--advice` prints is in the page too."""
+        given = json.loads(call("sizes", self.path("image"), "--advice", "--json")[1])["advice"]
+        section = self.text.partition('id="advice"')[2].partition("</section>")[0]
+        rows = [re.findall(r"<td[^>]*>([^<]*)", row) for row in section.split("<tr>")[1:]]
+        wanted = [[html.escape(one["what"]), html.escape(one["remedy"])] for one in given]
+        self.assertEqual([row[3:5] for row in rows if row], wanted)
+        self.assertLessEqual({"copied", "removed", "moved"}, {one["rule"] for one in given})
+
+    def test_small_layers_have_a_bar(self) -> None:
+        layers = [LayerSizes(bytes=5, shown=5), LayerSizes(bytes=1 << 40, shown=1 << 40)]
+        drawn = "".join(layer_table(Sizes(layers), [Origin()] * 2))
+        widths = re.findall(r'class="shown" x="0.0%" y="1" width="([\d.]+)%"', drawn)
+        self.assertEqual(widths, ["0.4", "100.0"])
 
     def test_standard_output(self) -> None:
         """The page goes there in place of the table."""
@@ -357,6 +373,15 @@ class InBrowser(PageTest):
         self.assertEqual(self.value("location.hash"), "#find=/usr")
         self.type("<img")
         self.assertEqual(sum(size for name, size in self.views().items() if name == "all"), 23_000)
+
+    def test_nothing_wasted(self) -> None:
+        """A page of a clean image begins with what is shown."""
+        self.require_done(call("sizes", self.put("clean", [archive(_LAYERS[0])], [_MADE]), "--html", self.page))
+        self.browser.open(self.page)
+        self.assertEqual((self.view(), self.views()["wasted"]), ("shown", 0))
+        self.assertEqual(self.rows("by-directory")[0], ["40K", "1", "/usr/lib/"])
+        self.click("document.querySelector('[data-view=wasted]')")
+        self.assertEqual((self.rows("files"), self.value("document.querySelector('.map').textContent")), ([], "Nothing to draw"))
 
     def test_it_fits(self) -> None:
         """Light and dark, wide and narrow: nothing sticks out, and duplicates are told by more than their colour."""

@@ -37,6 +37,9 @@ def text(value: str) -> str:
 def listing(columns: Sequence[Column], rows: Iterable[Sequence[str]]) -> Iterator[str]:
     """A list: its first rows, and the rest behind a line to open; within a bound on its texts."""
     fitting = list(_fitting(rows))
+    if not fitting:
+        yield "<p>Nothing</p>\n"
+        return
     yield from _table(columns, fitting[:FIRST])
     if rest := fitting[FIRST:]:
         yield f'<details class="rest"><summary>{len(rest):,} more</summary>\n'
