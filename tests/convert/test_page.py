@@ -314,6 +314,10 @@ class InBrowser(PageTest):
         """A click on a layer narrows map and lists to it; another one, or Escape, leads back."""
         self.browser.open(self.page)
         self.assertEqual(self.view(), "wasted")
+        self.value("document.querySelector('#by-command a').focus()")
+        self.browser.press("Enter")
+        self.assertEqual(self.value("document.activeElement.dataset.view"), "all")
+        self.browser.press("Escape")
         self.click(self.layer(2))
         self.assertEqual(self.value("location.hash"), "#layer=2")
         self.assertEqual(self.view(), "all")

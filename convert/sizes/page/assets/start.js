@@ -47,10 +47,14 @@ class Explorer {
     this.state = stateOf(this.tree, location.hash);
     this.draw();
     if (this.state.layer !== null && this.state.layer !== before.layer) this.part("h2").scrollIntoView();
-    if (document.activeElement === document.body && before.node !== this.state.node && !this.map.focus(before.node)) {
-      const last = this.part(".way a");
-      if (last) last.focus();
-    }
+    if (document.activeElement === document.body) this.focus(before.node);
+  }
+
+  // Where somebody goes on who followed a link that isn't there any more: in another directory on its map, if it has any.
+  focus(before) {
+    const isElsewhere = before !== this.state.node;
+    if (isElsewhere && this.map.focus(before)) return;
+    this.part(isElsewhere ? ".way a" : ".views [aria-current]").focus({ preventScroll: true });
   }
 
   // A click anywhere in a layer's row is one on its number.
