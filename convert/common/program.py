@@ -26,6 +26,7 @@ _INSTALLED = _HERE.parents[1] / "bin" / NAME  # of PREFIX/lib/ovl_layers, where 
 # The option of each command that reads contents.
 _WORDS_ON_CONTENTS: tuple[str, ...] = ("--any-size",)
 _LAST_BYTES = 4_096
+_FAULT, _FAULT_OF_CONTENTS = "fault ", "fault blob-"  # how lines of a report begin
 
 
 class Refused(Fault):
@@ -128,7 +129,8 @@ def run_program(program: str, words: Sequence[str], folder: str, report: str, fa
     if status < 0:
         raise Refused(f"{NAME} {words[0]} was ended by signal {-status}; nothing is written", OTHER)
     if status > 0:
-        raise Refused(f"{NAME} {words[0]} ended with status {status}; nothing is written", status)
+        first = _first_fault(report) if status == FAULTY else ""
+        raise Refused(f"{NAME} {words[0]} ended with status {status}; nothing is written{first}", status)
     return _last_line(report)
 
 
@@ -141,6 +143,16 @@ def _messages(process: "subprocess.Popen[bytes]", progress: Progress) -> bytes:
             progress.step(0)
     finally:
         progress.end()
+
+
+def _first_fault(report: str) -> str:
+    """What is said of the first fault in a report, if there is one. Most are of layers that stand in another order."""
+    with reading(report), open(report, encoding="ascii", errors="backslashreplace") as file:
+        fault = next((line.strip() for line in file if line.startswith(_FAULT)), None)
+    if fault is None:
+        return ""
+    is_of_layers = not fault.startswith(_FAULT_OF_CONTENTS)
+    return f"; the first fault is: {fault.removeprefix(_FAULT)}" + " (is the topmost layer first?)" * is_of_layers
 
 
 def _copy(report: str, out: IO[str]) -> None:

@@ -248,7 +248,7 @@ class Refused(RewriteTest):
         for command in COMMANDS:
             status, printed, messages = call(command, "--stack", *layers, "--out", self.path("new.squashfs"))
             self.assertEqual((status, printed), (1, "note orphan-whiteout 0 /lost\nfault redirect-lost 0 /n\nfaults 1 notes 1\n"))
-            self.assertIn(f"ovl_layers {command} ended with status 1; nothing is written", messages.splitlines()[-1])
+            self.assertIn(f"ovl_layers {command} ended with status 1; nothing is written; the first fault is: redirect-lost 0 /n (is the", messages.splitlines()[-1])
             self.require_nothing_left("in")
 
     def test_something_else_is_shown(self) -> None:
