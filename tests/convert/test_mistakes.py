@@ -126,7 +126,7 @@ class Places(FolderTest):
         for word, said in (
             ("docker-daemon:shop:flat", "docker load"), ("containers-storage:shop", "podman load"),
             ("docker://reg/shop:flat", "skopeo copy oci:DIR docker://NAME"), ("tarball:x", "docker-archive:FILE.tar"),
-            ("shop:flat", "is an image's name: say docker-archive:FILE.tar:shop:flat"), ("z.squashfs", "layers flatten --stack"),
+            ("shop:flat", "is an image's name: say docker-archive:FILE.tar:shop:flat"), ("z.squashfs", "layers flatten --rootfs"),
             ("z.ext4", "a folder or a .tar"), ("z.img", "a folder or a .tar"),
         ):
             with self.subTest(word), self.assertRaises(Fault) as found:
