@@ -198,17 +198,17 @@ class Plain(Reader):
 
 
 class Watched(Reader):
-    """Reads a part of a file, and counts its bytes on the progress."""
+    """Reads a part of a file, or what a program writes, and counts its bytes on the progress."""
 
-    def __init__(self, part: Slice, progress: Progress) -> None:
+    def __init__(self, part: Source, progress: Progress) -> None:
         super().__init__()
         self._part = part
         self._progress = progress
-        progress.expect(part.size())
+        progress.expect(part.size() if isinstance(part, Slice) else None)
 
     def readinto(self, buffer: bytearray | memoryview) -> int:  # type: ignore[override]
         """Reads what fits."""
-        count = self._part.readinto(buffer)
+        count = self._part.readinto(buffer) or 0
         self._progress.step(count)
         return count
 

@@ -21,7 +21,7 @@ from ..model.manifests import read_manifest
 from ..squashfs import programs as squashfs
 from ..squashfs.layer_files import Form, tree_of_file
 from ..squashfs.limits import attributes_problem, fitted, owners_problem, without_sockets
-from ..tar.headers import HARD_LINK, Header
+from ..tar.headers import BLOCK_BYTES, HARD_LINK, Header
 from ..tar.writer import TYPES, TarWriter, record_bytes
 from .build import BuildOptions, build, entry_problem
 
@@ -122,7 +122,7 @@ _ARCHIVE = _Kind(without_sockets, _archive_problem, lambda _: None)
 
 def _write_archive(entries: list[Entry], options: BuildOptions, archive: TarWriter, is_plain: bool) -> None:
     """Writes all entries. In an archive that stays one, more names of a file repeat all of it, as some unpackers need."""
-    firsts, progress = FirstNames(), Progress("building entries", len(entries))
+    firsts, progress = FirstNames(), Progress("building", sum(BLOCK_BYTES + entry.size for entry in entries))
     for entry in entries:
         header, first = _header(entry, options.userxattr), firsts.before(entry)
         if first is not None:
@@ -133,7 +133,7 @@ def _write_archive(entries: list[Entry], options: BuildOptions, archive: TarWrit
             for piece in contents_of(entry, options.blobs) if entry.names_contents() else _zeros(entry.size):
                 archive.data(piece)
             archive.end_data(entry.size)
-        progress.step()
+        progress.step(BLOCK_BYTES + entry.size)
     archive.end()
     progress.end()
 

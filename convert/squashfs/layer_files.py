@@ -1,6 +1,7 @@
 """A layer that is one file: a squashfs, or a plain archive of the layer's folder."""
 
 import contextlib
+import io
 import os
 import stat
 from collections.abc import Iterator
@@ -8,6 +9,7 @@ from dataclasses import dataclass, field
 from enum import Enum, auto
 
 from ..common.budgets import Budget
+from ..common.contents import PIECE
 from ..common.faults import TarFault, cannot_read, reading
 from ..common.omissions import Loss, Losses, ScanLosses
 from ..common.open_dirs import READ_WHERE_IT_LEADS
@@ -108,14 +110,14 @@ class _FileLayer:
 
     @contextlib.contextmanager
     def archive(self, progress: Progress) -> Iterator[Source]:
-        """The bytes of its archive. Those that a program makes of a squashfs aren't counted."""
+        """The bytes of its archive."""
         if self.form is Form.ARCHIVE:
             with unpacked(Watched(Slice(self.file, 0, self.size()), progress), self.path) as stream:
                 yield stream
             return
         try:
             with squashfs.archive_of(self.file, self.path, self.sockets.append) as stream:
-                yield stream
+                yield io.BufferedReader(Watched(stream, progress), PIECE)
         except TarFault as problem:
             raise cannot_read(self.path, f"its squashfs is broken: {problem}") from problem
 
