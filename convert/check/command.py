@@ -103,11 +103,12 @@ def _of_shown(options: CheckOptions, shown: Shown, folder: str) -> _Answer:
     run_program(require_program(()), words, folder, _CHECKED, None)
     sizes = sizes_of(shown.layers, shown.data_layers, shown.report)
     waste = waste_of(sizes, base)
+    contents = Contents(blobs)
     with opened_tree(shown.report) as tree:
         return _Answer(ordered(itertools.chain(
-            stack_findings(f"{folder}/{_CHECKED}"), credential_findings(sizes, blobs),
+            stack_findings(f"{folder}/{_CHECKED}"), credential_findings(sizes, contents),
             _waste_findings(waste, options.max_waste),
-            configuration_findings(shown.configuration, tree, Contents(blobs)) if shown.configuration is not None else (),
+            () if shown.configuration is None else configuration_findings(shown.configuration, tree, contents),
         )), options.is_strict, waste)
 
 

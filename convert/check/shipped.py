@@ -1,13 +1,11 @@
 """Files with keys and credentials that the layers ship: those that are shown, and those that were deleted or replaced."""
 
-import os
 from collections.abc import Iterator
 from dataclasses import dataclass
 
-from ..common.faults import reading
-from ..model.blobs import blob_path, opened_blob
 from ..model.merged_tree import LayerFile
 from ..sizes.layer_sizes import Sizes
+from .contents import Contents
 from .credentials import KEY, MARK, credential_in, may_be_key
 from .findings import Finding, Level
 
@@ -23,9 +21,9 @@ class _Secret:
     what: str
 
 
-def credential_findings(sizes: Sizes, blobs: str) -> Iterator[Finding]:
+def credential_findings(sizes: Sizes, contents: Contents) -> Iterator[Finding]:
     """The files of all layers whose names are those of keys and credentials."""
-    secrets = list(_secrets(sizes, blobs))
+    secrets = list(_secrets(sizes, contents))
     shown = {it.file.blob for it in secrets if it.file.uses}
     for it in secrets:
         if it.file.uses:
@@ -35,16 +33,14 @@ def credential_findings(sizes: Sizes, blobs: str) -> Iterator[Finding]:
             yield Finding(Level.WARNING, "credential-deleted", words, it.path, it.file.layer)
 
 
-def _secrets(sizes: Sizes, blobs: str) -> Iterator[_Secret]:
+def _secrets(sizes: Sizes, contents: Contents) -> Iterator[_Secret]:
     for file in [*sizes.shown, *(one.file for one in sizes.not_shown)]:
         for path in file.names():
-            what = credential_in(path) or (KEY if may_be_key(path) and _has_mark(file, blobs) else None)
+            what = credential_in(path) or (KEY if may_be_key(path) and _has_mark(file, contents) else None)
             if what:
                 yield _Secret(file, path, what)
 
 
-def _has_mark(file: LayerFile, blobs: str) -> bool:
+def _has_mark(file: LayerFile, contents: Contents) -> bool:
     """Whether the beginning of a file has the mark of a private key."""
-    digest = file.blob.hex()
-    with opened_blob(blobs, digest, file.size) as blob, reading(blob_path(blobs, digest)):
-        return MARK in os.pread(blob, _MOST_READ, 0)
+    return MARK in contents.part_of_blob(file.blob.hex(), file.size, 0, _MOST_READ)

@@ -400,7 +400,7 @@ class WithProgram(FolderTest):
             self.skipTest("the program isn't built")
         image = self.path("image")
         os.mkdir(image)
-        written = [archive(_TREE), archive([member(".wh.nothing"), folder("bin"), member("bin/.wh.run")])]
+        written = [archive([*_TREE, member("a.pem", _KEY)]), archive([member(".wh.nothing"), folder("bin"), member("bin/.wh.run")])]
         put_index(image, [put_manifest(image, written, written, "linux/amd64", {
             "os": "linux", "architecture": "amd64", "config": {"Cmd": ["run"]},
         })])
@@ -413,6 +413,11 @@ class WithProgram(FolderTest):
         with open(f"{blobs}/{min(os.listdir(blobs))}", "r+b") as file:
             file.write(b"?")
         self.assertIn("fault blob-digest 1 ", call("check", self.path("stack"))[1])
+        shutil.rmtree(blobs)
+        os.mkdir(blobs)
+        status, printed, _ = call("check", self.path("stack"))
+        self.assertEqual(status, 1)
+        self.assertIn("fault blob-missing 1 /etc/passwd: the contents are missing\n", printed)
 
 
 if __name__ == "__main__":
