@@ -11,7 +11,7 @@ from enum import Enum
 from ..common.faults import UsageFault, cannot_write, writing
 from ..common.omissions import Loss, Losses
 from ..common.open_dirs import place_of
-from ..common.outputs import NEW, folder_made, new_file, note_stages_beside, require_empty, write_text
+from ..common.outputs import NEW, STANDARD_OUTPUT, folder_made, new_file, note_stages_beside, require_empty, write_text
 from ..common.progress import counted, layers_at_work, note_path
 from ..common.stages import Stage
 from ..folder.build import BuildOptions, build
@@ -112,6 +112,8 @@ def require_sound(options: NewLayersOptions) -> list[Form]:
 
 def require_place(options: NewLayersOptions) -> None:
     """Refuses at once a place where nothing could be written in the end."""
+    if options.out == STANDARD_OUTPUT:
+        raise UsageFault(f"--out {options.out}: a tree goes to a folder or a file, not to standard output; name it ./{options.out}")
     if options.layers > 1 and options.out.endswith(tuple(SUFFIXES)):
         raise UsageFault("with --layers over 1 --out is a folder of layers; --form squashfs makes them squashfs files")
     _require_outside(options)

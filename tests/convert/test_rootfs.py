@@ -77,6 +77,7 @@ class Rootfs(BaseTest):
         ):
             self.require_fault(self.flatten("--rootfs", *words, out=out), 2, problem)
             self.left()
+        self.require_fault(call("flatten", self.image, "--rootfs", "--out", "-"), 2, "a tree goes to a folder or a file")
 
     def test_nothing_is_left(self) -> None:
         with open(self.program, encoding="utf-8") as file:
