@@ -368,6 +368,10 @@ class InBrowser(PageTest):
     def test_search(self) -> None:
         """All paths: files of every layer, and what has no bytes."""
         self.browser.open(self.page)
+        links = "[...document.querySelectorAll('#advice a')]"
+        self.click(f"{links}.find(e => e.textContent === {json.dumps('/' + _EVIL)})")
+        self.assertEqual((self.way(), self.view()), (f"/{_EVIL}", "wasted"))
+        self.browser.press("Escape")
         self.type("GON")
         self.assertEqual(self.rows("files"), [["7.9K", "3", "removed in 2/4", "/usr/gone"]])
         self.type("/usr")
@@ -385,7 +389,8 @@ class InBrowser(PageTest):
         self.assertEqual((self.view(), self.views()["wasted"]), ("shown", 0))
         self.assertEqual(self.rows("by-directory")[0], ["40K", "1", "/usr/lib/"])
         self.click("document.querySelector('[data-view=wasted]')")
-        self.assertEqual((self.rows("files"), self.value("document.querySelector('.map').textContent")), ([], "Nothing to draw"))
+        self.assertEqual(self.rows("files"), [])
+        self.assertEqual(self.value("document.querySelector('.map').textContent"), "Nothing to draw")
 
     def test_it_fits(self) -> None:
         """Light and dark, wide and narrow: nothing sticks out, and duplicates are told by more than their colour."""

@@ -4,6 +4,7 @@ import html
 import itertools
 from collections.abc import Iterable, Iterator, Sequence
 from dataclasses import dataclass
+from urllib.parse import quote
 
 from ...common.escaping import printable
 
@@ -14,10 +15,17 @@ _MOST_TEXT = 500_000  # bytes of the texts of a list
 
 @dataclass(frozen=True)
 class Column:
-    """A column of a list: its head, and the classes of its fields."""
+    """A column of a list: its head, the classes of its fields, and whether these lead to places on the map."""
 
     head: str
     kind: str
+    is_link: bool = False
+
+    def field(self, value: str) -> str:
+        """A text as a field of it."""
+        if not self.is_link:
+            return text(value)
+        return f'<a href="#path={quote(printable(value))}">{text(value)}</a>'
 
 
 BYTES = Column("Bytes", "number")
@@ -25,6 +33,7 @@ FILES = Column("Files", "number files")
 LAYER = Column("Layer", "number of-layer")
 WHY = Column("Why", "why")
 PATH = Column("Path", "path")
+PLACE = Column("Path", "path", is_link=True)
 DIRECTORY = Column("Directory", "path")
 COMMAND = Column("Command", "text")
 
@@ -36,7 +45,7 @@ def text(value: str) -> str:
 
 def listing(columns: Sequence[Column], rows: Iterable[Sequence[str]]) -> Iterator[str]:
     """A list: its first rows, and the rest behind a line to open; within a bound on its texts."""
-    fitting = list(_fitting(rows))
+    fitting = list(_fitting(columns, rows))
     if not fitting:
         yield "<p>Nothing</p>\n"
         return
@@ -47,9 +56,9 @@ def listing(columns: Sequence[Column], rows: Iterable[Sequence[str]]) -> Iterato
         yield "</details>\n"
 
 
-def _fitting(rows: Iterable[Sequence[str]]) -> Iterator[list[str]]:
+def _fitting(columns: Sequence[Column], rows: Iterable[Sequence[str]]) -> Iterator[list[str]]:
     """The rows as they are in the page, as far as there is room for them."""
-    marked = [list(map(text, row)) for row in rows]
+    marked = [[column.field(value) for column, value in zip(columns, row)] for row in rows]
     sizes = itertools.accumulate(sum(len(field.encode()) for field in row) for row in marked)
     return (row for row, size in zip(marked, sizes) if size <= _MOST_TEXT)
 

@@ -7,7 +7,7 @@ from ..advice import Advice, smaller_text, worth_listing
 from ..layer_sizes import LayerSizes, NotShown, Sizes
 from ..texts import Origin, cause_text, command_text, layer_text, not_shown_text, packed_sum
 from ..waste import Place, Waste, cause_of
-from .markup import BYTES, COMMAND, DIRECTORY, FILES, LAYER, MOST_OF_COMMAND, PATH, WHY, Column, listing, text
+from .markup import BYTES, COMMAND, DIRECTORY, FILES, LAYER, MOST_OF_COMMAND, PATH, PLACE, WHY, Column, listing, text
 
 _MOST_FILES = 1_000
 _MOST_DIRECTORIES = 200
@@ -28,7 +28,8 @@ def layer_table(sizes: Sizes, origins: Sequence[Origin]) -> Iterator[str]:
     for number, (own, origin) in enumerate(zip(sizes.layers, origins)):
         yield f'<tr data-layer="{number}"><td class="number layer">{_key(number, "shown")} '
         yield f'<a href="#layer={number}">{number}</a>' + f'<td class="number step">{origin.step}' * has_steps
-        yield f'<td class="made">{text(command_text(origin, MOST_OF_COMMAND))}{_bar(number, own, most)}{_numbers(own, origin.packed)}</tr>\n'
+        yield f'<td class="made">{text(command_text(origin, MOST_OF_COMMAND))}{_bar(number, own, most)}'
+        yield f"{_numbers(own, origin.packed)}</tr>\n"
     yield '</tbody>\n<tfoot><tr><th class="number layer">sum' + '<td class="step">' * has_steps + '<td class="made">'
     yield f"{_numbers(sizes.sums, packed_sum(origins))}</tr></tfoot>\n</table>\n</section>\n"
 
@@ -73,7 +74,7 @@ def advice_list(advice: Sequence[Advice], origins: Sequence[Origin], waste: Wast
         yield "<p>Nothing: no bytes are wasted, and no cache of a package manager is there.</p>\n</section>\n"
         return
     listed = worth_listing(advice, waste.total)
-    columns = (BYTES, FILES, Column("In", "why"), Column("What it is", "text"), Column("What saves it", "text"), PATH)
+    columns = (BYTES, FILES, Column("In", "why"), Column("What it is", "text"), Column("What saves it", "text"), PLACE)
     yield from listing(columns, (
         (
             size_text(it.bytes), f"{it.file_count:,}", layer_text(origins, it.layer), it.what, it.remedy,

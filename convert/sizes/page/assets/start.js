@@ -46,7 +46,7 @@ class Explorer {
     const before = this.state;
     this.state = stateOf(this.tree, location.hash);
     this.draw();
-    if (this.state.layer !== null && this.state.layer !== before.layer) this.part("h2").scrollIntoView();
+    if (this.part("h2").getBoundingClientRect().top > innerHeight) this.part("h2").scrollIntoView();
     if (document.activeElement === document.body) this.focus(before.node);
   }
 
