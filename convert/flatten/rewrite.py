@@ -87,7 +87,8 @@ class _Rewriter(StackRunner):
         given = stacks.layer_paths(STACK, self.unpack())
         new, below = self._rewritten(given), given[self._rewriting.taken():]
         require_same(self, given, [new, *below])
-        self._report_links([new, *below])
+        if self._rewriting.rewriting is not Rewriting.VACUUM:  # which has seen to them
+            self._report_links([new, *below])
         self.pack([new], below)
         return new
 
