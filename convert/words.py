@@ -206,11 +206,11 @@ _REWRITING = """\
 The proved program ovl_layers does it, and first checks the layers; its report
 goes to standard output. LAYER is a folder, a squashfs, a tar archive of a
 folder, or a manifest with --blobs, the topmost first. The new layer is a
-squashfs if the name of --out ends in .squashfs, else a folder. It is written
-only if all layers, with it read again in place of those given, show the same;
-the given ones stay as they are. Names that are one file (hard links) stay so,
-except with names in layers below. Sockets, and times below a second, aren't in
-a squashfs, which is counted and printed."""
+folder, or a squashfs or a tar archive if the name of --out ends in .squashfs
+or .tar. It is written only if all layers, with it read again in place of those
+given, show the same; the given ones stay as they are. Names that are one file
+(hard links) stay so, except with names in layers below. Files have no sockets,
+and a squashfs no times below a second, which is counted and printed."""
 
 _VACUUM = f"""\
 Write the topmost layer of a stack without what changes nothing: files and

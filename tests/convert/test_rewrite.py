@@ -172,20 +172,25 @@ class Rows(RewriteTest):
         result = call("vacuum", "--stack", *self.stack(layers), "--out", self.path("in", "new.squashfs"))
         self.require_done(result)
         self.assertIn("1 time cut to whole seconds: /n\n", result[2])
+        result = call("vacuum", "--stack", *self.stack(layers), "--out", self.path("in", "new.tar"))
+        self.require_done(result)
+        self.assertNotIn("cut", result[2])
+        self.assertEqual(self.scanned(self.path("in", "new.tar"))[1][1].mtime_ns, 7_500_000_000)
 
     def test_sockets(self) -> None:
-        """One that a squashfs can't have hides what is below it all the same."""
+        """One that a file can't have hides what is below it all the same."""
         reason = why_no_trusted(self.folder)
         if reason:
             self.skipTest(reason)
-        upper, out = self.path("in", "upper"), self.path("in", "new.squashfs")
+        upper = self.path("in", "upper")
         os.mkdir(upper)
         with socket.socket(socket.AF_UNIX) as made:
             made.bind(f"{upper}/h")
-        result = call("deref", "--stack", upper, *self.stack([_BASE]), "--out", out)
-        self.require_done(result)
-        self.assertIn("1 socket left out, which archives don't have: /h\n", result[2])
-        self.assertEqual([text_of(entry) for entry in self.scanned(out)[1]], ["dir", "whiteout"])
+        for out in (self.path("in", "new.squashfs"), self.path("in", "new.tar")):
+            result = call("deref", "--stack", upper, *self.stack([_BASE]), "--out", out)
+            self.require_done(result)
+            self.assertIn("1 socket left out, which archives don't have: /h\n", result[2])
+            self.assertEqual([text_of(entry) for entry in self.scanned(out)[1]], ["dir", "whiteout"])
 
     def test_what_is_kept(self) -> None:
         layers = self.stack(ROWS[1].layers)
