@@ -228,7 +228,8 @@ def _flatten_rootfs(words: argparse.Namespace) -> None:
     from .image.compression import NONE
     from .image.images import image_place, paths_of_image
 
-    for name, is_given in (("base", words.base), ("layers", words.layers != 1), ("name", words.name), ("dry-run", words.dry_run)):
+    of_images = {"base": words.base, "layers": words.layers != 1, "name": words.name, "dry-run": words.dry_run}
+    for name, is_given in of_images.items():
         if is_given:
             raise UsageFault(f"--rootfs makes one tree and no image, without --{name}")
     if words.platform == ALL:

@@ -429,7 +429,8 @@ class _OldTag(argparse.Action):
     """The old word of --from-tag, which says so."""
 
     def __call__(
-        self, parser: argparse.ArgumentParser, namespace: argparse.Namespace, values: object, option_string: str | None = None,
+        self, parser: argparse.ArgumentParser, namespace: argparse.Namespace, values: object,
+        option_string: str | None = None,
     ) -> None:
         note("--tag is --from-tag: which of several images is read; --name names a new one")
         setattr(namespace, self.dest, values)

@@ -113,7 +113,7 @@ def require_sound(options: NewLayersOptions) -> list[Form]:
 def require_place(options: NewLayersOptions) -> None:
     """Refuses at once a place where nothing could be written in the end."""
     if options.out == STANDARD_OUTPUT:
-        raise UsageFault(f"--out {options.out}: a tree goes to a folder or a file, not to standard output; name it ./{options.out}")
+        raise UsageFault("--out -: a tree goes to a folder or a file, not to standard output; a folder of this name is ./-")
     if options.layers > 1 and options.out.endswith(tuple(SUFFIXES)):
         raise UsageFault("with --layers over 1 --out is a folder of layers; --form squashfs makes them squashfs files")
     _require_outside(options)

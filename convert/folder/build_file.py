@@ -1,4 +1,4 @@
-"""`build` of one file: a manifest and the contents of its files as a squashfs, or as a plain archive of the layer's folder."""
+"""`build` of one file: a manifest and the contents of its files as a squashfs, or a plain archive of the layer's folder."""
 
 import itertools
 import os

@@ -78,7 +78,9 @@ def pack(options: PackOptions) -> None:
     require_program(options.compress)
     types = types_beside([layer.described for layer in options.kept])
     if options.layers and options.compress.method not in types.methods:
-        raise UsageFault(f"layers that stay have docker's media types, which know no {options.compress.method}: say --compress gzip")
+        raise UsageFault(
+            f"layers that stay have docker's media types, which know no {options.compress.method}: say --compress gzip"
+        )
     annotations = read_annotations(options.annotations) if options.annotations is not None else {}
     given = _Given(_given_configuration(options), annotations)
     layers = [list(_packable(path, options)) for path in reversed(options.layers)]

@@ -3,12 +3,12 @@
 from dataclasses import dataclass
 
 _SYSTEMS = frozenset([
-    "linux", "windows", "darwin", "freebsd", "netbsd", "openbsd", "dragonfly", "solaris", "illumos", "plan9", "android", "js",
-    "wasip1", "aix", "zos",
+    "linux", "windows", "darwin", "freebsd", "netbsd", "openbsd", "dragonfly", "solaris", "illumos", "plan9", "android",
+    "js", "wasip1", "aix", "zos",
 ])
 _MACHINES = frozenset([
-    "386", "amd64", "arm", "arm64", "loong64", "mips", "mipsle", "mips64", "mips64le", "ppc64", "ppc64le", "riscv64", "s390x",
-    "sparc64", "wasm",
+    "386", "amd64", "arm", "arm64", "loong64", "mips", "mipsle", "mips64", "mips64le", "ppc64", "ppc64le", "riscv64",
+    "s390x", "sparc64", "wasm",
 ])
 _OTHER_NAMES = {
     "x86_64": ("amd64", None), "x86-64": ("amd64", None), "i386": ("386", None), "i686": ("386", None),
