@@ -163,6 +163,8 @@ def _take_mount(words: argparse.Namespace) -> None:
     image = getattr(words, "image", None)
     mount = layers_of_mount(image) if image and words.stack is None else None
     if mount is not None:
+        if getattr(words, "data_layers", 0):
+            raise UsageFault(f"--data-layers is for --stack; in {image} data-only layers come after ::")
         words.image, (words.stack, words.data_layers) = None, mount
 
 

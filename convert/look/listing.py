@@ -8,6 +8,7 @@ from dataclasses import dataclass
 from typing import IO, Any
 
 from ..common.amounts import size_text
+from ..common.colours import Colour, painted
 from ..common.escaping import printable
 from ..common.faults import ReadFault, UsageFault, reading, writing
 from ..common.outputs import passing_folder
@@ -141,7 +142,7 @@ class _Lister:
         """The line for a person."""
         line, options = row.place.line, self._options
         if row.is_whiteout:
-            return f"- {name_text(line.path)}\n"
+            return f"{painted('-', Colour.RED)} {name_text(line.path)}\n"
         fields = [
             stat.filemode(_MODES[line.kind] | int(line.mode, 8)), line.uid.rjust(_OWNER_WIDTH), line.gid.rjust(_OWNER_WIDTH),
             self._size(line).rjust(_EXACT_WIDTH if options.exact else _SIZE_WIDTH), time_text(line.mtime, options.full_time),

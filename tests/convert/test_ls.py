@@ -194,6 +194,7 @@ class Listed(ImageTest):
         self.assertEqual(self.ls("-R"), _LISTED)
         self.assertEqual(self.ls("--removed"), _REMOVED)
         self.assertEqual(self.ls("--layer", 1), _OF_A_LAYER)
+        self.assertEqual(self.ls("--layer", 1, "--color", "always"), _OF_A_LAYER.replace("- /", "\x1b[31m-\x1b[0m /"))
         for words, lines in (
             (["/etc"], _LISTED.splitlines()[3:7]), (["etc/d/"], _LISTED.splitlines()[5:7]), (["/bin/app"], _LISTED.splitlines()[4:5]),
             (["/bin"], _LISTED.splitlines()[2:3]), (["/bin/"], _LISTED.splitlines()[3:7]), (["--bytes", "--", "/bin"], _BIN), (["/etc", "--no-recursive"], _LISTED.splitlines()[3:6]),
@@ -267,6 +268,7 @@ class Listed(ImageTest):
             (["ls", "image", "--layer", "1", "/absent"], 3, "there is nothing of layer 1 at /absent"),
             (["ls", "image", "--removed", "/bin"], 3, "there is nothing of a layer that isn't shown at /bin"),
             (["ls", "lowerdir=a::b:c"], 2, "data-only ones after :: each"), (["ls", "lowerdir=a:"], 2, "lowerdir=UPPER:LOWER"),
+            (["ls", "lowerdir=a:b", "--data-layers", "1"], 2, "in lowerdir=a:b data-only layers come after ::"),
             (["ls", "/x", "y", "--stack", "image"], 2, "with --stack a PATH alone"), (["cat", "image", "/etc"], 3, "/etc is a directory"),
             (["cat", "image", "/null"], 3, "/null is a device"), (["cat", "image", "/loop"], 3, "/loop is reached by too many links"),
             (["cat", "image"], 2, "name the PATH of a file"),
