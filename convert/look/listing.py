@@ -149,7 +149,14 @@ class _Lister:
             self._layer(row.place), name_text(line.path),
         ]
         target = f" -> {name_text(line.what)}" if line.kind == SYMLINK else ""
-        return f"{' '.join(fields)}{target}{row.marks}\n"
+        return f"{' '.join(fields)}{target}{row.marks}{self._hider(row.place)}\n"
+
+    def _hider(self, place: Place) -> str:
+        """With which layer it went."""
+        if place.hidden_by is None:
+            return ""
+        making = f" {self._making_texts[place.hidden_by].rstrip()}" if self._options.with_making else ""
+        return f" ({'replaced' if place.is_replaced else 'removed'} by {place.hidden_by}{making})"
 
     def _size(self, line: ShowLine) -> str:
         """What `ls` has in the place of the size."""
@@ -171,6 +178,8 @@ class _Lister:
         members: dict[str, Any] = {"path": decoded(line.path), "layer": place.layer}
         if place.contents_layer is not None:
             members["contents-layer"] = place.contents_layer
+        if place.hidden_by is not None:
+            members["replaced-by" if place.is_replaced else "removed-by"] = place.hidden_by
         if self._options.with_making:
             members["made-by"] = self._making[place.layer]
         members |= object_of(line)

@@ -63,10 +63,10 @@ lrwxrwxrwx     0     0     8 1970-01-01 00:00 0 /s/root -> /etc/app
 """
 _BIN = ["lrwxrwxrwx     0     0            9 1970-01-01 00:00 0 /bin -> /etc/d/.."]
 _REMOVED = """\
--rw-r--r--     0     0     3 1970-01-01 00:00 2 /etc/app
--rw-r--r--     0     0     1 1970-01-01 00:00 2 /etc/d/x
--rw-r--r--     0     0     6 1970-01-01 00:00 2 /etc/key
--rw-r--r--     0     0  2.0K 1970-01-01 00:00 2 /gone
+-rw-r--r--     0     0     3 1970-01-01 00:00 2 /etc/app (replaced by 1)
+-rw-r--r--     0     0     1 1970-01-01 00:00 2 /etc/d/x (removed by 1)
+-rw-r--r--     0     0     6 1970-01-01 00:00 2 /etc/key (removed by 1)
+-rw-r--r--     0     0  2.0K 1970-01-01 00:00 2 /gone (removed by 1)
 """
 _OF_A_LAYER = """\
 drwxr-xr-x     0     0     - 1970-01-01 00:00 1 /
@@ -114,10 +114,18 @@ class Definitions(FolderTest):
             }
             with self.subTest(seed=seed):
                 self.assertEqual([(unescaped(it.line.path).decode(), it.layer, it.contents_layer) for it in found.shown()], wanted)
-                listed = [(unescaped(it.line.path).decode(), it.layer) for it in found.not_shown()]
+                places = list(found.not_shown())
+                listed = [(unescaped(it.line.path).decode(), it.layer) for it in places]
                 self.assertEqual((set(listed), len(listed)), (not_shown, len(not_shown)))
                 self.assertEqual(listed, sorted(listed, key=lambda it: (it[0].split("/"), it[1])))
-        self.assertEqual(met, {"own", "other"})
+                by_top = [used_from(stack, top) for top in range(len(layers) + 1)]
+                for place in places:
+                    own = (place.layer, unescaped(place.line.path).decode())
+                    hiders = [top for top in range(place.layer) if own in by_top[top + 1] and own not in by_top[top]]
+                    if place.line.kind == "file" or seed % 2:
+                        self.assertEqual([place.hidden_by] * (place.hidden_by is not None), hiders, own)
+                    met.add("replaced" if place.is_replaced else "removed")
+        self.assertEqual(met, {"own", "other", "replaced", "removed"})
 
     def layers(self, layers: list[list[Entry]], stack: PlainStack, data_layers: int) -> Layers:
         """The stack in files."""
@@ -146,6 +154,12 @@ class Definitions(FolderTest):
                         file.writelines([*lines[:number], " ".join(other) + "\n", *lines[number + 1:]])
                     with self.subTest(line=line, place=place), self.assertRaisesRegex(Exception, "shows something else at"):
                         list(found.shown())
+
+
+def used_from(stack: PlainStack, top: int) -> set[tuple[int, str]]:
+    """The entries that the layers from one down show, or whose contents they show."""
+    places = {place for path in stack.paths(top) for place in (stack.shown(path, top), stack.contents(path, top))}
+    return {(place[0], text_of(place[1])) for place in places if place is not None}
 
 
 def _without_redirect(entry: Entry) -> Entry:
@@ -209,7 +223,7 @@ class Listed(ImageTest):
             (["--bytes"], "-rw-r--r--     0     0         1500 1970-01-01 00:00 0 /a\\x0a b"),
             (["--long-layer"], "-rw-r--r--     0     0  1.5K 1970-01-01 00:00 0 -      /a\\x0a b"),
             (["--long-layer"], "-rwsr-xr-x     0     0     4 1970-01-01 00:00 1 RUN rm /etc/app"),
-            (["--long-layer", "--removed"], "-rw-r--r--     0     0     3 1970-01-01 00:00 2 ADD /  /etc/app"),
+            (["--long-layer", "--removed"], "-rw-r--r--     0     0     3 1970-01-01 00:00 2 ADD /  /etc/app (replaced by 1 RUN rm)"),
         ):
             with self.subTest(words):
                 self.assertIn(line, self.ls(*words).splitlines())
