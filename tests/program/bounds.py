@@ -4,12 +4,13 @@
 Python 3.11, standard library, and valgrind; without valgrind it says so and ends with 0. No contract says what anything
 costs: a body that asks every code of every entry, makes a view anew for each name, digests a blob again for each name that
 it has, halves a list so that one half is all of it, or compares paths byte by byte, gives the same bytes. So the
-instructions of one run of each stack are counted, and may be no more than its bound, at most a few tenths over what it took
+instructions of one run of each stack are counted, and may be no more than its bound, a fifth over what it took
 as it was bounded. The same program takes the same number of instructions, but for some hundreds that come of the
 environment. A lock for each directory would be few instructions more, so those that no other
 processor's may come between are counted apart.
 
     python3 tests/program/bounds.py --program crates/ovl_layers/out/ovl_layers
+    python3 tests/program/bounds.py --program P --beside Q    # bounds are what Q takes and a fifth
 """
 import argparse
 import hashlib
@@ -28,11 +29,19 @@ from small_layers import Layer, write
 
 CONTENTS = b"x" * 65_536
 NAME = hashlib.sha256(CONTENTS).hexdigest()
+OTHERS = tuple(b"%d" % n * 100 for n in range(200))
+# How much more a stack may cost than it did.
+MORE = 1.2
 
 
 def plain(count: int, nanoseconds: int = 0) -> Layer:
     """Empty files in one directory."""
     return [entry("/d")] + [entry(f"/d/f{n:05d}", "file", size=0) | {NSEC: nanoseconds} for n in range(count)]
+
+
+def deep(depth: int, count: int) -> Layer:
+    """Files in a directory that lies deep."""
+    return way(depth) + [entry(f"{'/d' * depth}/f{n:05d}", "file", size=0) for n in range(count)]
 
 
 def named_alike(count: int) -> Layer:
@@ -53,17 +62,21 @@ def moved(count: int) -> Layer:
         entry(f"/d{n:05d}", "char", major=0, minor=0) for n in range(count)]
 
 
+def of_contents(contents: tuple[bytes, ...]) -> Layer:
+    return [entry(f"/f{n:03d}", "file", size=len(it), blob=hashlib.sha256(it).hexdigest()) for n, it in enumerate(contents)]
+
+
 def way(depth: int) -> list[Entry]:
     """Directories in each other."""
     return [entry("/d" * n) for n in range(1, depth + 1)]
 
 
-def copied(depth: int, count: int) -> tuple[Layer, ...]:
-    """Metacopy files deep in layers, over their contents in the lowest one."""
+def copied(depth: int, count: int, between: int = 10) -> tuple[Layer, ...]:
+    """Metacopy files deep in layers, over their contents in the lowest one, with layers of only their directories between these."""
     names = [f"{'/d' * depth}/f{n:04d}" for n in range(count)]
     upper = way(depth) + [entry(it, "file", {METACOPY: ""}, size=len(CONTENTS)) for it in names]
     lower = way(depth) + [entry(it, "file", size=len(CONTENTS), blob=NAME) for it in names]
-    return (upper, *[way(depth)] * 10, lower)
+    return (upper, *[way(depth)] * between, lower)
 
 
 def apart(layers: int, count: int) -> tuple[Layer, ...]:
@@ -78,25 +91,29 @@ def alike(count: int, names: int) -> Layer:
 
 @dataclass(frozen=True)
 class Bound:
-    """A command on layers, the topmost first, whether it reads the blob, the most millions of instructions, and its status."""
+    """A command on layers, the topmost first, the most millions of instructions, the contents that are there, and its status."""
 
     command: str
     layers: tuple[Layer, ...]
     millions: float
-    has_blob: bool = False
+    contents: tuple[bytes, ...] = ()
     status: int = 0
 
 
 BOUNDS = {
-    "a layer in which nothing is at fault": Bound("fsck", (plain(4_000),), 7.6),
-    "files whose contents are missing": Bound("fsck", (of_no_blob(4_000),), 14.2, status=1),
-    "files over the same files": Bound("vacuum", (plain(4_000, 1), plain(4_000)), 36.0),
-    "one content of many names": Bound("fsck", (named_alike(200),), 4.8, True),
-    "a directory of directories": Bound("show", (directories(2_000), directories(2_000)), 23.6),
-    "moved directories": Bound("deref", (moved(500), directories(500)), 29.2),
-    "metacopy files in a deep directory": Bound("deref", copied(20, 400), 15.2, True),
-    "many layers of other names": Bound("show", apart(128, 20), 15.9),
-    "places of many names that differ in the first": Bound("fsck", (alike(100, 1_000), []), 49.0, status=1),
+    "a layer in which nothing is at fault": Bound("fsck", (plain(4_000),), 7.5),
+    "files whose contents are missing": Bound("fsck", (of_no_blob(4_000),), 15.2, status=1),
+    "files over the same files": Bound("vacuum", (plain(4_000, 1), plain(4_000)), 29.8),
+    "files that are the same": Bound("vacuum", (deep(100, 2_000), deep(100, 2_000)), 62.6),
+    "one content of many names": Bound("fsck", (named_alike(200),), 4.8, (CONTENTS,)),
+    "contents of many names": Bound("fsck", (of_contents(OTHERS),), 8.5, OTHERS),
+    "a directory of directories": Bound("show", (directories(2_000), directories(2_000)), 22.6),
+    "moved directories": Bound("deref", (moved(500), directories(500)), 28.3),
+    "metacopy files in a deep directory": Bound("deref", copied(20, 400), 13.7, (CONTENTS,)),
+    "metacopy files over their contents": Bound("vacuum", copied(20, 400), 16.1, (CONTENTS,)),
+    "metacopy files and their contents": Bound("merge", copied(100, 400, 0), 37.9, (CONTENTS,)),
+    "many layers of other names": Bound("show", apart(128, 20), 15.1),
+    "places of many names that differ in the first": Bound("fsck", (alike(100, 1_000), []), 47.4, status=1),
 }
 
 
@@ -108,18 +125,19 @@ def words_of(program: str, bound: Bound, folder: str) -> list[str]:
     blobs, new = os.path.join(folder, "blobs"), os.path.join(folder, "new")
     for it in (blobs, new):
         os.mkdir(it)
-    if bound.has_blob:
-        with open(os.path.join(blobs, NAME), "wb") as out:
-            out.write(CONTENTS)
+    for contents in bound.contents:
+        with open(os.path.join(blobs, hashlib.sha256(contents).hexdigest()), "wb") as out:
+            out.write(contents)
     words = [program, bound.command, "--workers", "1"]
     words += ["--blobs", blobs] if bound.command != "show" else []
     words += ["--out", new] if bound.command not in ("show", "fsck") else []
     return words + write(folder, bound.layers)
 
 
-def counted(program: str, bound: Bound, folder: str) -> float:
+def counted(program: str, bound: Bound) -> float:
     """The instructions of a run, in millions."""
-    return instructions(words_of(program, bound, folder), (bound.status,)) / 1e6
+    with tempfile.TemporaryDirectory(prefix="ovl-bounds-") as folder:
+        return instructions(words_of(program, bound, folder), (bound.status,)) / 1e6
 
 
 def locked_each(program: str, folder: str) -> float:
@@ -130,15 +148,16 @@ def locked_each(program: str, folder: str) -> float:
 def main() -> None:
     words = argparse.ArgumentParser(description="Counts what small stacks cost, and refuses more.")
     words.add_argument("--program", required=True, help="path of the program")
+    words.add_argument("--beside", metavar="PROGRAM", help="take what another program costs, and a fifth, for bounds")
     given = words.parse_args()
     if not shutil.which("valgrind"):
         sys.exit(print("bounds.py: skipped, as valgrind isn't here"))
     program, over = os.path.abspath(given.program), 0
     for name, bound in BOUNDS.items():
-        with tempfile.TemporaryDirectory(prefix="ovl-bounds-") as folder:
-            millions = counted(program, bound, folder)
-        over += millions > bound.millions
-        print(f"{bound.command} of {name}: {millions:.1f} million instructions, at most {bound.millions:.1f}", flush=True)
+        most = counted(os.path.abspath(given.beside), bound) * MORE if given.beside else bound.millions
+        millions = counted(program, bound)
+        over += millions > most
+        print(f"{bound.command} of {name}: {millions:.1f} million instructions, at most {most:.1f}", flush=True)
     with tempfile.TemporaryDirectory(prefix="ovl-bounds-") as folder:
         each = locked_each(program, folder)
     over += each > LOCKED

@@ -474,6 +474,19 @@ for pair in '0 7' '2 3' '1 6' '5 5'; do
     done
     rm eight/*
 done
+# (Of contents all of which can't be read, each by a worker of its own at the same time, the first is reported too.)
+entries=
+for ((i = 0; i < 8; i++)); do
+    printf -v name '%d%061dff' "$i" 0
+    printf a > "eight/$name"
+    entries+=',{"blob":"'$name'","gid":0,"kind":"file","mode":420,"mtime":0,"mtime-nsec":0,"path":"/'$i'","size":1,"uid":0,"xattrs":{}}'
+done
+printf '{"entries":[%s%s],"overlay-layer":2}\n' "$root" "$entries" > eight.json
+for how in fsck 'fsck --any-size'; do
+    # shellcheck disable=SC2086
+    over='failing open ff 1 5' REFUSE_ON=1 REFUSE_WAIT=50 refuses 3 "cannot read eight/${name/#7/0}" $how --workers 8 --blobs eight eight.json
+done
+rm eight/*
 # (It grows, shrinks and is emptied while it is read, and never has the three bytes of its name.)
 mkdir restless new && printf abcd > "restless/$abc"
 (while :; do

@@ -87,6 +87,11 @@ def data_through_layers() -> Sources:
     return [[entry("/f", "file", {METACOPY: ""}, size=10)]] * 127 + [[full_file("/f", contents_of(0))]]
 
 
+def redirected_through_layers() -> Sources:
+    upper = [entry("/f", "file", {METACOPY: "", REDIRECT: "/g"}, size=10), whiteout("/g")]
+    return [upper, *[[file(f"/h{n}")] for n in range(126)], [full_file("/g", contents_of(0))]]
+
+
 def moved_with_odd_names(count: int) -> Sources:
     """Directories with a file each, of which each was moved, by its path or by its name."""
     old = [f"o{n}" + "o" * (n % 200) for n in range(count)]
@@ -148,7 +153,7 @@ def unlike_written() -> Sources:
     long = [entry(("/" + "n" * 199) * n) for n in range(1, 21)]
     attributes = {f"user.{n:02d}": "v" for n in range(40)}
     others = [entry("/l", "symlink", target="t" * 4_095), entry("/x", attrs=attributes)]
-    return [[*long, *others, entry("/f"), *(file(f"/f/{n:07d}") for n in range(150_000))]]
+    return [[*long, *others, entry("/f"), *(file(f"/f/{n:07d}") for n in range(180_000))]]
 
 
 def many_blobs(count: int) -> Sources:
@@ -172,6 +177,7 @@ def large() -> Iterator[Large]:
     yield Large("128 layers", many_layers)
     yield Large("a directory moved from under 127 layers", moved_over_layers)
     yield Large("data through 128 layers", data_through_layers, contents=few)
+    yield Large("data by a redirect through 128 layers", redirected_through_layers, contents=few)
     yield Large("redirects of 127 names", deep_redirect)
     yield Large("128 names", deep_layers)
     yield Large("360 names of 12,000 bytes", beyond_the_limits, ())
@@ -255,13 +261,15 @@ def cases(program: str) -> Iterator[tuple[str, Callable[[str], None]]]:
 def main() -> None:
     words = argparse.ArgumentParser(description="Makes what is large in one way, and runs every command on it.")
     words.add_argument("--program", required=True, help="path of the program")
+    words.add_argument("--only", metavar="WHAT", help="only what is printed so if it isn't as it should be")
     given = words.parse_args()
     with concurrent.futures.ProcessPoolExecutor() as pool:
-        done = [pool.submit(case, *it) for it in cases(os.path.abspath(given.program))]
+        chosen = [it for it in cases(os.path.abspath(given.program)) if given.only in (None, it[0])]
+        done = [pool.submit(case, *it) for it in chosen]
         differ = [it for it in (one.result() for one in done) if it is not None]
     print(*differ, sep="\n", end="\n" if differ else "")
     print(f"{len(done)} that are large, {len(differ)} not as they should be")
-    sys.exit(1 if differ else 0)
+    sys.exit(1 if differ or not done else 0)
 
 
 if __name__ == "__main__":

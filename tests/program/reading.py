@@ -216,6 +216,41 @@ def of_held(bench: Bench) -> Iterator[Count]:
             yield at_most(f"bytes held by {command} of {what} beside those of show", bench.met("held", words)[1] / shown, most)
 
 
+def of_rooms(bench: Bench) -> Iterator[Count]:
+    """The bytes that are held at once, an entry or a worker: room is made once, for what there is and no more, and rows go before
+    lines are written and layers are made of others."""
+    count, blobs, out = 20_000, str(bench.folder("none")), str(bench.folder("out"))
+    plain, root = bench.write("plain", files("/d", count)), bench.write("root", [])
+    noted = bench.write("noted", [entry(f"/d{n:05d}", attrs={OPAQUE: "z"}) for n in range(count)])
+    three = [bench.write(side, [entry("/d"), *(named(f"/d/{side}{n:05d}") for n in range(count))]) for side in "abc"]
+    upper, lower = ([entry(f"{top}/d{n:05d}") for n in range(count)] for top in ("/m", "/x"))
+    moved = [bench.write("moved", [entry("/m", attrs={REDIRECT: "/x"}), *upper, entry("/x", "char", major=0, minor=0)]),
+             bench.write("under", [entry("/x"), *lower])]
+    for what, words, entries, most in (
+            ("show", ["show", plain], count, 375),
+            ("fsck", ["fsck", "--blobs", blobs, plain], count, 325),
+            ("fsck of notes", ["fsck", "--blobs", blobs, noted], count, 1_165),
+            ("fsck below a moved directory", ["fsck", "--blobs", blobs, *moved], count, 1_250),
+            ("merge --down-to", ["merge", "--down-to", "1", "--blobs", blobs, "--out", out, *three], 3 * count, 360)):
+        yield at_most(f"bytes held an entry, {what}", bench.met("held", [*words, "--workers", "1"])[1] / entries, most)
+    yield at_most("bytes held a worker of 64", bench.met("held", ["show", "--workers", "64", root])[1] / 64, 8_000)
+
+
+def of_repeats(bench: Bench) -> Iterator[Count]:
+    """Requests for memory of what could be done twice: long places of moved directories are copied, and a layer that has escapes is
+    written, by several workers."""
+    deep, count, blobs = ["n" * 32] * 100, 1_000, str(bench.folder("none"))
+    layers = [[entry(top + "/".join(["", *deep[:n]])) for n in range(101)]
+              + [entry(top + "/".join(["", *deep, f"d{n:05d}"])) for n in range(count)] for top in ("/m", "/x")]
+    layers[0][0] = entry("/m", attrs={REDIRECT: "/x"})
+    written = [bench.write("upper", [*layers[0], entry("/x", "char", major=0, minor=0)]), bench.write("lower", layers[1])]
+    _, met = bench.met("memory", ["fsck", "--workers", "1", "--blobs", blobs, *written])
+    yield at_most("requests for memory of a long place", met / len(layers[1]), 16)
+    odd = bench.write("odd", [named(f'/"{n:05d}') for n in range(count)])
+    _, met = bench.met("memory", ["flatten", "--workers", "4", "--blobs", blobs, "--out", str(bench.folder("out")), odd])
+    yield at_most("requests for memory of an escape", met / count, 7)
+
+
 def of_lines(bench: Bench) -> Iterator[Count]:
     """Room is made for the lines of a report's shares before they are written, and for a new layer's manifest."""
     lines, layers = bench.write("lines", files("/d", 40_000)), one_directory(bench, 20_000)
@@ -274,7 +309,7 @@ def of_yields(bench: Bench) -> Iterator[Count]:
 
 
 PARTS: tuple[Callable[[Bench], Iterator[Count]], ...] = (
-    of_peaks, of_forms, of_manifests, of_commands, of_held, of_lines, of_starters, of_reads, of_opens, of_yields)
+    of_peaks, of_forms, of_manifests, of_commands, of_held, of_rooms, of_repeats, of_lines, of_starters, of_reads, of_opens, of_yields)
 
 
 def main() -> None:

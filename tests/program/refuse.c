@@ -6,6 +6,7 @@
    REFUSE_AT     the number of the first that is refused, counted from 1; 0, or nothing: none is
    REFUSE_ON     given: all after it are refused too
    REFUSE_ERROR  the number of the error; 0: the call moves no byte
+   REFUSE_WAIT   how many thousandths of a second a refused call of a file takes
    REFUSE_PATH   of the calls of files only those count whose path ends so; standard input and output have the paths
                  /dev/stdin and /dev/stdout
    REFUSE_MOST   the most bytes that a read or a write moves, for all files
@@ -22,13 +23,13 @@ extern long syscall(long, ...);
 extern void *dlsym(void *, const char *);
 extern char **environ;
 
-enum { READ = 0, WRITE = 1, OPEN = 2, CLOSE = 3, YIELD = 24, PROCESS = 39, CONTROL = 72, EMPTY = 77, THREAD = 186, LIST = 217, EXIT = 231, OPENAT = 257, STAT = 332 };
+enum { READ = 0, WRITE = 1, OPEN = 2, CLOSE = 3, YIELD = 24, SLEEP = 35, PROCESS = 39, CONTROL = 72, EMPTY = 77, THREAD = 186, LIST = 217, EXIT = 231, OPENAT = 257, STAT = 332 };
 enum { NO_MEMORY = 12, TRY_AGAIN = 11, LONGEST = 60, FILES = 1024, STARTERS = 1024, COPY = 1030 };
 /* For writing, made where it isn't there, emptied where it is. */
 enum { ANEW = 01 | 0100 | 01000 };
 
 static const char *what, *path, *told;
-static word at, most, met, refused;
+static word at, most, met, refused, pause;
 static long error;
 static int on, ready, weighs;
 static word held;
@@ -89,6 +90,8 @@ static int refuses_memory(void) {
 
 /* What a refused call of a file answers. */
 static long refusal(void) {
+    long time[2] = {0, (long)pause * 1000000};
+    if (pause) syscall(SLEEP, time, 0L);
     *__errno_location() = (int)error;
     return error ? -1 : 0;
 }
@@ -196,6 +199,7 @@ __attribute__((constructor)) static void begin(void) {
     at = number_of("REFUSE_AT");
     on = value_of("REFUSE_ON") != 0;
     error = (long)number_of("REFUSE_ERROR");
+    pause = number_of("REFUSE_WAIT");
     path = value_of("REFUSE_PATH");
     most = number_of("REFUSE_MOST");
     told = value_of("REFUSE_TOLD");
