@@ -27,15 +27,15 @@ _REPORT = _ROOT / "examples" / "root.show"
 _LOOK = 0.05  # seconds
 
 
-def compile_unproved(room: Path) -> Path:
-    """Has `rt try` compile the program, in a folder, and gives a copy of what it made."""
+def compile_unproved(room: Path, crate: Path = _CRATE) -> Path:
+    """Has `rt try` compile the program of a crate, in a folder, and gives a copy of what it made."""
     waiting, work = room / "layer", room / "work"
     os.mkfifo(waiting)
     work.mkdir()
     said, shown = room / "said", room / "shown"
     with said.open("wb") as err, shown.open("wb") as out, subprocess.Popen(
         ["rt", "try", "--", "show", str(waiting)],
-        cwd=_CRATE, stdin=subprocess.DEVNULL, stdout=out, stderr=err, env={**os.environ, "TMPDIR": str(work)},
+        cwd=crate, stdin=subprocess.DEVNULL, stdout=out, stderr=err, env={**os.environ, "TMPDIR": str(work)},
     ) as rt:
         try:
             layer = _once_read(waiting, rt)
