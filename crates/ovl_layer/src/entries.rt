@@ -44,7 +44,7 @@ pub fn from_entries(alloc: Global, entries: Vec<(Path, Inode)>) -> Result<Layer,
     let mut number = 0;
     for entry in entries {
         number += 1;
-        add_entry(alloc, &mut draft, number, stated(entry))?;
+        draft = draft.with_entry(alloc, number, stated(entry))?;
     }
     Ok(draft.finish()?)
 }
@@ -78,100 +78,106 @@ pub fn start_root(alloc: Global, root: Inode) -> Result<Draft, LayerFault>
     start_draft(alloc, stated((Path::root(alloc), root)))
 }
 
-/// Adds the entry of this number to a draft, if one is stated.
-pub fn add_entry(
-    alloc: Global,
-    draft: &mut Draft,
-    number: u32,
-    entry: Option<(Path, Inode)>,
-) -> Result<(), LayerFault>
-    requires draft { IsDraft draft.old }
-    requires number { number ≡ length (draft_entries draft.old) }
-    requires room { number < entry_limit }
-    requires stated { IfSome entry (λ stated. IsTrue (is_statable stated)) }
-    ensures { MatchResult result
-        (λ _. (entry_after (draft_entries draft.old) entry ≡ Ok (draft_entries draft.new))
-        × IsDraft draft.new)
-        (λ fault. IsFaultOf (entry_after (draft_entries draft.old) entry) fault) }
-{
-    let Some((path, inode)) = entry else {
-        return Err(LayerFault::Entry(number));
-    };
-    if has_escaped_name(&inode.attrs) {
-        return Err(LayerFault::Escaped(number));
+impl Draft {
+    /// The draft with one entry more, that of this number, if one is stated.
+    pub fn with_entry(
+        self,
+        alloc: Global,
+        number: u32,
+        entry: Option<(Path, Inode)>,
+    ) -> Result<Draft, LayerFault>
+        requires draft { IsDraft self }
+        requires number { number ≡ length (draft_entries self) }
+        requires room { number < entry_limit }
+        requires stated { IfSome entry (λ stated. IsTrue (is_statable stated)) }
+        ensures { MatchResult result
+            (λ more. (entry_after (draft_entries self) entry ≡ Ok (draft_entries more))
+            × IsDraft more)
+            (λ fault. IsFaultOf (entry_after (draft_entries self) entry) fault) }
+    {
+        let Some((path, inode)) = entry else {
+            return Err(LayerFault::Entry(number));
+        };
+        if has_escaped_name(&inode.attrs) {
+            return Err(LayerFault::Escaped(number));
+        }
+        if !self.comes_before(&path) {
+            return Err(LayerFault::Order(number));
+        }
+        if !self.has_parent(&path) {
+            return Err(LayerFault::NoParent(number));
+        }
+        let mut draft = self;
+        draft.enter(alloc, &path, inode)?;
+        Ok(draft)
     }
-    if !draft.comes_before(&path) {
-        return Err(LayerFault::Order(number));
-    }
-    if !draft.has_parent(&path) {
-        return Err(LayerFault::NoParent(number));
-    }
-    Ok(draft.enter(alloc, &path, inode)?)
-}
 
-/// The same for the entry `name` of a directory, of which no path is made.
-pub fn add_child(
-    alloc: Global,
-    draft: &mut Draft,
-    number: u32,
-    directory: &Path,
-    name: Name,
-    inode: Inode,
-) -> Result<(), LayerFault>
-    requires draft { IsDraft draft.old }
-    requires number { number ≡ length (draft_entries draft.old) }
-    requires room { number < entry_limit }
-    ensures { MatchResult result
-        (λ _. (entry_after (draft_entries draft.old)
-        (stated_pair (child_path directory.now name, inode)) ≡ Ok (draft_entries draft.new))
-        × IsDraft draft.new)
-        (λ fault. IsFaultOf
-        (entry_after (draft_entries draft.old)
-        (stated_pair (child_path directory.now name, inode))) fault) }
-{
-    if !draft.is_within(directory) {
-        let path = directory.child(alloc, &name)?;
-        return add_entry(alloc, draft, number, stated((path, inode)));
+    /// The same with the entry `name` of a directory, of which no path is made.
+    pub fn with_child(
+        self,
+        alloc: Global,
+        number: u32,
+        directory: &Path,
+        name: Name,
+        inode: Inode,
+    ) -> Result<Draft, LayerFault>
+        requires draft { IsDraft self }
+        requires number { number ≡ length (draft_entries self) }
+        requires room { number < entry_limit }
+        ensures { MatchResult result
+            (λ more. (entry_after (draft_entries self)
+            (stated_pair (child_path directory.now name, inode)) ≡ Ok (draft_entries more))
+            × IsDraft more)
+            (λ fault. IsFaultOf
+            (entry_after (draft_entries self)
+            (stated_pair (child_path directory.now name, inode))) fault) }
+    {
+        if !self.is_within(directory) {
+            let path = directory.child(alloc, &name)?;
+            return self.with_entry(alloc, number, stated((path, inode)));
+        }
+        if !is_child_statable(directory, &name, &inode) {
+            return Err(LayerFault::Entry(number));
+        }
+        self.with_child_on_way(alloc, number, directory.len(), name, inode)
     }
-    if !is_child_statable(directory, &name, &inode) {
-        return Err(LayerFault::Entry(number));
-    }
-    add_on_way(alloc, draft, number, directory.len(), name, inode)
-}
 
-// The same in the directory of the first `depth` names of the last path, where a manifest can state
-// it.
-fn add_on_way(
-    alloc: Global,
-    draft: &mut Draft,
-    number: u32,
-    depth: usize,
-    name: Name,
-    inode: Inode,
-) -> Result<(), LayerFault>
-    requires draft { IsDraft draft.old }
-    requires number { number ≡ length (draft_entries draft.old) }
-    requires room { number < entry_limit }
-    requires depth { depth ≤ length draft.old.last }
-    requires stated { IsTrue (is_statable (child_path (take depth draft.old.last) name, inode)) }
-    ensures { MatchResult result
-        (λ _. (entry_after (draft_entries draft.old)
-        (Some (child_path (take depth draft.old.last) name, inode))
-        ≡ Ok (draft_entries draft.new)) × IsDraft draft.new)
-        (λ fault. IsFaultOf
-        (entry_after (draft_entries draft.old)
-        (Some (child_path (take depth draft.old.last) name, inode))) fault) }
-{
-    if has_escaped_name(&inode.attrs) {
-        return Err(LayerFault::Escaped(number));
+    // The same in the directory of the first `depth` names of the last path, where a manifest can
+    // state it.
+    fn with_child_on_way(
+        self,
+        alloc: Global,
+        number: u32,
+        depth: usize,
+        name: Name,
+        inode: Inode,
+    ) -> Result<Draft, LayerFault>
+        requires draft { IsDraft self }
+        requires number { number ≡ length (draft_entries self) }
+        requires room { number < entry_limit }
+        requires depth { depth ≤ length self.last }
+        requires stated { IsTrue (is_statable (child_path (take depth self.last) name, inode)) }
+        ensures { MatchResult result
+            (λ more. (entry_after (draft_entries self)
+            (Some (child_path (take depth self.last) name, inode))
+            ≡ Ok (draft_entries more)) × IsDraft more)
+            (λ fault. IsFaultOf
+            (entry_after (draft_entries self)
+            (Some (child_path (take depth self.last) name, inode))) fault) }
+    {
+        if has_escaped_name(&inode.attrs) {
+            return Err(LayerFault::Escaped(number));
+        }
+        if !self.comes_before_child(depth, &name) {
+            return Err(LayerFault::Order(number));
+        }
+        if !self.is_directory_above(depth) {
+            return Err(LayerFault::NoParent(number));
+        }
+        let mut draft = self;
+        draft.enter_child(alloc, depth, name, inode)?;
+        Ok(draft)
     }
-    if !draft.comes_before_child(depth, &name) {
-        return Err(LayerFault::Order(number));
-    }
-    if !draft.is_directory_above(depth) {
-        return Err(LayerFault::NoParent(number));
-    }
-    Ok(draft.enter_child(alloc, depth, name, inode)?)
 }
 
 // Whether a manifest can state the entry `name` of a directory.

@@ -14,8 +14,7 @@ mod trees;
 
 pub use drafts::Draft;
 pub use entries::{
-    ENTRY_LIMIT, add_child, add_entry, from_entries, has_escaped_name, slashed_len, start_draft,
-    start_root,
+    ENTRY_LIMIT, from_entries, has_escaped_name, slashed_len, start_draft, start_root,
 };
 pub use faults::{LayerFault, SiblingFault};
 pub use places::LayerPlace;

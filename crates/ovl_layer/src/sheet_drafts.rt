@@ -1,4 +1,4 @@
-ghost use Rattle.std.specs.Prelude.{◌≡◌, ◌≤◌, true, false, [], ◌∷◌, ◌++◌, IsTrue, IfOk, length, take};
+ghost use Rattle.std.specs.Prelude.{◌≡◌, ◌≤◌, true, false, [], ◌∷◌, ◌++◌, IsTrue, IfOk, OnErr, length, take};
 ghost use Rattle.std.specs.Ordering.{is_lt};
 ghost use Rattle.ovl_names.specs.Paths.{path_cmp, child_path};
 ghost use Rattle.ovl_inode.specs.Attributes.{has_escaped_name};
@@ -80,7 +80,7 @@ impl SheetDraft {
     }
 
     /// Puts one more entry, which comes after all others, into the directory of the first `depth`
-    /// names of the last path, which is there.
+    /// names of the last path, which is there. Fails, with nothing changed, only when out of memory.
     pub fn enter(
         &mut self,
         alloc: Global,
@@ -92,15 +92,19 @@ impl SheetDraft {
         requires entry { CanEnter self.old depth name inode }
         ensures entries { IfOk result (λ _. drafted self.new
             ≡ drafted self.old ++ (child_path (take depth (last_path self.old)) name, inode) ∷ []) }
-        ensures draft { IfOk result (λ _. IsSheetDraft self.new) }
+        ensures draft { IsSheetDraft self.new }
         ensures last { IfOk result
             (λ _. last_path self.new ≡ child_path (take depth (last_path self.old)) name) }
+        ensures kept { OnErr result (drafted self.new ≡ drafted self.old) }
     {
         let number = self.rows.len() as u32;
+        let parent = self.way[depth];
+        // The room for the last step is made first.
+        self.way.reserve(1)?;
         self.rows.push(SheetRow {
             name: Some(name),
             inode,
-            parent: self.way[depth],
+            parent,
             after: number + 1,
         })?;
         self.way.truncate(depth + 1);

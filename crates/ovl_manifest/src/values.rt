@@ -10,7 +10,7 @@ ghost use Rattle.ovl_manifest.specs.Versions.{version_of};
 
 use crate::fields::{has_exactly, read_entry};
 use crate::versions::Version;
-use ovl_layer::{ENTRY_LIMIT, Layer, LayerFault, add_entry, start_draft};
+use ovl_layer::{ENTRY_LIMIT, Layer, LayerFault, start_draft};
 use serde_json::{Number, Value};
 use std::alloc::Global;
 
@@ -86,12 +86,8 @@ fn read_entries(alloc: Global, version: Version, values: &[Value]) -> Result<Lay
     let mut number = 0;
     for value in others {
         number += 1;
-        add_entry(
-            alloc,
-            &mut draft,
-            number,
-            read_entry(alloc, version, value)?,
-        )?;
+        let entry = read_entry(alloc, version, value)?;
+        draft = draft.with_entry(alloc, number, entry)?;
     }
     Ok(draft.finish()?)
 }

@@ -1,4 +1,4 @@
-ghost use Rattle.std.specs.Prelude.{◌≡◌, ◌+◌, ◌%◌, ◌++◌, IfOk, OnOk, codes, decimal, replicate, string_bytes};
+ghost use Rattle.std.specs.Prelude.{◌≡◌, ◌+◌, ◌%◌, ◌++◌, IfOk, OnOk, OnErr, codes, decimal, replicate, string_bytes};
 ghost use Rattle.std.specs.List.{flat_map};
 ghost use Rattle.hex.specs.Hex.{encode_lower};
 ghost use Rattle.ovl_names.specs.Escapes.{shown_path, escaped};
@@ -35,10 +35,13 @@ pub(crate) fn push_status(report: &mut String, inode: &Inode) -> Result<(), Allo
     push_time(report, inode.mtime, inode.nsec)
 }
 
-/// Appends a word, and a space after it. Fails only when out of memory.
+/// Appends a word, and a space after it; fails, with nothing changed, only when out of memory.
 pub fn push_word(report: &mut String, word: &str) -> Result<(), AllocError>
-    ensures { OnOk result (string_bytes report.new ≡ string_bytes report.old ++ spaced word.now) }
+    ensures appended { OnOk result
+        (string_bytes report.new ≡ string_bytes report.old ++ spaced word.now) }
+    ensures same { OnErr result (string_bytes report.new ≡ string_bytes report.old) }
 {
+    report.reserve(word.len() + 1)?;
     report.push_str(word)?;
     report.push_str(" ")
 }
@@ -95,25 +98,29 @@ fn octal_digit(number: u16) -> char
     (b'0' + (number % 8) as u8) as char
 }
 
-/// Appends a number in decimal digits. Fails only when out of memory.
-#[tactic(auto, using(std::proofs::lemmas::Fmt::decimal_digit, std::proofs::lemmas::Grind::common_steps))]
+/// Appends a number in decimal digits; fails, with nothing changed, only when out of memory.
 pub fn push_number(report: &mut String, number: u64) -> Result<(), AllocError>
-    ensures { OnOk result (string_bytes report.new ≡ string_bytes report.old ++ decimal number) }
+    ensures appended { OnOk result
+        (string_bytes report.new ≡ string_bytes report.old ++ decimal number) }
+    ensures same { OnErr result (string_bytes report.new ≡ string_bytes report.old) }
 {
-    // Many numbers have one digit, as those of root: it needs no buffer.
-    if number < 10 {
-        return report.push((b'0' + number as u8) as char);
-    }
     report.push_str(itoa::Buffer::new().format(number))
 }
 
-/// Appends a number, and a space after it. Fails only when out of memory.
+/// Appends a number, and a space after it; fails, with nothing changed, only when out of memory.
+#[tactic(auto, using(std::proofs::lemmas::Fmt::decimal_digit, std::proofs::lemmas::Grind::common_steps))]
 pub fn push_number_word(report: &mut String, number: u64) -> Result<(), AllocError>
-    ensures { OnOk result
+    ensures appended { OnOk result
         (string_bytes report.new ≡ string_bytes report.old ++ spaced (decimal number)) }
+    ensures same { OnErr result (string_bytes report.new ≡ string_bytes report.old) }
 {
-    push_number(report, number)?;
-    report.push_str(" ")
+    // Many owners have one digit, as root: it needs no buffer.
+    if number < 10 {
+        report.reserve(2)?;
+        report.push((b'0' + number as u8) as char)?;
+        return report.push_str(" ");
+    }
+    push_word(report, itoa::Buffer::new().format(number))
 }
 
 /// The size and what else the kind has, with a space after each.
@@ -195,14 +202,20 @@ pub(crate) fn push_path(alloc: Global, report: &mut String, path: &Path) -> Resu
     Ok(())
 }
 
-/// Appends a name of a path, and `/` before it. Fails only when out of memory.
+/// Appends a name of a path, and `/` before it; fails, with nothing changed, only when out of
+/// memory.
 pub fn push_name(alloc: Global, report: &mut String, name: &str) -> Result<(), AllocError>
-    ensures { OnOk result
+    ensures appended { OnOk result
         (string_bytes report.new
         ≡ string_bytes report.old ++ (codes "/" ++ escaped name.now)) }
+    ensures same { OnErr result (string_bytes report.new ≡ string_bytes report.old) }
 {
     report.push_str("/")?;
-    push_escaped(alloc, report, name)
+    let pushed = push_escaped(alloc, report, name);
+    if pushed.is_err() {
+        report.pop();
+    }
+    pushed
 }
 
 /// Appends the visible attributes, one after another, or `-` where there is none.

@@ -14,7 +14,7 @@ use crate::places::{DirectoryAbove, directory_of, path_in};
 use crate::works::VacuumWork;
 use ovl_board::Parcel;
 use ovl_inode::{Inode, is_directory};
-use ovl_layer::{Draft, Layer, add_child, start_root};
+use ovl_layer::{Draft, Layer, start_root};
 use ovl_lookup::Stack;
 use ovl_names::{Name, Path};
 use std::alloc::{AllocError, Global};
@@ -132,7 +132,7 @@ fn layer_left(alloc: Global, stack: &Stack, gone: &[bool]) -> Result<Layer, Allo
     let mut rest = Remainder::of_root(alloc, stack)?;
     for number in 1..sheet.len() {
         if !gone[number as usize] {
-            rest.enter(alloc, stack, number)?;
+            rest = rest.with_row(alloc, stack, number)?;
         }
     }
     rest.draft.finish()
@@ -160,29 +160,29 @@ impl Remainder {
         })
     }
 
-    // Enters the entry of the next row, which stays.
-    fn enter(&mut self, alloc: Global, stack: &Stack, number: u32) -> Result<(), AllocError>
+    // The same with the entry of the next row, which stays.
+    fn with_row(self, alloc: Global, stack: &Stack, number: u32) -> Result<Remainder, AllocError>
         requires some { 1 ≤ number }
         requires inside { number < length (top_layer stack.now) }
         requires stays { is_idle_throughout (top_layer stack.now) (lower_layers stack.now)
             (path_at (top_layer stack.now) number) ≡ false }
-        requires left { IsLeftTo stack.now number self.old }
-        ensures { IfOk result (λ _. IsLeftTo stack.now (number + 1) self.new) }
+        requires left { IsLeftTo stack.now number self }
+        ensures { IfOk result (IsLeftTo stack.now (number + 1)) }
     {
+        let Remainder {
+            draft,
+            count,
+            mut above,
+        } = self;
         let sheet = stack.top();
-        self.above.go_to(alloc, sheet, number)?;
+        above.go_to(alloc, sheet, number)?;
         let name = sheet.name(number).unwrap().copy(alloc)?;
         let inode = sheet.inode(number).copy(alloc)?;
-        enter(
-            alloc,
-            &mut self.draft,
-            self.count,
-            &self.above.path,
-            name,
-            inode,
-        )?;
-        self.count += 1;
-        Ok(())
+        Ok(Remainder {
+            draft: with_child(alloc, draft, count, &above.path, name, inode)?,
+            count: count + 1,
+            above,
+        })
     }
 }
 
@@ -200,28 +200,28 @@ fn begun(alloc: Global, root: Inode) -> Result<Draft, AllocError>
     }
 }
 
-// Enters the entry `name` of a directory, after so many others. Here too nothing but memory can
-// stand in the way.
-fn enter(
+// The draft with the entry `name` of a directory, after so many others. Here too nothing but memory
+// can stand in the way.
+fn with_child(
     alloc: Global,
-    draft: &mut Draft,
+    draft: Draft,
     count: u32,
     directory: &Path,
     name: Name,
     inode: Inode,
-) -> Result<(), AllocError>
-    requires draft { IsDraft draft.old }
-    requires count { count ≡ length (draft_entries draft.old) }
+) -> Result<Draft, AllocError>
+    requires draft { IsDraft draft }
+    requires count { count ≡ length (draft_entries draft) }
     requires room { count < entry_limit }
     ensures { IfOk result
-        (λ _.
-        (entry_after (draft_entries draft.old) (stated_pair (child_path directory.now name, inode))
-        ≡ Ok (draft_entries draft.new))
-        × IsDraft draft.new) }
+        (λ more.
+        (entry_after (draft_entries draft) (stated_pair (child_path directory.now name, inode))
+        ≡ Ok (draft_entries more))
+        × IsDraft more) }
 {
     // Made by hand (1): entries of a layer are one, so no other fault of the draft comes.
-    match add_child(alloc, draft, count, directory, name, inode) {
-        Ok(()) => Ok(()),
+    match draft.with_child(alloc, count, directory, name, inode) {
+        Ok(draft) => Ok(draft),
         Err(_) => Err(AllocError),
     }
 }

@@ -15,7 +15,8 @@ use std::thread::{Threads, map_chunks};
 
 /// The bytes of a file, all that it has, at most [`INPUT_LIMIT`]. Links are followed. A folder
 /// can't be read. Room is made for the length that is expected, and where none is, for the one that
-/// the open file tells; there may be fewer bytes or more.
+/// the open file tells; there may be fewer bytes or more. No clause ties a file to its path: of the
+/// bytes one says that they are all that some file had left.
 pub fn read_file<R: Files + AllocGlobal>(
     rt: &R,
     path: &str,
@@ -23,7 +24,7 @@ pub fn read_file<R: Files + AllocGlobal>(
 ) -> Result<Vec<u8>, ProgramFault>
     ensures within { IfOk result (λ bytes. vec_len bytes ≤ INPUT_LIMIT) }
     ensures fault { IfErr result (λ fault. IsUnread (λ told. told ≡ path.now) fault) }
-    ensures whole { IfOk result
+    ensures of_some_file { IfOk result
         (λ bytes. (file : R.File) × IfSome (R.File.remaining file) (λ left. bytes.items ≡ left)) }
 {
     match read_bytes(rt, path, expected) {
@@ -39,7 +40,7 @@ fn read_bytes<R: Files + AllocGlobal>(
     expected: Option<u64>,
 ) -> Result<Vec<u8>, ReadFault>
     ensures within { IfOk result (λ bytes. vec_len bytes ≤ INPUT_LIMIT) }
-    ensures whole { IfOk result
+    ensures of_some_file { IfOk result
         (λ bytes. (file : R.File) × IfSome (R.File.remaining file) (λ left. bytes.items ≡ left)) }
 {
     let mut file = fs::open(rt, path)?;

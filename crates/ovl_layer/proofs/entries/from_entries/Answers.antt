@@ -13,22 +13,22 @@ use Rattle.ovl_layer.proofs.entries.from_entries.Goals as goal
 pub start_draft-requires : goal.start_draft-requires
 start_draft-requires c = stated_pair_statable c.in-Some.root c.stated.result c.stated.ensures
 
-pub add_entry-requires-clause-stated : goal.add_entry-requires-clause-stated
-add_entry-requires-clause-stated c = stated_pair_statable c.in-Some-entry.entry c.stated-in-loop-entry.result c.stated-in-loop-entry.ensures
+pub with_entry-requires-clause-stated : goal.with_entry-requires-clause-stated
+with_entry-requires-clause-stated c = stated_pair_statable c.in-Some-entry.entry c.stated-in-loop-entry.result c.stated-in-loop-entry.ensures
 
 pub loop-entry-preserved : goal.loop-entry-preserved
 loop-entry-preserved c =
     let at = c.loop-entry in
     let steps : into_iter_items at.entry-iterator ≡ c.in-Some-entry.entry ∷ into_iter_items c.next-in-loop-entry.new.self = c.in-Some-entry.ensures.steps.0 in
     let short = ap length steps in
-    let next = ap (entry_after (draft_entries at.draft)) (sym c.stated-in-loop-entry.ensures) ∙ c.in_ok-add_entry.ensures.0 in
+    let next = ap (entry_after (draft_entries at.draft)) (sym c.stated-in-loop-entry.ensures) ∙ c.in_ok-draft-2.ensures.0 in
     record {
-      draft = c.in_ok-add_entry.ensures.1;
+      draft = c.in_ok-draft-2.ensures.1;
       left =
           sym (ap (λ (pairs : _). entries_after (draft_entries at.draft) (map stated_pair pairs)) steps
-          ∙ one_taken (draft_entries at.draft) (stated_pair c.in-Some-entry.entry) (map stated_pair (into_iter_items c.next-in-loop-entry.new.self)) (draft_entries c.add_entry.new.draft) next)
+          ∙ one_taken (draft_entries at.draft) (stated_pair c.in-Some-entry.entry) (map stated_pair (into_iter_items c.next-in-loop-entry.new.self)) (draft_entries c.in_ok-draft-2.draft) next)
           ∙ at.invariant.left;
-      count = one_more (draft_entries at.draft) (stated_pair c.in-Some-entry.entry) (draft_entries c.add_entry.new.draft) next ∙ ap (λ n. n + 1) at.invariant.count;
+      count = one_more (draft_entries at.draft) (stated_pair c.in-Some-entry.entry) (draft_entries c.in_ok-draft-2.draft) next ∙ ap (λ n. n + 1) at.invariant.count;
       room = omega (arith, short, at.invariant.room);
       first = at.invariant.first;
       exact = omega (arith, short, at.invariant.exact, c.in-Some-entry.ensures.steps.1);
@@ -59,20 +59,20 @@ returns-in_err-draft c =
       first = first_refused c.from_residual.result c.args.entries.items (into_iter_items c.next.new.self) c.in-Some.root c.in_err-draft.field-0.0 split limit fails told;
     }
 
--- what `add_entry` tells is no fault of the count or of the first entry
-added : (c : goal.After-drop-draft-in_err-add_entry-4) (fault : LayerFault) → c.from_residual-in_err-add_entry.result ≡ Err fault → is_later fault ≡ true
+-- what `with_entry` gives is no fault of the count or of the first entry
+added : (c : goal.After-drop-entry-iterator) (fault : LayerFault) → c.from_residual-in_err-draft-2.result ≡ Err fault → is_later fault ≡ true
 added c fault is =
-    let out = err_from_is_err_and c.from_residual-in_err-add_entry.result c.from_residual-in_err-add_entry.ensures.1 in
-    let same : c.in_err-add_entry.field-0.0 ≡ fault = cc in
-    ap is_later (sym same) ∙ told_later ([], c.loop-entry.draft.inode) _ c.stated-in-loop-entry.result c.in_err-add_entry.field-0.0 c.in_err-add_entry.ensures
+    let out = err_from_is_err_and c.from_residual-in_err-draft-2.result c.from_residual-in_err-draft-2.ensures.1 in
+    let same : c.in_err-draft-2.field-0.0 ≡ fault = cc in
+    ap is_later (sym same) ∙ told_later ([], c.loop-entry.draft.inode) _ c.stated-in-loop-entry.result c.in_err-draft-2.field-0.0 c.in_err-draft-2.ensures
 
-pub returns-in_err-add_entry-clause-count : goal.returns-in_err-add_entry-clause-count
-returns-in_err-add_entry-clause-count c =
+pub returns-in_err-draft-2-clause-count : goal.returns-in_err-draft-2-clause-count
+returns-in_err-draft-2-clause-count c =
     let split : c.args.entries.items ≡ c.in-Some.root ∷ into_iter_items c.next.new.self = search rules in
-    count_later c.from_residual-in_err-add_entry.result c.args.entries.items (added c) (well_counted c.args.entries.items (into_iter_items c.next.new.self) c.in-Some.root split (omega (arith, c.len.ensures, c.args.entries.ok.0, c.if-len-gt-ENTRY_LIMIT.false)))
+    count_later c.from_residual-in_err-draft-2.result c.args.entries.items (added c) (well_counted c.args.entries.items (into_iter_items c.next.new.self) c.in-Some.root split (omega (arith, c.len.ensures, c.args.entries.ok.0, c.if-len-gt-ENTRY_LIMIT.false)))
 
-pub returns-in_err-add_entry-clause-first : goal.returns-in_err-add_entry-clause-first
-returns-in_err-add_entry-clause-first c = first_later c.from_residual-in_err-add_entry.result c.args.entries.items (added c) c.loop-entry.invariant.first
+pub returns-in_err-draft-2-clause-first : goal.returns-in_err-draft-2-clause-first
+returns-in_err-draft-2-clause-first c = first_later c.from_residual-in_err-draft-2.result c.args.entries.items (added c) c.loop-entry.invariant.first
 
 pub returns-in_err-finish-clause-first : goal.returns-in_err-finish-clause-first
 returns-in_err-finish-clause-first c =

@@ -39,33 +39,33 @@ loop-value-init c =
 pub overflow_add-number : goal.overflow_add-number
 overflow_add-number c = omega (arith, c.loop-value.invariant.place, c.loop-value.invariant.room, c.loop-value-test.true)
 
-pub add_entry-requires-clause-draft : goal.add_entry-requires-clause-draft
-add_entry-requires-clause-draft c = c.loop-value.invariant.draft
+pub with_entry-requires-clause-draft : goal.with_entry-requires-clause-draft
+with_entry-requires-clause-draft c = c.loop-value.invariant.draft
 
-pub add_entry-requires-clause-number : goal.add_entry-requires-clause-number
-add_entry-requires-clause-number c = sym c.loop-value.invariant.count
+pub with_entry-requires-clause-number : goal.with_entry-requires-clause-number
+with_entry-requires-clause-number c = sym c.loop-value.invariant.count
 
-pub add_entry-requires-clause-room : goal.add_entry-requires-clause-room
-add_entry-requires-clause-room c = omega (arith, c.loop-value.invariant.place, c.loop-value.invariant.room, c.loop-value-test.true)
+pub with_entry-requires-clause-room : goal.with_entry-requires-clause-room
+with_entry-requires-clause-room c = omega (arith, c.loop-value.invariant.place, c.loop-value.invariant.room, c.loop-value-test.true)
 
-pub add_entry-requires-clause-stated : goal.add_entry-requires-clause-stated
-add_entry-requires-clause-stated c = stated_statable c.args.version (view c.value-item.result) c.in_ok-read_entry-2.field-0 c.in_ok-read_entry-2.ensures
+pub with_entry-requires-clause-stated : goal.with_entry-requires-clause-stated
+with_entry-requires-clause-stated c = stated_statable c.args.version (view c.value-item.result) c.in_ok-entry.entry c.in_ok-entry.ensures
 
-pub returns-in_err-add_entry : goal.returns-in_err-add_entry
-returns-in_err-add_entry c =
-    let out = err_from_is_err_and c.from_residual-in_err-add_entry.result c.from_residual-in_err-add_entry.ensures.1 in
+pub returns-in_err-draft-2 : goal.returns-in_err-draft-2
+returns-in_err-draft-2 c =
+    let out = err_from_is_err_and c.from_residual-in_err-draft-2.result c.from_residual-in_err-draft-2.ensures.1 in
     rw (out.1 ∙ ap Err out.2)
-    (subst (λ r. IsFaultOf r c.in_err-add_entry.field-0.0) c.loop-value.invariant.left
-    (next-refused c.args.version c.in-Some.others.now c.loop-value.value-index c.value-item.result c.loop-value-test.true c.value-item.is (draft_entries c.loop-value.draft) c.in_ok-read_entry-2.field-0 c.in_ok-read_entry-2.ensures c.in_err-add_entry.field-0.0 c.in_err-add_entry.ensures))
+    (subst (λ r. IsFaultOf r c.in_err-draft-2.field-0.0) c.loop-value.invariant.left
+    (next-refused c.args.version c.in-Some.others.now c.loop-value.value-index c.value-item.result c.loop-value-test.true c.value-item.is (draft_entries c.loop-value.draft) c.in_ok-entry.entry c.in_ok-entry.ensures c.in_err-draft-2.field-0.0 c.in_err-draft-2.ensures))
 
 pub loop-value-preserved : goal.loop-value-preserved
 loop-value-preserved c =
-    let taken = c.in_ok-add_entry.ensures.0 in
+    let taken = c.in_ok-draft-2.ensures.0 in
     record {
-      draft = c.in_ok-add_entry.ensures.1;
-      left = sym (next-taken c.args.version c.in-Some.others.now c.loop-value.value-index c.value-item.result c.loop-value-test.true c.value-item.is (draft_entries c.loop-value.draft) c.in_ok-read_entry-2.field-0 c.in_ok-read_entry-2.ensures (draft_entries c.add_entry.new.draft) taken)
+      draft = c.in_ok-draft-2.ensures.1;
+      left = sym (next-taken c.args.version c.in-Some.others.now c.loop-value.value-index c.value-item.result c.loop-value-test.true c.value-item.is (draft_entries c.loop-value.draft) c.in_ok-entry.entry c.in_ok-entry.ensures (draft_entries c.in_ok-draft-2.draft) taken)
           ∙ c.loop-value.invariant.left;
-      count = one_more (draft_entries c.loop-value.draft) c.in_ok-read_entry-2.field-0 (draft_entries c.add_entry.new.draft) taken ∙ ap (λ n. n + 1) c.loop-value.invariant.count;
+      count = one_more (draft_entries c.loop-value.draft) c.in_ok-entry.entry (draft_entries c.in_ok-draft-2.draft) taken ∙ ap (λ n. n + 1) c.loop-value.invariant.count;
       place = ap (λ n. n + 1) c.loop-value.invariant.place;
       room = c.loop-value.invariant.room;
     }

@@ -6,13 +6,13 @@ use Rattle.ovl_lookup.proofs.LawsOfLooks.{top-layer}
 use Rattle.ovl_vacuum.specs.Passes.{IsLeftTo}
 use Rattle.ovl_vacuum.proofs.RowLemmas.{left-passed, left-all, goes-flag}
 use Rattle.ovl_vacuum.proofs.finish.layer_left.Goals as goal
-use Rattle.ovl_vacuum.proofs.finish.layer_left.Goals.{then-not-gone-number+in_ok-enter, else-not-gone-number}
+use Rattle.ovl_vacuum.proofs.finish.layer_left.Goals.{then-not-gone-number+in_ok-rest-2, else-not-gone-number}
 
-pub enter-requires-clause-inside : goal.enter-requires-clause-inside
-enter-requires-clause-inside c = omega (arith, c.loop-number-test.true, c.len-number-end.ensures.value, ap length c.top-sheet.ensures.value)
+pub with_row-requires-clause-inside : goal.with_row-requires-clause-inside
+with_row-requires-clause-inside c = omega (arith, c.loop-number-test.true, c.len-number-end.ensures.value, ap length c.top-sheet.ensures.value)
 
-pub enter-requires-clause-stays : goal.enter-requires-clause-stays
-enter-requires-clause-stays c =
+pub with_row-requires-clause-stays : goal.with_row-requires-clause-stays
+with_row-requires-clause-stays c =
     let inside : c.loop-number.number < length (top_layer c.args.stack.now) = omega (arith, c.loop-number-test.true, c.len-number-end.ensures.value, ap length c.top-sheet.ensures.value) in
     sym (goes-flag c.args.stack.now c.loop-number.number inside c.args.gone.now c.requires) ∙ c.if-not-gone-number.true
 
@@ -29,7 +29,7 @@ loop-number-preserved c =
     record {
       some = omega (arith, c.loop-number.invariant.some);
       left = elim c.if-not-gone-number.branch [
-        | then-not-gone-number+in_ok-enter w ↦ subst (IsLeftTo stack (number + 1)) (sym w.rest-is) w.in_ok-enter.ensures
+        | then-not-gone-number+in_ok-rest-2 w ↦ subst (IsLeftTo stack (number + 1)) (sym w.rest-is) w.in_ok-rest-2.ensures
         | else-not-gone-number w ↦ subst (IsLeftTo stack (number + 1)) (sym w.rest-is) (record {
           draft = left.draft;
           entries = left-passed stack is number inside _ (sym (goes-flag stack number inside c.args.gone.now c.requires) ∙ w.if-not-gone-number.false) left.entries;

@@ -23,4 +23,4 @@ returns c =
     added
     ∙ (ap (λ (l : List ℕ). l ++ tail) c.in_ok-push_str.ensures.bytes
     ∙ (append_assoc report c.as_str.result.now tail ∙ ap (λ (l : List ℕ). report ++ l) whole)))
-    c.push_name.ensures
+    c.push_name.ensures.appended

@@ -15,22 +15,24 @@ pub overflow_add-number : goal.overflow_add-number
 overflow_add-number c = omega (arith, c.len-number.ensures, c.args.self.now.rows.ok.0, rows-count _ _ _ c.requires.draft, c.requires.entry.room)
 
 -- the number of the directory's row stands on the way
-listed : (c : goal.In_ok-push-2) → slice_get c.args.self.now.way.items c.args.depth ≡ Some c.index.result.now
+listed : (c : goal.In_ok-push-2) → slice_get c.args.self.now.way.items c.args.depth ≡ Some c.index-parent.result.now
 listed c =
     let way : List ℕ = c.args.self.now.way.items in
-    slice_get_read way (length way) c.args.depth c.index.result.now refl (omega (arith, c.requires.draft.count, c.requires.entry.within)) c.index.ensures
+    slice_get_read way (length way) c.args.depth c.index-parent.result.now refl (omega (arith, c.requires.draft.count, c.requires.entry.within)) c.index-parent.ensures
 
 -- the new row stands at the end, and its number at the end of the way
-pushed : (c : goal.In_ok-push-2) → c.push.new.self.items ≡ c.args.self.now.rows.items ++ (record { name = Some c.args.name; inode = c.args.inode; parent = c.index.result.now; after = c.len-number.result + 1 }) ∷ []
+pushed : (c : goal.In_ok-push-2) → c.push.new.self.items ≡ c.args.self.now.rows.items ++ (record { name = Some c.args.name; inode = c.args.inode; parent = c.index-parent.result.now; after = c.len-number.result + 1 }) ∷ []
 pushed c = c.in_ok-push.ensures.items
 
 onward : (c : goal.In_ok-push-2) → c.push-2.new.self.items ≡ take (c.args.depth + 1) c.args.self.now.way.items ++ length c.args.self.now.rows.items ∷ []
-onward c = c.in_ok-push-2.ensures.items ∙ (λ j. c.truncate.ensures.items j ++ (c.len-number.ensures ∙ c.args.self.now.rows.ok.0) j ∷ [])
+onward c =
+    let way = c.truncate.ensures.items ∙ ap (take (c.args.depth + 1)) c.reserve.ensures.items in
+    c.in_ok-push-2.ensures.items ∙ (λ j. way j ++ (c.len-number.ensures ∙ c.args.self.now.rows.ok.0) j ∷ [])
 
 pub returns-clause-entries : goal.returns-clause-entries
 returns-clause-entries c =
     ap entries_of_rows (pushed c)
-    ∙ entered _ _ _ c.requires.draft c.args.depth c.index.result.now c.requires.entry.within (listed c) c.args.name c.args.inode (c.len-number.result + 1)
+    ∙ entered _ _ _ c.requires.draft c.args.depth c.index-parent.result.now c.requires.entry.within (listed c) c.args.name c.args.inode (c.len-number.result + 1)
 
 pub returns-clause-last : goal.returns-clause-last
 returns-clause-last c =
@@ -46,4 +48,9 @@ returns-clause-draft c =
     subst (λ (last : PathNames). AreDrafted c.push.new.self.items c.push-2.new.self.items last) (sym (returns-clause-last c))
     (subst (λ (way : List ℕ). AreDrafted c.push.new.self.items way path) (sym (onward c))
     (subst (λ (rows : List SheetRow). AreDrafted rows onto path) (sym (pushed c))
-    (entered-draft old.rows.items old.way.items (last_path old) c.requires.draft c.args.depth c.index.result.now can.within (listed c) c.args.name c.args.inode (c.len-number.result + 1) can.after can.directory can.named can.sound can.unescaped can.limited can.room)))
+    (entered-draft old.rows.items old.way.items (last_path old) c.requires.draft c.args.depth c.index-parent.result.now can.within (listed c) c.args.name c.args.inode (c.len-number.result + 1) can.after can.directory can.named can.sound can.unescaped can.limited can.room)))
+
+pub returns-in_err-reserve-clause-draft : goal.returns-in_err-reserve-clause-draft
+returns-in_err-reserve-clause-draft c =
+    let old = c.args.self.now in
+    subst (λ (way : List ℕ). AreDrafted old.rows.items way (last_path old)) (sym c.reserve.ensures.items) c.requires.draft

@@ -6,15 +6,15 @@ use Rattle.ovl_layer.specs.Layers.{Entries, is_directory_at, is_within_limits}
 use Rattle.ovl_layer.specs.Drafts.{draft_entries}
 use Rattle.ovl_layer.proofs.SheetLemmas.{parent_path-child}
 use Rattle.ovl_layer.proofs.EntryLemmas.{entry-taken}
-use Rattle.ovl_layer.proofs.entries.add_on_way.Goals as goal
+use Rattle.ovl_layer.proofs.drafts.Draft.with_child_on_way.Goals as goal
 
 pub enter_child-requires-clause-entry : goal.enter_child-requires-clause-entry
 enter_child-requires-clause-entry c =
-    let above : PathNames = take c.args.depth c.args.draft.now.last in
+    let above : PathNames = take c.args.depth c.args.self.last in
     let parts = both {a = is_within_limits (child_path above c.args.name)} {b = is_sound_inode c.args.inode} c.requires.stated in
     record {
       after = sym c.comes_before_child.ensures ∙ c.if-not-comes_before_child.false;
-      parent = ap (is_directory_at (draft_entries c.args.draft.now)) (parent_path-child above c.args.name) ∙ (sym c.is_directory_above.ensures ∙ c.if-not-is_directory_above.false);
+      parent = ap (is_directory_at (draft_entries c.args.self)) (parent_path-child above c.args.name) ∙ (sym c.is_directory_above.ensures ∙ c.if-not-is_directory_above.false);
       sound = parts.1;
       unescaped = sym c.has_escaped_name.ensures ∙ c.if-has_escaped_name.false;
       limited = parts.0;
@@ -23,10 +23,10 @@ enter_child-requires-clause-entry c =
 
 pub returns : goal.returns
 returns c =
-    let above : PathNames = take c.args.depth c.args.draft.now.last in
-    let parent : is_directory_at (draft_entries c.args.draft.now) (parent_path (child_path above c.args.name)) ≡ true =
-    ap (is_directory_at (draft_entries c.args.draft.now)) (parent_path-child above c.args.name) ∙ (sym c.is_directory_above.ensures ∙ c.if-not-is_directory_above.false) in (
-      entry-taken ([], c.args.draft.now.inode) _ (child_path above c.args.name, c.args.inode)
+    let above : PathNames = take c.args.depth c.args.self.last in
+    let parent : is_directory_at (draft_entries c.args.self) (parent_path (child_path above c.args.name)) ≡ true =
+    ap (is_directory_at (draft_entries c.args.self)) (parent_path-child above c.args.name) ∙ (sym c.is_directory_above.ensures ∙ c.if-not-is_directory_above.false) in (
+      entry-taken ([], c.args.self.inode) _ (child_path above c.args.name, c.args.inode)
           (sym c.has_escaped_name.ensures ∙ c.if-has_escaped_name.false) (sym c.comes_before_child.ensures ∙ c.if-not-comes_before_child.false) parent
           ∙ ap (λ (entries : Entries). Ok entries) (sym c.in_ok-enter_child.ensures.entries),
       c.in_ok-enter_child.ensures.draft,

@@ -13,15 +13,15 @@ use Rattle.ovl_lookup.specs.Words.{top_layer}
 use Rattle.ovl_lookup.proofs.LawsOfLooks.{top-layer}
 use Rattle.ovl_vacuum.specs.Passes.{IsDirectoryAbove}
 use Rattle.ovl_vacuum.proofs.RowLemmas.{left-count, left-child, named-row}
-use Rattle.ovl_vacuum.proofs.finish.Remainder.enter.Goals as goal
+use Rattle.ovl_vacuum.proofs.finish.Remainder.with_row.Goals as goal
 
 pub unwrap-requires : goal.unwrap-requires
 unwrap-requires c =
     named-row (top_layer c.args.stack.now) (top-layer c.args.stack.now c.top-sheet.ensures.some c.top-sheet.ensures.each) c.args.number c.requires.some c.requires.inside
     c.name.result (c.name.ensures ∙ (λ j. last_name (path_at (c.top-sheet.ensures.value j) c.args.number)))
 
-pub enter-requires-clause-room : goal.enter-requires-clause-room
-enter-requires-clause-room c =
+pub with_child-requires-clause-room : goal.with_child-requires-clause-room
+with_child-requires-clause-room c =
     let stack : StackView = c.args.stack.now in
     let is = top-layer stack c.top-sheet.ensures.some c.top-sheet.ensures.each in
     omega (arith, c.requires.left.count, ap length c.requires.left.entries, left-count stack c.args.number, c.requires.inside, leb-true (length (top_layer stack)) entry_limit is.counted)
@@ -37,11 +37,11 @@ returns c =
     subst (λ (l : Entries). c.go_to.new.self.path ≡ parent_path (path_at l c.args.number)) same c.in_ok-go_to.ensures.directory in
     let named : last_name (path_at (top_layer stack) c.args.number) ≡ Some c.in_ok-name.name =
     sym (c.name.ensures ∙ (λ j. last_name (path_at (same j) c.args.number))) ∙ (ap (option_map (λ name. name.now)) c.unwrap.ensures ∙ ap (λ (n : PathName). Some n) (sym c.in_ok-name.ensures)) in
-    let taken = c.in_ok-enter.ensures in
+    let taken = c.in_ok-with_child.ensures in
     record {
       draft = taken.1;
-      entries = left-child stack is c.args.number c.requires.inside (draft_entries c.args.self.now.draft) (draft_entries c.enter.new.draft) c.go_to.new.self.path c.in_ok-name.name c.in_ok-inode.inode
+      entries = left-child stack is c.args.number c.requires.inside (draft_entries c.args.self.draft) (draft_entries c.in_ok-with_child.field-0) c.go_to.new.self.path c.in_ok-name.name c.in_ok-inode.inode
           c.requires.stays c.requires.left.entries parent named at taken.0;
-      count = omega (arith, c.requires.left.count, one_more (draft_entries c.args.self.now.draft) (stated_pair (child_path c.go_to.new.self.path c.in_ok-name.name, c.in_ok-inode.inode)) (draft_entries c.enter.new.draft) taken.0);
+      count = omega (arith, c.requires.left.count, one_more (draft_entries c.args.self.draft) (stated_pair (child_path c.go_to.new.self.path c.in_ok-name.name, c.in_ok-inode.inode)) (draft_entries c.in_ok-with_child.field-0) taken.0);
       above = subst (λ (l : Entries). IsDirectoryAbove l c.go_to.new.self) same c.in_ok-go_to.ensures.path;
     }
