@@ -5,11 +5,11 @@ shown: a rule's bytes are what its remedy saves.
 """
 
 from collections.abc import Callable, Iterator, Mapping, Sequence
-from dataclasses import dataclass, field
+from dataclasses import dataclass, field, replace
 from typing import Any
 
 from ..model.merged_tree import LayerFile, Rights
-from .caches import Cache, cache_at
+from .caches import Cache, cache_at, cache_place
 from .history import short_command
 from .layer_sizes import NotShown, Sizes
 from .texts import Origin, layer_text
@@ -161,8 +161,9 @@ class Advice:
         return sum(place.files for place in self.files.values())
 
     def place(self) -> Place:
-        """The deepest directory, or the file, with over half of the bytes."""
-        return next(large_places(self.files, self.bytes // 2 + 1))
+        """The deepest directory, or the file, with over half of the bytes; of a cache its own directory."""
+        place = next(large_places(self.files, self.bytes // 2 + 1))
+        return place if self.cache is None else replace(place, path=cache_place(place.path), is_folder=True)
 
     def word_it(self, origins: Sequence[Origin]) -> None:
         """Says what it is, and what saves it: a change of the step that wrote the files first."""

@@ -44,6 +44,12 @@ _HOME = "(?:/root|/home/[^/]+)"
 _PLACES = re.compile("|".join(f"({re.escape(it.place).replace(re.escape('~'), _HOME)})/" for it in CACHES))
 
 
+def cache_place(path: str) -> str:
+    """The directory of the cache that a path is in, or else the path."""
+    found = _PLACES.match(path)
+    return found.group().removesuffix("/") if found else path
+
+
 def cache_at(path: str) -> Cache | None:
     """The cache that a file is in, by its path."""
     found = _PLACES.match(path)

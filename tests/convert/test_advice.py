@@ -43,7 +43,7 @@ def _gone(name: str = "opt/.wh.data.bin") -> bytes:
 _TEXT = """
 Advice, by what it saves:
 BYTES  FILES  STEP  WHAT AND WHERE
-  49K      1   3/5  cache of apt: /var/cache/apt/archives/x
+  49K      1   3/5  cache of apt: /var/cache/apt/
                     -> apt-get clean in the same RUN, or RUN --mount=type=cache
   40K      1   2/5  only another mode than in step 1: /opt/data.bin
                     -> COPY --chmod=755 in step 1

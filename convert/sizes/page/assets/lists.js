@@ -35,7 +35,7 @@ class List {
     this.count += next.length;
     const left = this.entries.length - this.count;
     this.button.hidden = left === 0;
-    this.button.textContent = `${Math.min(left, MORE).toLocaleString("en")} more of ${left.toLocaleString("en")}`;
+    this.button.textContent = left <= MORE ? `${left} more` : `${MORE} more of ${left.toLocaleString("en")}`;
     if (before && rows.length) (rows[0].querySelector("a") || this.button).focus();
   }
 }
