@@ -20,6 +20,7 @@ from .common.outputs import standard_output
 from .common.program import choose_program
 from .common.progress import Verbosity, choose_verbosity, complain, note
 from .model.stacks import BLOBS, require_order, stack_in
+from .usage import with_hint
 from .words import ALL, Run, parser_of
 
 if TYPE_CHECKING:
@@ -43,12 +44,7 @@ def main(words: Sequence[str]) -> int:
         if not words:
             parser.print_help()
             return USAGE
-        options = parser.parse_args(list(words))
-        choose_program(getattr(options, "unproved", False))
-        choose_verbosity(getattr(options, "verbosity", Verbosity.USUAL))
-        choose_colours(When(getattr(options, "color", When.AUTO)))
-        run: Run = options.run
-        run(options)
+        _run(parser, words)
         return 0
     except ClosedPipe:
         return _INTERRUPTED + signal.SIGPIPE
@@ -67,6 +63,19 @@ def main(words: Sequence[str]) -> int:
     except Exception as error:  # pylint: disable=broad-except
         complain(f"unforeseen, please report it: {_description(error)}")
         return OTHER
+
+
+def _run(parser: argparse.ArgumentParser, words: Sequence[str]) -> None:
+    """Runs the command; words that don't fit together are refused as others are, with where help is."""
+    options = parser.parse_args(list(words))
+    choose_program(getattr(options, "unproved", False))
+    choose_verbosity(getattr(options, "verbosity", Verbosity.USUAL))
+    choose_colours(When(getattr(options, "color", When.AUTO)))
+    run: Run = options.run
+    try:
+        run(options)
+    except UsageFault as fault:
+        raise UsageFault(with_hint(fault.text, f"{parser.prog} {options.command}")) from None
 
 
 def _description(error: Exception) -> str:

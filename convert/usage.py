@@ -12,6 +12,7 @@ from .common.colours import When
 from .common.faults import UsageFault
 from .common.progress import Verbosity
 
+HELP = "--help"
 _WIDTH = 80
 _HELP_AT = 26
 # What commands are for.
@@ -40,13 +41,18 @@ class Parser(argparse.ArgumentParser):
 
     def error(self, message: str) -> NoReturn:
         """Ends the command."""
-        raise UsageFault(f"{message}; see `{self.prog} --help`")
+        raise UsageFault(with_hint(message, self.prog))
 
     def _check_value(self, action: argparse.Action, value: Any) -> None:
         if isinstance(action, argparse._SubParsersAction) and value not in action.choices:
             near = difflib.get_close_matches(value, action.choices, 1)
             self.error(f"there is no command {value}" + (f" (is it {near[0]}?)" if near else ""))
         super()._check_value(action, value)
+
+
+def with_hint(message: str, prog: str) -> str:
+    """What doesn't fit, and where help is."""
+    return f"{message}; see `{prog} {HELP}`"
 
 
 class HelpFormatter(argparse.HelpFormatter):

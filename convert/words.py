@@ -272,7 +272,7 @@ def parser_of(runs: Mapping[str, Run], words: Sequence[str]) -> argparse.Argumen
             name, help=short, description=long, allow_abbrev=False, parents=[common_words(True)],
             formatter_class=HelpFormatter,
         )
-        command.set_defaults(run=runs[name])
+        command.set_defaults(run=runs[name], command=name)
         if name in words:
             add(command)
     return parser

@@ -85,6 +85,7 @@ class Words(FolderTest):
             self.assertEqual((status, printed, messages.count("\n")), (2, "", 1), words)
             self.assertRegex(messages, r"^layers: .*; see `layers .*--help`\n$")
         self.assertIn("there is no command flaten (is it flatten?); see `layers --help`", call("flaten")[2])
+        self.assertIn("or layers by --stack LAYER..; see `layers sizes --help`\n", call("sizes")[2])
 
     def test_help(self) -> None:
         for words in (("--help",), *((name, "-h") for name in command._RUNS)):

@@ -137,7 +137,7 @@ class Targets(FolderTest):
             os.close(main)
             os.close(other)
         self.assertEqual((result.returncode, result.stderr), (
-            2, "layers: standard output is a terminal; send the image into a file or a pipe\n"
+            2, "layers: standard output is a terminal; send the image into a file or a pipe; see `layers pack --help`\n"
         ))
 
 
