@@ -159,7 +159,7 @@ a file whose entry is in layer 2 and whose contents are in layer 4 (metacopy). I
 can't be seen. PATH restricts it to what is there and below.
 
 --layer N prints what that layer has, its whiteouts as `- PATH`; --removed what is shipped and not shown: the
-entries of all layers, but for directories, that an upper layer removes or replaces. Nothing is printed unless all
+entries of all layers, but for directories, that an upper layer removes or replaces, and which. Nothing is printed unless all
 is what the proved program ovl_layers shows. With --stack, PATH comes before it.
 
 --json prints an object a line: {"layers-ls":1}, the entries, their number."""
