@@ -392,6 +392,19 @@ class Trees(FolderTest):
                     tree.followed(f"/{name}")
 
 
+    def test_links(self) -> None:
+        lines = ["dir 0755 0 0 1 - - /", "dir 0755 0 0 1 - - /a", "fifo 0644 0 0 1 - - /a/x"]
+        links = [("/l", "a"), ("/m", "/l/../l/x"), ("/n", "../../m")]
+        lines += [f"symlink 0777 0 0 1 - {target} {path}" for path, target in links]
+        with open(self.path("report"), "w", encoding="ascii") as file:
+            file.write("\n".join([*lines, f"entries {len(lines)}", ""]))
+        with opened_tree(self.path("report")) as tree:
+            for path, place in (("/l", "/a"), ("/l/x", "/a/x"), ("/m", "/a/x"), ("/n", "/a/x"), ("/l/..", "/"), ("n", "/a/x")):
+                self.assertEqual(tree.followed(path).path, place)
+            for path, place in (("/l", "/l"), ("/l/", "/a"), ("/n", "/n"), ("/l/x", "/a/x"), ("/a/../m", "/m")):
+                self.assertEqual(tree.followed(path, follows_last=False).path, place)
+
+
 class WithProgram(FolderTest):
     """The built program's findings come through."""
 
