@@ -13,6 +13,7 @@ from pathlib import Path
 
 from ..common.contents import PIECE
 from ..common.disk_space import require_room
+from ..common.escaping import printable
 from ..common.faults import UsageFault, cannot_read, cannot_write
 from ..common.outputs import NEW, folder_made, new_file, note_stages_beside, passing_folder, standard_output
 from ..common.program import NAME, find_program, makes_layers, word_of_path, words_of
@@ -143,7 +144,7 @@ def _given_of(image: Image, options: FlattenOptions, base: int) -> _Given:
 def _made_by(image: Image, kept: int) -> str:
     """What the history says of the layer that all but the lowest ones become: which image they are of, and which lines."""
     digest = None if image.digest is None else f"{image.digest[0]}:{image.digest[1][:_SHOWN_DIGITS]}"
-    name = next(iter(image.names), None)
+    name = next(map(printable, image.names), None)  # which others print as it is
     which = [name, digest and f"({digest})"] if name else [digest]
     places = layer_lines(image.configuration.get("history") or [])
     gone, lines = places[kept:], None

@@ -198,6 +198,13 @@ class Bases(BaseTest):
             self.assertEqual((result[0], "which know no zstd: say --compress gzip" in result[2]), (2, True), result[2])
         self.assertEqual(self.shown(self.path("all", "flat")), self.shown(self.image))
 
+    def test_a_name_that_a_terminal_would_obey(self) -> None:
+        path = Path(self.image, "index.json")
+        path.write_text(path.read_text(encoding="utf-8").replace("x:1", "x\\u001b]0;y"), encoding="utf-8")
+        self.require_done(self.flatten("--base", 1))
+        made_by = self.made("flat").configuration()["history"][-1]["created_by"]
+        self.assertTrue(made_by.startswith("layers flatten: lines 3 to 5 of x\\x1b]0;y (sha256:"), made_by)
+
     def test_no_history_of_the_layers(self) -> None:
         self.given.write(PACKED, LAYERS, HISTORY[:3])
         self.require_done(self.flatten("--base", 1))
