@@ -5,7 +5,7 @@ import json
 import os
 import tempfile
 from collections.abc import Callable, Iterable, Iterator
-from dataclasses import dataclass
+from dataclasses import dataclass, replace
 
 from ..common.amounts import amount_text, per_cent
 from ..common.colours import Colour, painted
@@ -15,10 +15,12 @@ from ..common.outputs import passing_folder
 from ..common.program import require_program, run_program, words_of
 from ..common.progress import counted
 from ..image.base import layers_of_base
+from ..image.configuration import Document
 from ..image.images import Spoilt
 from ..image.members import STANDARD_INPUT
 from ..look.shown_tree import opened_tree
 from ..look.sources import Shown, Source, is_tree, shown_by
+from ..sizes.history import Step, short_command, steps_of
 from ..sizes.layer_sizes import sizes_of
 from ..sizes.limits import Limit
 from ..sizes.waste import Kind, Place, Waste, waste_of
@@ -30,6 +32,7 @@ from .stack import stack_findings
 
 _VERSION = 1
 _CHECKED = "fsck"
+_MOST_LETTERS = 60  # of a command
 _LEAST_SHARE = 100  # a place is listed from this part of all bytes on
 
 
@@ -103,13 +106,28 @@ def _of_shown(options: CheckOptions, shown: Shown, folder: str) -> _Answer:
     run_program(require_program(()), words, folder, _CHECKED, None)
     sizes = sizes_of(shown.layers, shown.data_layers, shown.report)
     waste = waste_of(sizes, base)
-    contents = Contents(blobs)
+    contents, configuration = Contents(blobs), shown.configuration
     with opened_tree(shown.report) as tree:
-        return _Answer(ordered(itertools.chain(
+        findings = ordered(itertools.chain(
             stack_findings(f"{folder}/{_CHECKED}"), credential_findings(sizes, contents),
             _waste_findings(waste, options.max_waste),
-            () if shown.configuration is None else configuration_findings(shown.configuration, tree, contents),
-        )), options.is_strict, waste)
+            () if configuration is None else configuration_findings(configuration, tree, contents),
+        ))
+    return _Answer(_with_steps(findings, configuration or {}, len(layers)), options.is_strict, waste)
+
+
+def _with_steps(findings: Iterable[Finding], configuration: Document, count: int) -> list[Finding]:
+    """Findings of layers with the steps of the history that made these, if it has as many."""
+    steps = steps_of(configuration, count)[::-1]
+    return [it if it.layer is None else _with_step(it, steps[it.layer]) for it in findings]
+
+
+def _with_step(finding: Finding, step: Step | None) -> Finding:
+    if step is None:
+        return finding
+    command = short_command(step.made_by or "")
+    short = command if len(command) <= _MOST_LETTERS else f"{command[:_MOST_LETTERS]}.."
+    return replace(finding, words=f"{finding.words} (step {step}{': ' * bool(short)}{short})")
 
 
 def _seen_in(folder: str, path: str) -> str:

@@ -275,6 +275,14 @@ class Shipped(CheckTest):
         self.assertEqual(status, 1)
         self.assertIn("is not fit to ship by --strict: 0 faults, 3 warnings, ", printed.splitlines()[-1])
 
+    def test_steps(self) -> None:
+        commands = ["/bin/sh -c #(nop) COPY dir:0a in /root ", f"/bin/sh -c {'x' * 99}"]
+        made = [{"created_by": commands[0]}, {"empty_layer": True}, {"created_by": commands[1]}]
+        self.put([self._LAYERS[0], [folder("root"), member("root/.wh..npmrc"), member("root/.netrc", b"x")]], history=made)
+        lines = [line for line in self.lines() if "credential" in line]
+        self.assertTrue(lines[0].endswith(" and is shipped all the same (step 1/3: COPY /root)"), lines[0])
+        self.assertTrue(lines[1].endswith(f" tokens (step 3/3: RUN {'x' * 56}..)"), lines[1])
+
     def test_other_names_of_links(self) -> None:
         hard = member("root/id_rsa", kind=tarfile.LNKTYPE, target="root/a")
         upper = [folder("root"), member("root/.wh.a"), member("root/.wh.id_rsa")]
@@ -399,7 +407,7 @@ class Trees(FolderTest):
         with open(self.path("report"), "w", encoding="ascii") as file:
             file.write("\n".join([*lines, f"entries {len(lines)}", ""]))
         with opened_tree(self.path("report")) as tree:
-            for path, place in (("/l", "/a"), ("/l/x", "/a/x"), ("/m", "/a/x"), ("/n", "/a/x"), ("/l/..", "/"), ("n", "/a/x")):
+            for path, place in (("/l", "/a"), ("/l/x", "/a/x"), ("/m", "/a/x"), ("/n", "/a/x"), ("/l/..", "/")):
                 self.assertEqual(tree.followed(path).path, place)
             for path, place in (("/l", "/l"), ("/l/", "/a"), ("/n", "/n"), ("/l/x", "/a/x"), ("/a/../m", "/m")):
                 self.assertEqual(tree.followed(path, follows_last=False).path, place)
@@ -413,7 +421,8 @@ class WithProgram(FolderTest):
             self.skipTest("the program isn't built")
         image = self.path("image")
         os.mkdir(image)
-        written = [archive([*_TREE, member("a.pem", _KEY)]), archive([member(".wh.nothing"), folder("bin"), member("bin/.wh.run")])]
+        upper = [member(".wh.nothing"), folder("bin"), member("bin/.wh.run")]
+        written = [archive([*_TREE, member("a.pem", _KEY)]), archive(upper)]
         put_index(image, [put_manifest(image, written, written, "linux/amd64", {
             "os": "linux", "architecture": "amd64", "config": {"Cmd": ["run"]},
         })])

@@ -14,7 +14,8 @@ _BASE = """\
 FROM scratch
 COPY busybox /bin/busybox
 RUN ["/bin/busybox", "--install", "/bin"]
-RUN mkdir -p /etc /opt/bin /tmp && printf 'root:x:0:0::/:\\nweb:x:33:33::/:\\n' > /etc/passwd && printf 'web:x:33:\\n' > /etc/group
+RUN mkdir -p /etc /opt/bin /tmp && printf 'web:x:33:\\n' > /etc/group
+RUN printf 'root:x:0:0::/:\\nweb:x:33:33::/:\\n' > /etc/passwd
 RUN ln -s /opt/bin /usr-local && printf '#!/bin/sh\\nexit 0\\n' > /opt/bin/go && chmod 755 /opt/bin/go
 CMD ["true"]
 """
