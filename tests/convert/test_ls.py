@@ -20,10 +20,10 @@ from test_diff import _NAMES, _entry, _fit, write_image
 
 from convert.common.escaping import unescaped
 from convert.look.places import Layers
-from convert.model.entries import DIRECTORY, REDIRECT, WHITEOUT, Entry, named
+from convert.model.entries import DIRECTORY, OPAQUE, REDIRECT, WHITEOUT, Entry, named
 from convert.model.manifests import written
 
-_STACKS = 100
+_STACKS = 400
 _PAIRS = 8
 _TIME = 1_700_000_000
 _LAYERS = [
@@ -163,6 +163,9 @@ def used_from(stack: PlainStack, top: int) -> set[tuple[int, str]]:
 
 
 def _without_redirect(entry: Entry) -> Entry:
+    """The same entry, but a directory that was moved is opaque."""
+    if entry.kind == DIRECTORY and REDIRECT in entry.attributes:
+        return replace(entry, attributes={OPAQUE: b"y"})
     return replace(entry, attributes={name: value for name, value in entry.attributes.items() if name != REDIRECT})
 
 
