@@ -20,7 +20,7 @@ from test_diff import _NAMES, _entry, _fit, write_image
 
 from convert.common.escaping import unescaped
 from convert.look.places import Layers
-from convert.model.entries import DIRECTORY, OPAQUE, REDIRECT, WHITEOUT, Entry, named
+from convert.model.entries import DIRECTORY, METACOPY, OPAQUE, REDIRECT, WHITEOUT, Entry, named
 from convert.model.manifests import written
 
 _STACKS = 400
@@ -136,6 +136,17 @@ class Definitions(FolderTest):
         with open(self.path("report"), "w", encoding="ascii") as file:
             file.writelines(stack.report())
         return Layers(paths, data_layers, self.path("report"))
+
+    def test_data_that_went_with_a_metacopy_file(self) -> None:
+        root = Entry("/", DIRECTORY, 0o755)
+        moved = {METACOPY: b"", REDIRECT: b"/data"}
+        layers = [
+            [root, Entry("/f", "char", 0)], [root, Entry("/f", "file", 0o644, size=1, attributes=moved)],
+            [root, Entry("/data", "file", 0o644, size=1, blob="0" * 64), Entry("/never", "file", 0o644)],
+        ]
+        for count, wanted in ((3, [("/data", 2, 0), ("/f", 1, 0), ("/never", 2, None)]), (2, [("/never", 1, None)])):
+            found = self.layers(layers[-count:], PlainStack(layers[-count:], 1), 1)
+            self.assertEqual([(it.line.path, it.layer, it.hidden_by) for it in found.not_shown()], wanted)
 
     def test_another_report(self) -> None:
         """Nothing is given of a report that isn't that of the layers, whichever line or field of it differs."""
