@@ -487,6 +487,12 @@ for how in fsck 'fsck --any-size'; do
     over='failing open ff 1 5' REFUSE_ON=1 REFUSE_WAIT=50 refuses 3 "cannot read eight/${name/#7/0}" $how --workers 8 --blobs eight eight.json
 done
 rm eight/*
+# (A path of almost 4,000 bytes is reported whole.)
+far_folder=$(printf './%.0s' {1..1900})blobs
+for how in fsck 'fsck --any-size'; do
+    # shellcheck disable=SC2086
+    over="failing open /$abc 1 5" refuses 3 "cannot read $far_folder/$abc" $how --blobs "$far_folder" k.json
+done
 # (It grows, shrinks and is emptied while it is read, and never has the three bytes of its name.)
 mkdir restless new && printf abcd > "restless/$abc"
 (while :; do

@@ -230,11 +230,11 @@ def large_blob(program: str, folder: str) -> None:
 
 
 def large_manifest(program: str, folder: str) -> None:
-    """A manifest of 150 MB, of a file and of standard input."""
+    """A manifest of 255 MiB, of a file and of standard input."""
     [small] = write(folder, [[entry("/d")]])
     shown, padded = ran(program, "show", small), os.path.join(folder, "padded.json")
     with open(small, "rb") as text, open(padded, "wb") as out:
-        out.write(b" " * 150_000_000 + text.read())
+        out.write(b" " * (255 << 20) + text.read())
     same("show", ran(program, "show", padded), shown)
     with open(padded, "rb") as text:
         done = subprocess.run([program], stdin=text, capture_output=True, check=False, timeout=LONGEST)
@@ -255,7 +255,7 @@ def cases(program: str) -> Iterator[tuple[str, Callable[[str], None]]]:
     for it in large():
         yield it.what, functools.partial(judge, program, it)
     yield "a blob of 255 MiB", functools.partial(large_blob, program)
-    yield "a manifest of 150 MB", functools.partial(large_manifest, program)
+    yield "a manifest of 255 MiB", functools.partial(large_manifest, program)
 
 
 def main() -> None:
