@@ -27,6 +27,8 @@ def flatten_all(options: FlattenOptions) -> None:
     require_free(options)
     begun = time.monotonic()
     platforms = platforms_in(options.image, options.tag)
+    if options.out.form is Form.ARCHIVE and options.out.is_path:
+        note_path(options.out.label, "of all platforms it has no manifest.json, without which only newer dockers load it")
     with new_image(options.out) as stage:
         with work_folder(stage, options.keep) as folder:
             runners = [_flattened(replace(options, platform=platform), stage, folder) for platform in platforms]

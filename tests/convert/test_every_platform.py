@@ -61,6 +61,7 @@ class EveryPlatform(ImageTest):
             result = self.flatten("--platform", "all", "--name", "y:2", out=out)
             self.require_done(result)
             self.assertRegex(result[2].splitlines()[-1], rf"{out}: 3 platforms, .* in place of .* %\), ")
+            self.assertEqual("of all platforms it has no manifest.json" in result[2], out != "flat")
             self.assertRegex(result[2], rf"{out}, linux/arm64/v8: 1 layer in place of 2, ")
             place = self.path("all", out)
             if out != "flat":
