@@ -240,11 +240,6 @@ def worth_listing(advice: Sequence[Advice], total: int) -> Sequence[Advice]:
     return [it for it in advice if it.bytes * _LEAST_PART >= total]
 
 
-def smaller_text(advice: Sequence[Advice], size_text: Callable[[int], str]) -> str:
-    """What the others save together."""
-    return f"{len(advice):,} smaller, {size_text(sum(it.bytes for it in advice))} in all"
-
-
 def json_members(advice: Sequence[Advice]) -> dict[str, Any]:
     """The same for a program."""
     return {"advice": [

@@ -8,7 +8,7 @@ from collections.abc import Iterable, Iterator, Sequence
 from dataclasses import dataclass
 
 from ..common.amounts import amount_text, per_cent, size_text
-from .advice import Advice, smaller_text, worth_listing
+from .advice import Advice, worth_listing
 from .layer_sizes import LayerSizes, Sizes
 from .texts import NONE, Origin, cause_text, command_text, layer_text, packed_sum
 from .waste import Cause, Place, Waste
@@ -166,7 +166,7 @@ class _Table:
             yield "\nAdvice, by what it saves:\n"
             yield from self._advice_lines(listed)
         if left := advice[len(listed):]:
-            yield f"{smaller_text(left, self._size)}\n"
+            yield f"and {len(left):,} smaller, {self._size(sum(it.bytes for it in left))} in all\n"
         elif not listed:
             yield "\nAdvice: none\n"
         if not self._waste.has_base and (saved := self._waste.total - self._sizes.merged.bytes) > 0:

@@ -47,7 +47,7 @@ BYTES  FILES  STEP  WHAT AND WHERE
                     -> apt-get clean in the same RUN, or RUN --mount=type=cache
   40K      1   2/5  only another mode than in step 1: /opt/data.bin
                     -> COPY --chmod=755 in step 1
-1 smaller, 27 in all
+and 1 smaller, 27 in all
 At once: layers flatten saves 40K
 
 """

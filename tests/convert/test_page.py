@@ -25,6 +25,7 @@ from convert.common.amounts import size_text
 from convert.model.entries import DIRECTORY, FILE, Entry, named
 from convert.model.merged_tree import LayerFile
 from convert.sizes.layer_sizes import LayerSizes, Sizes, sizes_of
+from convert.sizes.page.markup import PATH, Listing
 from convert.sizes.page.tables import layer_table
 from convert.sizes.page.tree import columns_of, packed
 from convert.sizes.page.write import Subject, write_page
@@ -112,6 +113,24 @@ class Text(PageTest):
             self.skipTest("the program isn't built")
         result = run("sizes", self.path("image"), "--html", "-")
         self.assertEqual((result.returncode, result.stdout), (0, self.text), result.stderr)
+
+
+class Lists(unittest.TestCase):
+    """A list without the script: 20 rows, the rest to open, and what there is no room for in one line."""
+
+    def test_rows(self) -> None:
+        listing = Listing[int]((PATH,), lambda size: size, lambda size: (f"/{size}<b>",), 30)
+        first, _, more = "".join(listing.markup(range(40, 0, -1))).partition("<details")
+        self.assertEqual(re.findall(r'<td class="path">(.*?)</tr>', first), [f"/{size}&lt;b&gt;" for size in range(40, 20, -1)])
+        self.assertEqual(more.count('<td class="path">'), 10)
+        self.assertIn("<summary>10 more</summary>", more)
+        self.assertIn("and 10 smaller, 55 in all", more)
+        self.assertEqual("".join(listing.markup([])), "<p>Nothing</p>\n")
+
+    def test_long_texts(self) -> None:
+        """Texts of over 500,000 bytes aren't listed, however few rows there are."""
+        listing = Listing[int]((PATH,), lambda size: size, lambda size: ("é" * 100_000,))
+        self.assertIn("and 3 smaller, 6 in all", "".join(listing.markup([5, 4, 3, 2, 1])))
 
 
 class Columns(StacksTest):

@@ -1,16 +1,14 @@
 """The page's tables: the layers, advice, and what is wasted by directory, by command and by file."""
 
-from collections.abc import Iterator, Mapping, Sequence
+from collections.abc import Iterator, Sequence
 
 from ...common.amounts import per_cent, size_text
-from ..advice import Advice, smaller_text, worth_listing
+from ..advice import Advice, worth_listing
 from ..layer_sizes import LayerSizes, NotShown, Sizes
 from ..texts import Origin, cause_text, command_text, layer_text, not_shown_text, packed_sum
-from ..waste import Place, Waste, cause_of
-from .markup import BYTES, COMMAND, DIRECTORY, FILES, LAYER, MOST_OF_COMMAND, PATH, PLACE, WHY, Column, listing, text
+from ..waste import Cause, Place, Waste, cause_of
+from .markup import COMMAND, DIRECTORY, FILES, LAYER, MOST_OF_COMMAND, PATH, PLACE, WHY, Column, Listing, text
 
-_MOST_FILES = 1_000
-_MOST_DIRECTORIES = 200
 _LEAST_PART = 0.4  # per cent of a bar that anything takes
 _PARTS = (("shown", "shown"), ("repeated", "duplicate of a lower layer"), ("hidden", "deleted but shipped"))
 _HEADS = ("Bytes", "Packed", "Wasted", "Share", "Shown", "Deleted", "Duplicate", "Entries", "Files", "Whiteouts", "Opaque")
@@ -73,50 +71,39 @@ def advice_list(advice: Sequence[Advice], origins: Sequence[Origin], waste: Wast
     if not advice:
         yield "<p>Nothing: no bytes are wasted, and no cache of a package manager is there.</p>\n</section>\n"
         return
-    listed = worth_listing(advice, waste.total)
-    columns = (BYTES, FILES, Column("In", "why"), Column("What it is", "text"), Column("What saves it", "text"), PLACE)
-    yield from listing(columns, (
-        (
-            size_text(it.bytes), f"{it.file_count:,}", layer_text(origins, it.layer), it.what, it.remedy,
-            it.place().text(),
-        )
-        for it in listed
-    ))
-    if left := advice[len(listed):]:
-        yield f'<p class="faint">{smaller_text(left, size_text)}</p>\n'
+    columns = (FILES, Column("In", "why"), Column("What it is", "text"), Column("What saves it", "text"), PLACE)
+    listing = Listing[Advice](columns, lambda it: it.bytes, lambda it: (
+        f"{it.file_count:,}", layer_text(origins, it.layer), it.what, it.remedy, it.place().text()
+    ), len(worth_listing(advice, waste.total)))
+    yield from listing.markup(advice)
     yield "</section>\n"
 
 
 def waste_lists(sizes: Sizes, origins: Sequence[Origin], waste: Waste) -> Iterator[str]:
     """What is wasted, in groups and by itself. The script puts what it is asked for in the place of these."""
+    directories = Listing[Place]((FILES, DIRECTORY), lambda it: it.bytes, lambda it: (f"{it.files:,}", it.text()))
+    commands = Listing[tuple[Cause, Place]]((FILES, WHY, COMMAND), lambda it: it[1].bytes, lambda it: (
+        f"{it[1].files:,}", cause_text(it[0], origins), command_text(origins[it[0].layer], MOST_OF_COMMAND)
+    ))
+    files = Listing[NotShown]((LAYER, WHY, PATH), lambda it: it.file.size, lambda it: (
+        str(it.file.layer), _why(it, origins), it.file.path
+    ))
     yield '<div id="lists">\n<section id="by-directory"><h2>Wasted, by directory</h2>\n'
-    directories = sorted(_by_directory(sizes.not_shown).values(), key=lambda it: (-it.bytes, it.path))
-    yield from listing((BYTES, FILES, DIRECTORY), (
-        (size_text(it.bytes), f"{it.files:,}", it.text()) for it in directories[:_MOST_DIRECTORIES]
-    ))
+    yield from directories.markup(_by_directory(sizes.not_shown))
     yield '</section>\n<section id="by-command"><h2>Wasted, by command</h2>\n'
-    yield from listing((BYTES, FILES, WHY, COMMAND), (
-        (
-            size_text(it.bytes), f"{it.files:,}", cause_text(cause, origins),
-            command_text(origins[cause.layer], MOST_OF_COMMAND),
-        )
-        for cause, it in waste.causes.items()
-    ))
+    yield from commands.markup(list(waste.causes.items()))
     yield '</section>\n<section id="files"><h2>Wasted, by file</h2>\n'
-    yield from listing((BYTES, LAYER, WHY, PATH), (
-        (size_text(one.file.size), str(one.file.layer), _why(one, origins), one.file.path)
-        for one in sizes.not_shown[:_MOST_FILES]
-    ))
+    yield from files.markup(sizes.not_shown)
     yield "</section>\n</div>\n"
 
 
-def _by_directory(files: Sequence[NotShown]) -> Mapping[str, Place]:
-    """The directories that files are right in."""
+def _by_directory(files: Sequence[NotShown]) -> Sequence[Place]:
+    """The directories that files are right in, the largest first."""
     found = dict[str, Place]()
     for one in files:
         above = one.file.path.rpartition("/")[0] or "/"
         found.setdefault(above, Place(None, above, is_folder=True)).add(Place(None, "", one.file.size, 1))
-    return found
+    return sorted(found.values(), key=lambda place: (-place.bytes, place.path))
 
 
 def _why(one: NotShown, origins: Sequence[Origin]) -> str:
