@@ -7,6 +7,7 @@ from __future__ import annotations
 
 import argparse
 import os
+import re
 import signal
 import sys
 import traceback
@@ -32,6 +33,7 @@ if TYPE_CHECKING:
 
 _INTERRUPTED = 128
 _OF_IMAGES = ("platform", "from_tag", "overlay_marks", "dry_run")  # words of commands that take an image or a stack
+_OF_THIS_MACHINE = re.compile(r"/((bin|boot|dev|etc|lib\w*|proc|sbin|sys|usr)(/.*)?|home|opt|root|run|srv|tmp|var)/?")
 _OF_STACKS = ("blobs", "data_layers", "userxattr", "cross_file_systems")
 
 
@@ -389,7 +391,7 @@ def _cat(words: argparse.Namespace) -> None:
 
     source, path = _source_and_path(words)
     if path is None:
-        raise UsageFault("name the PATH of a file")
+        raise UsageFault("name the PATH of a file" + " before --stack" * (words.stack is not None))
     print_contents(source, path)
 
 
@@ -399,6 +401,9 @@ def _source_and_path(words: argparse.Namespace) -> tuple[Source, str | None]:
         if words.path is not None:
             raise UsageFault("with --stack a PATH alone comes before it")
         words.path, words.image = words.image, None
+        last = words.stack[-1]
+        if words.path is None and len(words.stack) > 1 and _OF_THIS_MACHINE.fullmatch(last):
+            raise UsageFault(f"{last}, as a PATH, comes before --stack or after --; lowerdir=UPPER:LOWER takes it for a layer")
     return _source(words), words.path
 
 

@@ -160,14 +160,14 @@ can't be seen. PATH restricts it to what is there and below.
 
 --layer N prints what that layer has, its whiteouts as `- PATH`; --removed what is shipped and not shown: the
 entries of all layers, but for directories, that an upper layer removes or replaces, and which. Nothing is printed unless all
-is what the proved program ovl_layers shows. With --stack, PATH comes before it.
+is what the proved program ovl_layers shows. With --stack, PATH comes before it, or after --.
 
 --json prints an object a line: {"layers-ls":1}, the entries, their number."""
 
 _CAT = """\
 Print the contents of the file to which a path leads. Links are followed inside of what is shown, 40 at most.
 The contents come from the layer that has them, and are printed once their digest is known to be right.
-With --stack, PATH comes before it."""
+With --stack, PATH comes before it, or after --."""
 
 _DIFF = """\
 Print what differs between what two sources show, a line for each path, in path order: + PATH if only NEW shows

@@ -265,6 +265,7 @@ class Listed(ImageTest):
         result = call("ls", *words, "/f")
         self.assertEqual(result[:2], (0, "-rw-r--r--     0     0     1 1970-01-01 00:00 1 /f\n"))
         self.assertEqual(call("ls", "/f", "--stack", upper, lower), result)
+        self.assertEqual(call("ls", "--stack", upper, lower, "--", "/f"), result)
         self.assertIn(f"1 {'..' if len(lower) > 40 else lower}"[:3], call("ls", "/f", "--long-layer", "--stack", upper, lower)[1])
         self.assertEqual(call("sizes", "--json", *words)[:2], call("sizes", "--json", "--stack", upper, lower)[:2])
         self.assertEqual(call("diff", *words, *words)[:2], (0, ""))
@@ -297,7 +298,9 @@ class Listed(ImageTest):
             (["ls", "image", "--removed", "/bin"], 3, "there is nothing of a layer that isn't shown at /bin"),
             (["ls", "lowerdir=a::b:c"], 2, "data-only ones after :: each"), (["ls", "lowerdir=a:"], 2, "lowerdir=UPPER:LOWER"),
             (["ls", "lowerdir=a:b", "--data-layers", "1"], 2, "in lowerdir=a:b data-only layers come after ::"),
-            (["ls", "/x", "y", "--stack", "image"], 2, "with --stack a PATH alone"), (["cat", "image", "/etc"], 3, "/etc is a directory"),
+            (["ls", "/x", "y", "--stack", "image"], 2, "with --stack a PATH alone"),
+            (["ls", "--stack", "a", "/etc"], 2, "/etc, as a PATH, comes before --stack"),
+            (["cat", "--stack", "a", "/usr/lib/x"], 2, "/usr/lib/x, as a PATH, comes before --stack"), (["cat", "image", "/etc"], 3, "/etc is a directory"),
             (["cat", "image", "/null"], 3, "/null is a device"), (["cat", "image", "/loop"], 3, "/loop is reached by too many links"),
             (["cat", "image"], 2, "name the PATH of a file"),
         ):
