@@ -17,7 +17,7 @@ from typing import TYPE_CHECKING
 
 from .common.colours import When, choose_colours
 from .common.faults import OTHER, USAGE, ClosedPipe, Fault, UsageFault
-from .common.outputs import standard_output
+from .common.outputs import STANDARD_OUTPUT, standard_output
 from .common.program import choose_program
 from .common.progress import Verbosity, choose_verbosity, complain, note
 from .model.stacks import BLOBS, require_order, stack_in
@@ -245,6 +245,8 @@ def _flatten_rootfs(words: argparse.Namespace) -> None:
     for name, is_given in of_images.items():
         if is_given:
             raise UsageFault(f"--rootfs makes one tree and no image, without --{name}")
+    if words.out == STANDARD_OUTPUT:
+        _require_no_terminal("the tree")
     if words.platform == ALL:
         raise UsageFault(f"--rootfs makes one tree, not those of --platform {ALL}")
     if words.compress and words.compress.method == NONE:
@@ -295,6 +297,8 @@ def _flatten_stack(words: argparse.Namespace) -> None:
 
     if words.name is not None:
         raise UsageFault("--name is for images alone")
+    if words.out == STANDARD_OUTPUT:
+        _require_no_terminal("the tree")
     if words.rootfs and words.layers != 1:
         raise UsageFault("--rootfs makes one tree, without --layers")
     if words.base is not None:
@@ -442,9 +446,14 @@ def _target(word: str, is_told: bool = False) -> Target:
     from .image.targets import target_of
 
     target = target_of(word)
-    if target.is_standard_output and sys.stdout.isatty() and not is_told:
-        raise UsageFault("standard output is a terminal; send the image into a file or a pipe")
+    if target.is_standard_output and not is_told:
+        _require_no_terminal("the image")
     return target
+
+
+def _require_no_terminal(what: str) -> None:
+    if sys.stdout.isatty():
+        raise UsageFault(f"standard output is a terminal; send {what} into a file or a pipe")
 
 
 def _mounted(words: argparse.Namespace) -> None:

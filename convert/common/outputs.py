@@ -289,7 +289,7 @@ def _fill(folder: int, stage: Stage, is_dressed: bool) -> None:
 
 
 @contextlib.contextmanager
-def passing_folder(folder: str, reported_path: str | None = None) -> Iterator[str]:
+def passing_stage(folder: str, reported_path: str | None = None) -> Iterator[Stage]:
     """A stage in a folder, which is taken away at the end whatever happens."""
     with contextlib.ExitStack() as opened:
         with writing(reported_path or folder):
@@ -297,7 +297,21 @@ def passing_folder(folder: str, reported_path: str | None = None) -> Iterator[st
             tidy(parent, folder)
             stage = opened.enter_context(Stage(parent))
         with reported_as(stage.path, reported_path or folder):
-            yield stage.path
+            yield stage
+
+
+@contextlib.contextmanager
+def passing_folder(folder: str, reported_path: str | None = None) -> Iterator[str]:
+    """The path of such a stage."""
+    with passing_stage(folder, reported_path) as stage:
+        yield stage.path
+
+
+def print_file(path: str) -> None:
+    """Writes the bytes of a file that was made here to standard output."""
+    with open(path, "rb") as file, standard_output() as out:
+        while piece := file.read(PIECE):
+            out.buffer.write(piece)
 
 
 @contextlib.contextmanager

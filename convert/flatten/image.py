@@ -11,11 +11,10 @@ from collections.abc import Iterator, Sequence
 from dataclasses import dataclass, replace
 from pathlib import Path
 
-from ..common.contents import PIECE
 from ..common.disk_space import require_room
 from ..common.escaping import printable
 from ..common.faults import UsageFault, cannot_read, cannot_write
-from ..common.outputs import NEW, folder_made, new_file, note_stages_beside, passing_folder, standard_output
+from ..common.outputs import NEW, folder_made, new_file, note_stages_beside, passing_folder, print_file
 from ..common.program import NAME, find_program, makes_layers, word_of_path, words_of
 from ..common.progress import counted
 from ..common.stages import removing
@@ -110,18 +109,12 @@ def new_image(out: Target) -> Iterator[str]:
     if out.is_standard_output:
         with passing_folder(tempfile.gettempdir(), out.label) as folder:
             yield folder
-            _print_image(f"{folder}/{NEW}")
+            print_file(f"{folder}/{NEW}")
         return
     if out.form is Form.ARCHIVE:
         note_stages_beside(out.path)
     with new_file(out.path) if out.form is Form.ARCHIVE else folder_made(out.path) as stage:
         yield stage.path
-
-
-def _print_image(image: str) -> None:
-    with open(image, "rb") as file, standard_output() as out:
-        while piece := file.read(PIECE):
-            out.buffer.write(piece)
 
 
 @dataclass(frozen=True)

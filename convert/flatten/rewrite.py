@@ -51,6 +51,8 @@ def rewrite(options: RewriteOptions, print_lines: Callable[[Iterable[str]], None
 
     Nothing is written unless all layers show, with the new one read again, what they showed, except for what was reported.
     """
+    if options.new.is_standard_output():
+        raise UsageFault(f"--out -: there goes the report of {options.rewriting.value}; name a folder or a file")
     forms = require_sound(options.new)
     _require_layers(options)
     begun = time.monotonic()

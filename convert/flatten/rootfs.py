@@ -34,7 +34,7 @@ def flatten_rootfs(options: RootfsOptions) -> None:
     with new_layers_stage(options.new) as stage, work_folder(stage.path, options.new.keep) as folder:
         runner = _RootfsRunner(options, folder, place_of(stage.file, NEW))
         before, after = carry_out(runner, 1)
-    runner.sum_up(options.new.out, before, after, time.monotonic() - begun)
+    runner.sum_up(options.new.label, before, after, time.monotonic() - begun)
 
 
 class _RootfsRunner(StackRunner):

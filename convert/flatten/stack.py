@@ -3,6 +3,7 @@
 import contextlib
 import os
 import sys
+import tempfile
 import time
 from collections.abc import Callable, Iterable, Iterator, Mapping, Sequence
 from dataclasses import dataclass, replace
@@ -11,7 +12,9 @@ from enum import Enum
 from ..common.faults import UsageFault, cannot_write, writing
 from ..common.omissions import Loss, Losses
 from ..common.open_dirs import place_of
-from ..common.outputs import NEW, STANDARD_OUTPUT, folder_made, new_file, note_stages_beside, require_empty, write_text
+from ..common.outputs import (
+    NEW, STANDARD_OUTPUT, folder_made, new_file, note_stages_beside, passing_stage, print_file, require_empty, write_text,
+)
 from ..common.progress import counted, layers_at_work, note_path
 from ..common.stages import Stage
 from ..folder.build import BuildOptions, build
@@ -69,7 +72,16 @@ class NewLayersOptions:
     def written_as(self) -> OutForm:
         """What each layer is written as."""
         by_name = next((form for form, suffix in _SUFFIXES.items() if suffix and self.out.endswith(suffix)), OutForm.FOLDER)
-        return self.form or by_name
+        return self.form or (OutForm.ARCHIVE if self.is_standard_output() else by_name)
+
+    def is_standard_output(self) -> bool:
+        """Whether what is made goes there, and nothing else does."""
+        return self.out == STANDARD_OUTPUT
+
+    @property
+    def label(self) -> str:
+        """What --out is called in faults and notes."""
+        return "standard output" if self.is_standard_output() else self.out
 
     def is_squashfs(self) -> bool:
         """Whether squashfs files are written."""
@@ -90,12 +102,17 @@ def flatten_stack(options: NewLayersOptions) -> None:
     with new_layers_stage(options) as stage, work_folder(stage.path, options.keep) as folder:
         runner = StackRunner(options, folder, place_of(stage.file, NEW), forms)
         before, after = carry_out(runner, options.layers, options.data_layers)
-    runner.sum_up(options.out, before, after, time.monotonic() - begun)
+    runner.sum_up(options.label, before, after, time.monotonic() - begun)
 
 
 @contextlib.contextmanager
 def new_layers_stage(options: NewLayersOptions) -> Iterator[Stage]:
     """A stage for what --out is to be."""
+    if options.is_standard_output():
+        with passing_stage(tempfile.gettempdir(), options.label) as stage:
+            yield stage
+            print_file(place_of(stage.file, NEW))
+        return
     if options.is_file():
         note_stages_beside(options.out)
     with new_file(options.out) if options.is_file() else folder_made(options.out, is_dressed=options.layers == 1) as stage:
@@ -112,8 +129,8 @@ def require_sound(options: NewLayersOptions) -> list[Form]:
 
 def require_place(options: NewLayersOptions) -> None:
     """Refuses at once a place where nothing could be written in the end."""
-    if options.out == STANDARD_OUTPUT:
-        raise UsageFault("--out -: a tree goes to a folder or a file, not to standard output; a folder of this name is ./-")
+    if options.is_standard_output() and not options.is_file():
+        raise UsageFault("--out - takes one file: an archive, or with --form squashfs a squashfs")
     if options.layers > 1 and options.out.endswith(tuple(SUFFIXES)):
         raise UsageFault("with --layers over 1 --out is a folder of layers; --form squashfs makes them squashfs files")
     _require_outside(options)
@@ -130,11 +147,10 @@ def require_place(options: NewLayersOptions) -> None:
         raise UsageFault("--compress is of a squashfs, and --out doesn't end in .squashfs")
     elif options.written_as() is OutForm.FOLDER and not options.stack.userxattr:
         require_trusted(options.out)
-    if options.is_file():
-        if os.path.lexists(options.out) and not os.path.isfile(options.out):
-            raise cannot_write(options.out, "it is no regular file")
-    else:
+    if not options.is_file():
         require_empty(options.out)
+    elif not options.is_standard_output() and os.path.lexists(options.out) and not os.path.isfile(options.out):
+        raise cannot_write(options.out, "it is no regular file")
 
 
 def _packing_of(options: NewLayersOptions, forms: Sequence[Form]) -> Packing:
@@ -153,8 +169,10 @@ def _bytes_of(layers: Sequence[str], forms: Sequence[Form]) -> int | None:
 
 def _require_outside(options: NewLayersOptions) -> None:
     """Refuses a place for what is made that is read, or in a folder that is read."""
-    places = {"--out": options.out} | ({} if options.keep is None else {"--keep": options.keep})
+    places = {"--out": None if options.is_standard_output() else options.out, "--keep": options.keep}
     for word, place in places.items():
+        if place is None:
+            continue
         for layer in options.stack.layers:
             if os.path.exists(place) and os.path.samefile(place, layer):
                 raise UsageFault(f"{word} {place} is a layer that is read: name another place")
@@ -175,7 +193,8 @@ class StackRunner(Runner):
     """Does the steps of a stack. `made` is where the new layer is made, or the folder of the new layers."""
 
     def __init__(self, options: NewLayersOptions, folder: str, made: str, forms: Sequence[Form]) -> None:
-        super().__init__(folder, options.keep is not None, sys.stdout, options.stack.layers)
+        faults = sys.stderr if options.is_standard_output() else sys.stdout
+        super().__init__(folder, options.keep is not None, faults, options.stack.layers)
         self._options = options
         self._made = made
         self.excluded = options.excluded
@@ -211,7 +230,7 @@ class StackRunner(Runner):
 
     def _build(self, number: int, layer: str, manifest: str, hides: bool) -> str:
         """Writes a new layer in its form; gives its path."""
-        out, name = self._made, self._options.out
+        out, name = self._made, self._options.label
         if self._options.layers > 1:
             suffix = _SUFFIXES[self._options.written_as()]
             with writing(name):
@@ -243,9 +262,9 @@ class StackRunner(Runner):
             if entry.kind == SOCKET and self._options.written_as() in _OF_FILES and hides:
                 losses.add(Loss.SOCKET, entry.path)
                 entries[place] = replace(whiteout(), path=entry.path)
-        losses.report(self._options.out)
+        losses.report(self._options.label)
         if marks:
-            note_path(self._options.out, counted(marks, "mark", "marks") + " of the host's overlay left out")
+            note_path(self._options.label, counted(marks, "mark", "marks") + " of the host's overlay left out")
         path = self.path(manifest)
         write_layer(path, lambda: named(entries), path, True)
 

@@ -32,6 +32,16 @@ _OF_DOCKER = (
 )
 
 
+_WITH_PROGRAM = """
+import sys
+sys.path.insert(0, {!r})
+from unittest import mock
+from convert import cli
+with mock.patch("convert.common.program.find_program", return_value={!r}):
+    sys.exit(cli.main(sys.argv[1:]))
+"""
+
+
 def sha256(data: bytes) -> str:
     """A digest."""
     return f"sha256:{hashlib.sha256(data).hexdigest()}"
@@ -94,6 +104,11 @@ class BaseTest(ImageTest):
             with tarfile.open(path) as file:
                 file.extractall(path := self.path("in", f"of-{out}"), filter="data")
         return Layout(path)
+
+    @property
+    def words(self) -> list[str]:
+        """Words that run the command in a process, with the program."""
+        return [sys.executable, "-B", "-c", _WITH_PROGRAM.format(str(COMMAND.parent), self.program)]
 
     def require_kept(self, new: Layout, count: int, given: Layout | None = None) -> None:
         """The lowest layers, and the history's lines of them, are those of the given image."""
@@ -169,11 +184,6 @@ class Bases(BaseTest):
             self.assertEqual(self.shown(self.path("all", "flat.tar")), self.shown(self.image))
             shutil.rmtree(new.path)
 
-    @property
-    def words(self) -> list[str]:
-        """Words that run the command in a process, with the program."""
-        return [sys.executable, "-B", "-c", _WITH_PROGRAM.format(str(COMMAND.parent), self.program)]
-
     def test_by_hand(self) -> None:
         """The script says that layers don't stay; with one layer it makes the same image."""
         status, script, messages = self.flatten("--base", 1, "--dry-run")
@@ -218,16 +228,6 @@ class Bases(BaseTest):
         result = self.flatten("--base", 1)
         self.require_done(result)
         self.assertEqual(result[2].count("acl"), 1, result[2])
-
-
-_WITH_PROGRAM = """
-import sys
-sys.path.insert(0, {!r})
-from unittest import mock
-from convert import cli
-with mock.patch("convert.common.program.find_program", return_value={!r}):
-    sys.exit(cli.main(sys.argv[1:]))
-"""
 
 
 class Refused(BaseTest):

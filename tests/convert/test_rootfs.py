@@ -1,6 +1,7 @@
 """`flatten --rootfs`: what an image shows as one tree; `build` of an archive. test_flatten.py compares them with umoci's."""
 
 import os
+import subprocess
 import tarfile
 import unittest
 from pathlib import Path
@@ -57,6 +58,24 @@ class Rootfs(BaseTest):
         self.require_done(self.flatten("--rootfs", out="x"))
         self.assertTrue(os.path.samefile(self.path("all", "x", "a"), self.path("all", "x", "b")))
 
+    def test_standard_output(self) -> None:
+        """Only the tree goes there, faults of layers to standard error; nothing is left in the temporary folder."""
+        self.require_done(self.flatten("--rootfs", out="wanted.tar"))
+        os.mkdir(temporary := self.path("in", "temporary"))
+        environment = {**os.environ, "TMPDIR": temporary}
+        words = [*self.words, "flatten", self.image, "--rootfs", "--out", "-"]
+        ran = subprocess.run(words, capture_output=True, check=True, env=environment)
+        self.assertEqual(ran.stdout, Path(self.path("all", "wanted.tar")).read_bytes())
+        self.assertIn(b"layers: standard output: 1 layer in place of 3, ", ran.stderr)
+        with open(self.program, encoding="utf-8") as file:
+            real = file.read()
+        with open(self.program, "w", encoding="utf-8") as file:
+            file.write(real.replace("exec", "[ $1 != flatten ] || { echo report; exit 1; }\nexec", 1))
+        ran = subprocess.run(words, capture_output=True, check=False, env=environment)
+        self.assertEqual((ran.returncode, ran.stdout), (1, b""))
+        self.assertIn(b"\nreport\n", ran.stderr)
+        self.assertEqual(os.listdir(temporary), [])
+
     def test_a_stack_as_an_archive(self) -> None:
         for number, layer in enumerate(LAYERS[:1]):
             Path(self.path("in", f"{number}.tar")).write_bytes(layer)
@@ -77,7 +96,9 @@ class Rootfs(BaseTest):
         ):
             self.require_fault(self.flatten("--rootfs", *words, out=out), 2, problem)
             self.left()
-        self.require_fault(call("flatten", self.image, "--rootfs", "--out", "-"), 2, "a tree goes to a folder or a file")
+        fault = "--out - takes one file: an archive, or with --form squashfs a squashfs"
+        self.require_fault(call("flatten", self.image, "--rootfs", "--form", "folder", "--out", "-"), 2, fault)
+        self.require_fault(call("vacuum", "--stack", self.image, "--out", "-"), 2, "there goes the report of vacuum")
 
     def test_nothing_is_left(self) -> None:
         with open(self.program, encoding="utf-8") as file:
