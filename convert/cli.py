@@ -22,7 +22,8 @@ from .common.program import choose_program
 from .common.progress import Verbosity, choose_verbosity, complain, note
 from .model.stacks import BLOBS, require_order, stack_in
 from .usage import with_hint
-from .words import ALL, Run, parser_of
+from .values import ALL
+from .words import Run, parser_of
 
 if TYPE_CHECKING:
     from .flatten.rewrite import Rewriting
