@@ -112,10 +112,10 @@ def platform_or_all(text: str) -> str:
 
 def whole_platform(text: str) -> str:
     """The same with a processor, as an image has one."""
-    platform = platform(text)
-    if "/" not in platform:
+    found = platform(text)
+    if "/" not in found:
         raise argparse.ArgumentTypeError(_PLATFORM)
-    return platform
+    return found
 
 
 def name(text: str) -> str:
