@@ -12,6 +12,7 @@
 - GLOSSARY.md or PROVED.md has every public type, and FORMATS.md every public limit, and none that isn't there.
 - Each block of code in the documentation of a crate's items is lines, one after another, of a file that the gate proves and
   runs: one of `ovl_caller` or of a crate of tests.
+- The test of the worked stacks has the lines of examples/stacks.txt.
 - No document is longer than it may be, or has a turn that is refused (prose.py).
 
 Prints what is missing; the status is 1 if something is. Says nothing of what the documents say.
@@ -350,9 +351,17 @@ def blocks():
                     yield f"{path.relative_to(TOP)}:{number}: ovl_caller and the crates of tests have no such lines as this block"
 
 
+def worked_stacks():
+    """Whether the test of the worked stacks has the lines of stacks.txt."""
+    lines = [line for line in (TOP / "examples/stacks.txt").read_text(encoding="utf-8").splitlines() if not line.startswith("#")]
+    test = TOP / "crates/ovl_engine_tests/src/stacks.rt"
+    if f'r#"\n{chr(10).join(lines).strip()}\n"#' not in test.read_text(encoding="utf-8"):
+        yield f"{test.relative_to(TOP)} hasn't the lines of examples/stacks.txt: copy them"
+
+
 if __name__ == "__main__":
     if sys.argv[1:] == ["--definitions"]:
         sys.exit(print(page(), end=""))
-    missing = [*headline(), *public_items(), *made_faults(), *links(), *files(), *homonyms(), *names(), *blocks(), *prose.turns(), *prose.lengths()]
+    missing = [*headline(), *public_items(), *made_faults(), *links(), *files(), *homonyms(), *names(), *blocks(), *worked_stacks(), *prose.turns(), *prose.lengths()]
     print("\n".join(missing) or "nothing is missing")
     sys.exit(1 if missing else 0)

@@ -1,6 +1,6 @@
 //! Commands by numbers of workers and layers.
 
-use crate::samples::{blobs_of, manifest_of, manifests_of};
+use crate::samples::{blobs_of, earlier, manifest_of, manifests_of};
 use ovl_engine::{Answer, Command, EngineFault, command};
 use ovl_pool::OpenGate;
 use ovl_test_rows::{expect_so, parts_of, same};
@@ -37,18 +37,39 @@ pub(crate) fn text_of(alloc: Global, fault: Option<EngineFault>) -> Result<Strin
     }
 }
 
-// Numbers of layers and workers with blobs, and the fault that they are.
+/// The command of a word.
+pub(crate) fn command_of_word(word: &str) -> Result<Command, Fail> {
+    match word {
+        "show" => Ok(Command::Show),
+        "fsck" => Ok(Command::Fsck),
+        "vacuum" => Ok(Command::Vacuum),
+        "deref" => Ok(Command::Deref),
+        "merge" => Ok(Command::Merge),
+        "flatten" => Ok(Command::Flatten),
+        _ => Err(Fail::new("no command has this word")),
+    }
+}
+
+// A command, how many layers there are, each of a root alone, or `empty` for a manifest of no bytes,
+// how many workers, and blobs; behind ` -> ` what refuses it.
 const LIMITS: &str = "\
-1 0 -> workers must be 1 to 64
-1 64 -> none
-1 65 -> workers must be 1 to 64
-0 2 -> layers must be 1 to 128
-128 2 -> none
-129 2 -> layers must be 1 to 128
-0 65 -> workers must be 1 to 64
-1 2 b a -> none
-1 2 ab ab -> blobs out of order
-1 2 ab abc=abd -> blobs out of order
+show 1 0 -> workers must be 1 to 64
+show 1 64 -> none
+show 1 65 -> workers must be 1 to 64
+show 0 2 -> layers must be 1 to 128
+show 128 2 -> none
+show 129 2 -> layers must be 1 to 128
+show 0 65 -> workers must be 1 to 64
+show 1 2 b a -> none
+show 1 2 ab ab -> blobs out of order
+show 1 2 ab abc=abd -> blobs out of order
+vacuum 2 0 -> workers must be 1 to 64
+vacuum 2 65 -> workers must be 1 to 64
+merge 0 2 -> layers must be 1 to 128
+merge 1 2 -> no lower layer
+merge 2 2 -> none
+merge 129 2 -> layers must be 1 to 128
+merge empty 2 -> layer 0: not JSON
 ";
 
 // So many manifests of a root alone.
@@ -60,26 +81,35 @@ fn roots(alloc: Global, count: usize) -> Result<Vec<Vec<u8>>, Fail> {
     Ok(manifests)
 }
 
-// How a command of so many layers and of blobs ends, by so many workers.
+fn manifests_named(alloc: Global, word: &str) -> Result<Vec<Vec<u8>>, Fail> {
+    if word == "empty" {
+        return Ok(vec![in alloc; Vec::new(alloc)]?);
+    }
+    roots(alloc, word.parse()?)
+}
+
+// How a command of these layers and blobs ends, by so many workers.
 fn ended<R: Threads + Wait + Sync>(
     rt: &R,
     alloc: Global,
-    layers: usize,
+    what: Command,
+    layers: &str,
     workers: usize,
     words: &str,
 ) -> Result<String, Fail> {
-    let manifests = roots(alloc, layers)?;
+    let manifests = manifests_named(alloc, layers)?;
     let blobs = blobs_of(alloc, words)?;
-    let what = Command::Show;
     let ended = command(rt, alloc, what, manifests, 0, &blobs, workers, &OpenGate);
     text_of(alloc, ended.err())
 }
 
 fn row_ended<R: Threads + Wait + Sync>(rt: &R, alloc: Global, row: &str) -> Result<(), Fail> {
     let (given, wanted) = parts_of(row);
-    let (layers, more) = given.split_once(' ').unwrap_or((given, ""));
+    let (word, more) = given.split_once(' ').unwrap_or((given, ""));
+    let (layers, more) = more.split_once(' ').unwrap_or((more, ""));
     let (workers, words) = more.split_once(' ').unwrap_or((more, ""));
-    let found = ended(rt, alloc, layers.parse()?, workers.parse()?, words)?;
+    let what = command_of_word(word)?;
+    let found = ended(rt, alloc, what, layers, workers.parse()?, words)?;
     same(row, found.as_str(), wanted)
 }
 
@@ -131,6 +161,60 @@ fn any_number_of_workers_gives_the_same_new_layer(rt: HostRuntime) -> Result<(),
     expect_root_alone(rt.alloc(), &alone)?;
     for workers in [2, 7, 64] {
         expect_same(&rt, rt.alloc(), workers, &alone)?;
+    }
+    Ok(())
+}
+
+// A command of a stack of manifests of this version, and the last line of its report, or what
+// refuses it. Below a redirect a chain of directories comes to the depth that a manifest may have.
+const DEEP: &str = "\
+1 show of dir /p, dir /p/q redirect=/x, whiteout /x | dir /x, 63*dir /x/a -> entries 66
+1 deref of dir /p, dir /p/q redirect=/x, whiteout /x | dir /x, 62*dir /x/a -> entries 66
+1 deref of dir /p, dir /p/q redirect=/x, whiteout /x | dir /x, 63*dir /x/a -> entries 67
+2 show of dir /p, dir /p/q redirect=/x, whiteout /x | dir /x, 127*dir /x/a -> entries 130
+2 deref of dir /p, dir /p/q redirect=/x, whiteout /x | dir /x, 126*dir /x/a -> entries 130
+2 deref of dir /p, dir /p/q redirect=/x, whiteout /x | dir /x, 127*dir /x/a -> result over the limits
+1 fsck of 64*dir /a redirect=/x, whiteout /x | dir /x, 63*dir /x/a -> faults 0 notes 0
+1 show of 64*dir /a redirect=/x, whiteout /x | dir /x, 63*dir /x/a -> entries 128
+1 merge of 64*dir /a redirect=/x, whiteout /x | dir /x, 63*dir /x/a -> entries 128
+";
+
+// The manifests of a stack in this version.
+fn stated(alloc: Global, version: &str, stack: &str) -> Result<Vec<Vec<u8>>, Fail> {
+    let (mut manifests, _) = manifests_of(alloc, stack)?;
+    if version == "1" {
+        for manifest in manifests.iter_mut() {
+            *manifest = earlier(alloc, manifest)?;
+        }
+    }
+    Ok(manifests)
+}
+
+// The last line of a report, or the text of a fault.
+fn last_line(alloc: Global, answered: Result<Answer, EngineFault>) -> Result<String, Fail> {
+    match answered {
+        Ok(answer) => {
+            let report = String::from_utf8(answer.report)?;
+            let line = report.as_str().lines().last().unwrap_or("");
+            Ok(String::from_str(alloc, line)?)
+        }
+        Err(fault) => Ok(fault.to_string(alloc)?),
+    }
+}
+
+fn row_deep<R: Threads + Wait + Sync>(rt: &R, alloc: Global, row: &str) -> Result<(), Fail> {
+    let (given, wanted) = parts_of(row);
+    let (head, stack) = given.split_once(" of ").unwrap_or((given, ""));
+    let (version, word) = head.split_once(' ').unwrap_or((head, ""));
+    let (what, manifests) = (command_of_word(word)?, stated(alloc, version, stack)?);
+    let answered = command(rt, alloc, what, manifests, 0, &[], 4, &OpenGate);
+    same(row, last_line(alloc, answered)?.as_str(), wanted)
+}
+
+#[test]
+fn chains_are_answered_up_to_the_depth_of_a_manifest(rt: HostRuntime) -> Result<(), Fail> {
+    for row in DEEP.lines() {
+        row_deep(&rt, rt.alloc(), row)?;
     }
     Ok(())
 }

@@ -1,7 +1,7 @@
 //! Gates that look how workers share the pieces of a work.
 ghost use Rattle.std.specs.Prelude.{◌≡◌, []};
 
-use crate::commands::{forty_layer, of_forty, text_of};
+use crate::commands::{command_of_word, forty_layer, of_forty, text_of};
 use crate::samples::{blobs_of, manifests_of, stack_of};
 use ovl_board::{BoardFault, Piece};
 use ovl_engine::{Command, EngineFault, ShowWork, command};
@@ -110,12 +110,12 @@ fn fault_of<R: Threads + Wait + Sync, G: Gate + Sync>(
     rt: &R,
     alloc: Global,
     what: Command,
-    stack: &str,
+    (stack, blobs): (&str, &str),
     workers: usize,
     gate: &G,
 ) -> Result<String, Fail> {
     let (manifests, bottom) = manifests_of(alloc, stack)?;
-    let blobs = blobs_of(alloc, "abc ab")?;
+    let blobs = blobs_of(alloc, blobs)?;
     let ended = command(rt, alloc, what, manifests, bottom, &blobs, workers, gate);
     text_of(alloc, ended.err())
 }
@@ -123,7 +123,7 @@ fn fault_of<R: Threads + Wait + Sync, G: Gate + Sync>(
 const TWO: &str = "/a /b";
 
 // A command, its stack, and pieces of one of its spaces: a layer, or that of the blobs, where `/ba`
-// and `/fb` are those of `abc` and of `ab`. The last three lines are of directories of the new
+// and `/fb` are those of `abc` and of `ab`; of layers there are no blobs. The last three lines are of directories of the new
 // layer alone, which no check visits.
 const SHARED: &str = "\
 show of dir /a, dir /b | root -> 0 /a /b
@@ -139,18 +139,6 @@ deref of dir /p redirect=/x, whiteout /x | dir /x, dir /x/a, dir /x/b -> 0 /p/a 
 flatten of dir /p redirect=/x, whiteout /x | dir /x, dir /x/a, dir /x/b -> 0 /p/a /p/b
 ";
 
-fn command_of_word(word: &str) -> Result<Command, Fail> {
-    match word {
-        "show" => Ok(Command::Show),
-        "fsck" => Ok(Command::Fsck),
-        "vacuum" => Ok(Command::Vacuum),
-        "deref" => Ok(Command::Deref),
-        "merge" => Ok(Command::Merge),
-        "flatten" => Ok(Command::Flatten),
-        _ => Err(Fail::new("no command has this word")),
-    }
-}
-
 // How a command ends of which the pieces are to meet.
 fn met<R: Threads + Wait + Sync>(
     rt: &R,
@@ -162,7 +150,15 @@ fn met<R: Threads + Wait + Sync>(
     let (word, stack) = asked.split_once(" of ").unwrap_or((asked, ""));
     let (space, pieces) = shared.split_once(' ').unwrap_or((shared, ""));
     let gate = Meeting(Asked::none_of(rt, alloc, space.parse()?, pieces)?);
-    fault_of(rt, alloc, command_of_word(word)?, stack, workers, &gate)
+    let blobs = if space == "128" { "abc ab" } else { "" };
+    fault_of(
+        rt,
+        alloc,
+        command_of_word(word)?,
+        (stack, blobs),
+        workers,
+        &gate,
+    )
 }
 
 fn same_met<R: Threads + Wait + Sync>(
@@ -224,7 +220,7 @@ fn refused<R: Threads + Wait + Sync>(
     let (asked, wanted) = parts_of(row);
     let (times, stack) = asked.split_once(" of ").unwrap_or((asked, ""));
     let (asked, from) = (Asked::none_of(rt, alloc, 0, TWO)?, times.parse()?);
-    let ended = fault_of(rt, alloc, what, stack, 2, &Refusing { asked, from })?;
+    let ended = fault_of(rt, alloc, what, (stack, ""), 2, &Refusing { asked, from })?;
     same(row, ended.as_str(), wanted)
 }
 

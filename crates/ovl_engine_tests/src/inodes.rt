@@ -17,7 +17,9 @@ const ROWS: &str = "\
 digest: ca978112ca1bbdcafac231b39a23dc4da786eff8147c4e72b9807785afee48bb -> ca978112ca1bbdcafac231b39a23dc4da786eff8147c4e72b9807785afee48bb
 digest: ca978112ca1bbdcafac231b39a23dc4da786eff8147c4e72b9807785afee48b -> the digest has not 64 digits
 digest: CA -> the digest has not 64 digits
+digest: CA978112CA1BBDCAFAC231B39A23DC4DA786EFF8147C4E72B9807785AFEE48BB -> the digest has a byte that is no lower-case hexadecimal digit
 digest: 64*A -> the digest has a byte that is no lower-case hexadecimal digit
+value: \u{1} -> 01
 attrs: user.k=1 user.l=3 user.a=4 -> user.a user.k user.l
 attrs: user.k=1 user.k=2 -> user.k
 attr: user.k -> put
@@ -26,6 +28,8 @@ attr:  -> the attribute's name has not 1 to 255 bytes without NUL
 attr: user\0 -> the attribute's name has not 1 to 255 bytes without NUL
 attr: 256*a -> the attribute's name has not 1 to 255 bytes without NUL
 copied: console /c, disk /d, file /f, link /l user.k=v, fifo /p, socket /s -> 7 entries
+copied: dir /n opaque=y -> 2 entries
+visible: dir /a opaque=y -> 493\x20
 visible: dir /a opaque=y user.k=v -> 493 user.k
 redirect: /x/y -> /x/y
 redirect: r -> r
@@ -89,6 +93,13 @@ fn attrs_told(alloc: Global, words: &str) -> Result<String, Fail> {
         }
     }
     Ok(names_of(alloc, &attrs)?)
+}
+
+// The digits of a value that was put and is got.
+fn value_digits(alloc: Global, value: &str) -> Result<String, Fail> {
+    let mut attrs = Attrs::new(alloc);
+    attrs.put("user.k", value.as_bytes())?;
+    Ok(hex::encode(alloc, attrs.get("user.k").unwrap_or(b"none"))?)
 }
 
 fn attr_told(alloc: Global, name: &str) -> Result<String, AllocError> {
@@ -193,6 +204,7 @@ fn mark_told(alloc: Global, entry: &str) -> Result<String, Fail> {
 fn told(alloc: Global, call: &str, text: &str) -> Result<String, Fail> {
     match call {
         "digest" => Ok(digest_told(alloc, text)?),
+        "value" => value_digits(alloc, text),
         "attrs" => attrs_told(alloc, text),
         "attr" => Ok(attr_told(alloc, text)?),
         "copied" => copied_told(alloc, text),

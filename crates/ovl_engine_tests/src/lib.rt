@@ -24,4 +24,6 @@ mod names;
 #[cfg(test)]
 mod samples;
 #[cfg(test)]
+mod stacks;
+#[cfg(test)]
 mod works;

@@ -1,10 +1,10 @@
 //! Layers and sheets of manifests, and manifests of layers.
 
-use crate::samples::{layer_of, manifest_of};
+use crate::samples::{earlier, layer_of, manifest_of};
 use ovl_layer::{Layer, LayerFault, Sheet, SheetRow, from_entries};
 use ovl_manifest::{read_layer, read_sheet, write_layer};
 use ovl_names::{Name, Path};
-use ovl_test_rows::{expect_so, parts_of, same};
+use ovl_test_rows::{expect_at, expect_so, parts_of, repeated, same};
 use std::alloc::{AllocError, Global};
 use std::test::Fail;
 
@@ -137,19 +137,78 @@ mode /x/k -> 420
 mode /x/z -> none
 ";
 
-// A manifest of the earlier version, the same cut, and how its layer is written.
-const TEXTS: &str =
-    r#"fault {"entries":[{"gid":0,"kind":"dir","mode":493,"mtime":0,"path":"/","uid":0,"xattrs":{}}],"overlay-layer":1} -> none
-fault {"entries":[{"gid":0,"kind":"dir","mode":493,"mtime":0,"path":"/","uid":0,"xattrs":{}}],"overlay-layer":1 -> not JSON
-rewritten {"entries":[{"gid":0,"kind":"dir","mode":493,"mtime":0,"path":"/","uid":0,"xattrs":{}}],"overlay-layer":1} -> {"entries":[{"gid":0,"kind":"dir","mode":493,"mtime":0,"mtime-nsec":0,"path":"/","uid":0,"xattrs":{}}],"overlay-layer":2}
+// How a manifest of the earlier version is written.
+const REWRITTEN: &str =
+    r#"rewritten {"entries":[{"gid":0,"kind":"dir","mode":493,"mtime":0,"path":"/","uid":0,"xattrs":{}}],"overlay-layer":1} -> {"entries":[{"gid":0,"kind":"dir","mode":493,"mtime":0,"mtime-nsec":0,"path":"/","uid":0,"xattrs":{}}],"overlay-layer":2}"#;
+
+// A version and entries, with a text in the manifest by another one, and what refuses it.
+const STATED: &str = r#"1 of root -> none
+1 of root with 493 by 4096 -> entry 0: wrong entry
+1 of root with 493 by "493" -> entry 0: wrong entry
+1 of root with "mtime":0 by "mtime":9223372036854775808 -> entry 0: wrong entry
+1 of root with "mtime":0 by "mtime":-9223372036854775808 -> none
+1 of root with "path" by "mtime-nsec":0,"path" -> entry 0: wrong entry
+1 of root with "path" by "nlink":1,"path" -> entry 0: wrong entry
+1 of root with "uid":0, by  -> entry 0: wrong entry
+1 of root with {} by {"user.k":"7"} -> entry 0: wrong entry
+1 of root with {} by {"user.k":"7F"} -> entry 0: wrong entry
+1 of root with "/" by "/a" -> no root directory first
+1 of root with "entries" by "more":0,"entries" -> wrong shape
+1 of root with :1} by :"1"} -> wrong shape
+1 of root with :1} by :3} -> unknown version
+1 of [] -> wrong shape
+1 of [] with [] by null -> wrong shape
+1 of {"entries":[],"overlay-layer":1} -> entry count
+1 of file /, dir /a -> no root directory first
+1 of dir /b, dir /a -> entry 2: out of order
+1 of dir /a, dir /a -> entry 2: out of order
+1 of dir /a/b -> entry 1: no parent directory
+1 of dir /a/ -> entry 1: wrong entry
+1 of dir /NAME with NAME by 255*n -> none
+1 of dir /NAME with NAME by 256*n -> entry 1: wrong entry
+1 of 64*dir /a -> none
+1 of 65*dir /a -> entry 65: wrong entry
+1 of file /a with "size":1 by "size":0 -> entry 1: wrong entry
+1 of bare /a -> entry 1: wrong entry
+1 of link /a with "a b" by "" -> entry 1: wrong entry
+1 of dir /a overlay.opaque=y -> entry 1: escaped attribute
+1 of dir /b, dir /a overlay.opaque=y -> entry 2: escaped attribute
+2 of root -> none
+2 of root with :0,"path" by :1000000000,"path" -> entry 0: wrong entry
+2 of root with "mtime-nsec":0, by  -> entry 0: wrong entry
+2 of root with :2} by :3} -> unknown version
+2 of 128*dir /a -> none
+2 of 129*dir /a -> entry 129: wrong entry
 "#;
+
+// The manifest of entries in a version.
+fn stated(alloc: Global, version: &str, entries: &str) -> Result<String, Fail> {
+    let manifest = manifest_of(alloc, entries)?;
+    if version == "2" {
+        return Ok(String::from_utf8(manifest)?);
+    }
+    Ok(String::from_utf8(earlier(alloc, &manifest)?)?)
+}
+
+// What refuses such a manifest, with a text in place of another.
+fn stated_fault(alloc: Global, version: &str, words: &str, by_layer: bool) -> Result<String, Fail> {
+    let words = words.strip_prefix("of ").unwrap_or("");
+    let (entries, change) = words.split_once(" with ").unwrap_or((words, ""));
+    let manifest = stated(alloc, version, entries)?;
+    let Some((old, new)) = change.split_once(" by ") else {
+        return Ok(fault_told(alloc, manifest.as_str(), by_layer)?);
+    };
+    let new = repeated(alloc, new)?;
+    let changed = manifest.as_str().replace(alloc, old, new.as_str())?;
+    Ok(fault_told(alloc, changed.as_str(), by_layer)?)
+}
 
 fn told(alloc: Global, call: &str, by_layer: bool) -> Result<String, Fail> {
     let (word, words) = call.split_once(' ').unwrap_or((call, ""));
     match word {
         "written" => written_told(alloc, words),
         "rewritten" => rewritten_told(alloc, words),
-        "fault" => Ok(fault_told(alloc, words, by_layer)?),
+        "1" | "2" => stated_fault(alloc, word, words, by_layer),
         "children" => children_told(alloc, words),
         "entry" => row_told(alloc, words, by_layer),
         "mode" => mode_told(alloc, words),
@@ -172,11 +231,57 @@ fn layers_and_sheets_have_what_their_manifests_state(rt: HostRuntime) -> Result<
 }
 
 #[test]
-fn a_manifest_of_the_earlier_version_is_read_and_one_that_is_cut_is_not(
+fn a_manifest_of_the_earlier_version_is_written_in_the_later_one(
     rt: HostRuntime,
 ) -> Result<(), Fail> {
-    for row in TEXTS.lines() {
+    told_alike(rt.alloc(), REWRITTEN)
+}
+
+#[test]
+fn manifests_are_refused_by_their_first_fault(rt: HostRuntime) -> Result<(), Fail> {
+    for row in STATED.lines() {
         told_alike(rt.alloc(), row)?;
     }
     Ok(())
+}
+
+// A failure where bytes haven't this fault, or none.
+fn expect_fault(alloc: Global, bytes: &[u8], fault: Option<LayerFault>) -> Result<(), Fail> {
+    expect_at(bytes.len(), fault_of(alloc, bytes, true) == fault)?;
+    expect_at(bytes.len(), fault_of(alloc, bytes, false) == fault)
+}
+
+// A failure where a manifest of so many bytes is read with fewer than all but its newline.
+fn expect_whole(alloc: Global, manifest: &[u8], length: usize) -> Result<(), Fail> {
+    expect_at(manifest.len(), manifest.len() == length)?;
+    let whole = manifest.len().saturating_sub(1);
+    for count in 0..whole {
+        expect_fault(alloc, &manifest[..count], Some(LayerFault::NotJson))?;
+    }
+    expect_fault(alloc, &manifest[..whole], None)?;
+    expect_fault(alloc, manifest, None)
+}
+
+#[test]
+fn a_manifest_that_is_cut_is_no_text_of_json(rt: HostRuntime) -> Result<(), Fail> {
+    let manifest = manifest_of(rt.alloc(), "root")?;
+    expect_whole(rt.alloc(), &manifest, 122)?;
+    expect_whole(rt.alloc(), &earlier(rt.alloc(), &manifest)?, 107)
+}
+
+#[test]
+fn bytes_and_depths_that_no_text_of_json_has_are_refused(rt: HostRuntime) -> Result<(), Fail> {
+    let not_text = b"{\"entries\":[\"\xff\"],\"overlay-layer\":1}";
+    expect_fault(rt.alloc(), not_text, Some(LayerFault::NotJson))?;
+    let mut deep = "[".repeat(rt.alloc(), 200)?;
+    deep.push_str("]".repeat(rt.alloc(), 200)?.as_str())?;
+    expect_fault(rt.alloc(), deep.as_bytes(), Some(LayerFault::NotJson))
+}
+
+#[test]
+fn an_entry_too_many_is_refused_before_the_first_is_read(rt: HostRuntime) -> Result<(), Fail> {
+    let mut many = String::from_str(rt.alloc(), "{\"entries\":[")?;
+    many.push_str("0,".repeat(rt.alloc(), 1_048_576)?.as_str())?;
+    many.push_str("0],\"overlay-layer\":1}")?;
+    expect_fault(rt.alloc(), many.as_bytes(), Some(LayerFault::Count))
 }

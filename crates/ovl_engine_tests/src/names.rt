@@ -20,6 +20,7 @@ name: .. -> the name is `.` or `..`
 name: a/b -> the name holds `/`
 name: a\0 -> the name holds NUL
 path: / -> 0 /
+path: /a -> 1 /a
 path: /a/b -> 2 /a/b
 path: /a b/\u{7f} -> 2 /a\\x20b/\\x7f
 path: a -> the path does not begin with `/`

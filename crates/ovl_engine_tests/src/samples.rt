@@ -42,11 +42,21 @@ fn kind_of(word: &str) -> Result<&'static str, Fail> {
     Err(Fail::new("no kind has this word"))
 }
 
+// The digits of a value, in which `\xNN` is a byte.
+fn digits_of(alloc: Global, value: &str) -> Result<String, AllocError> {
+    let (plain, bytes) = value.split_once("\\x").unwrap_or((value, ""));
+    let mut digits = hex::encode(alloc, plain.as_bytes())?;
+    for byte in bytes.split("\\x") {
+        digits.push_str(byte)?;
+    }
+    Ok(digits)
+}
+
 // An attribute, as a manifest states it, of a word such as `opaque=y`; one of the overlay has no
 // prefix in the word.
 fn attribute_of(alloc: Global, word: &str) -> Result<String, AllocError> {
     let (name, value) = word.split_once('=').unwrap_or((word, ""));
-    let value = hex::encode(alloc, value.as_bytes())?;
+    let value = digits_of(alloc, value)?;
     if name.starts_with("user.") {
         return format!(in alloc; "\"{name}\":\"{value}\"");
     }
@@ -84,6 +94,31 @@ fn push_entry(alloc: Global, text: &mut String, entry: &str) -> Result<(), Fail>
     Ok(())
 }
 
+// Adds so many directories, each inside the one before and of its name; the deepest has the
+// attributes.
+fn push_chain(alloc: Global, text: &mut String, count: usize, first: &str) -> Result<(), Fail> {
+    let (path, attributes) = first.split_once(' ').unwrap_or((first, ""));
+    let (_, name) = path.rsplit_once('/').unwrap_or(("", path));
+    let mut path = String::from_str(alloc, path)?;
+    for _ in 1..count {
+        push_entry(alloc, text, format!(in alloc; "dir {path}")?.as_str())?;
+        path.push_str(format!(in alloc; "/{name}")?.as_str())?;
+    }
+    push_entry(
+        alloc,
+        text,
+        format!(in alloc; "dir {path} {attributes}")?.as_str(),
+    )
+}
+
+// Adds an entry, or a chain of directories where a number and `*` stand before it.
+fn push_entries_of(alloc: Global, text: &mut String, words: &str) -> Result<(), Fail> {
+    match words.split_once("*dir ") {
+        Some((count, first)) => push_chain(alloc, text, count.parse()?, first),
+        None => push_entry(alloc, text, words),
+    }
+}
+
 fn has_root(entries: &str) -> bool {
     entries.contains(" / ") || entries.contains(" /,")
 }
@@ -94,7 +129,7 @@ fn push_entries(alloc: Global, text: &mut String, entries: &str) -> Result<(), F
     }
     for entry in entries.split(", ") {
         if entry != "root" {
-            push_entry(alloc, text, entry)?;
+            push_entries_of(alloc, text, entry)?;
         }
     }
     Ok(())
@@ -106,8 +141,8 @@ fn stands_for_itself(entries: &str) -> bool {
 
 /// The manifest of these entries, with commas between them, under a root of mode 0755 where none of
 /// them is one, as new layers are written: `root` is such a root alone. An entry is the word of its
-/// kind, its path and its attributes, as `dir /d redirect=/x user.k=v`. A text in brackets stands
-/// for itself, and so does none.
+/// kind, its path and its attributes, as `dir /d redirect=/x user.k=v`; `3*dir /a` is `/a`, `/a/a`
+/// and `/a/a/a`. A text in brackets stands for itself, and so does none.
 pub(crate) fn manifest_of(alloc: Global, entries: &str) -> Result<Vec<u8>, Fail> {
     if stands_for_itself(entries) {
         return Ok(String::from_str(alloc, entries)?.into_bytes());
@@ -116,6 +151,14 @@ pub(crate) fn manifest_of(alloc: Global, entries: &str) -> Result<Vec<u8>, Fail>
     push_entries(alloc, &mut text, entries)?;
     text.push_str("],\"overlay-layer\":2}\n")?;
     Ok(text.into_bytes())
+}
+
+/// The same manifest in the earlier version, which has whole seconds.
+pub(crate) fn earlier(alloc: Global, manifest: &[u8]) -> Result<Vec<u8>, Fail> {
+    let text = String::from_utf8(Vec::from_slice(alloc, manifest)?)?;
+    let seconds = text.as_str().replace(alloc, "\"mtime-nsec\":0,", "")?;
+    let earlier = seconds.as_str().replace(alloc, "-layer\":2", "-layer\":1")?;
+    Ok(earlier.into_bytes())
 }
 
 /// The manifests of a stack, the topmost layer first, and how many of them are data-only: a line

@@ -4,7 +4,7 @@ ghost use Rattle.ovl_lanes.specs.Seats.{IsNew};
 
 use ovl_board::Piece;
 use ovl_lanes::{Gathered, LaneFault, Seat, close, lanes};
-use ovl_test_rows::{expect_at, expect_so, same};
+use ovl_test_rows::{expect_at, same};
 use std::alloc::{AllocError, Global};
 use std::test::Fail;
 
@@ -47,42 +47,40 @@ fn space_of(piece: Option<Piece>) -> Option<u16> {
     }
 }
 
-// The spaces of what is stolen from a new lane with the roots of two spaces and of what its owner
-// takes then, and the lane's numbers after a third root.
-fn told(alloc: Global, mut seat: Seat) -> Result<String, AllocError>
+// What is stolen from a new lane with the roots of two spaces, by its space, and the lane's numbers.
+fn stolen(alloc: Global, mut seat: Seat) -> Result<String, AllocError>
     requires { IsNew seat }
 {
     let first = seat.lane.push(Piece::root(alloc, 2)).is_ok();
     let second = seat.lane.push(Piece::root(alloc, 1)).is_ok();
     let stolen = space_of(steal_once(&mut seat));
-    let popped = space_of(seat.lane.pop());
-    let third = seat.lane.push(Piece::root(alloc, 3)).is_ok();
     let Gathered {
         pushed,
         taken,
         left,
     } = close(seat);
-    format!(in alloc; "{first} {second} {third} {stolen:?} {popped:?} {pushed} {taken} {left}")
+    format!(in alloc; "{first} {second} {stolen:?} {pushed} {taken} {left}")
 }
 
 #[test]
-fn a_lane_gives_its_first_piece_to_a_pass_or_to_its_owner(rt: HostRuntime) -> Result<(), Fail> {
-    let found = told(rt.alloc(), seat(rt.alloc())?)?;
-    same(
-        "one lane",
-        found.as_str(),
-        "true true true Some(2) Some(1) 3 2 1",
-    )
+fn a_lane_gives_its_first_piece_to_a_pass(rt: HostRuntime) -> Result<(), Fail> {
+    let found = stolen(rt.alloc(), seat(rt.alloc())?)?;
+    same("two pieces", found.as_str(), "true true Some(2) 2 1 1")
 }
 
-// Whether neither the owner of a new lane nor a pass has anything of it.
-fn gives_nothing(mut seat: Seat) -> bool
+// What the owner of a new lane with the root of a space takes, twice, and a pass then.
+fn taken(alloc: Global, mut seat: Seat) -> Result<String, AllocError>
     requires { IsNew seat }
 {
-    seat.lane.pop().is_none() && steal_once(&mut seat).is_none()
+    let pushed = seat.lane.push(Piece::root(alloc, 2)).is_ok();
+    let first = space_of(seat.lane.pop());
+    let second = space_of(seat.lane.pop());
+    let stolen = space_of(steal_once(&mut seat));
+    format!(in alloc; "{pushed} {first:?} {second:?} {stolen:?}")
 }
 
 #[test]
-fn an_empty_lane_gives_nothing(rt: HostRuntime) -> Result<(), Fail> {
-    expect_so(gives_nothing(seat(rt.alloc())?))
+fn a_lane_gives_its_piece_to_its_owner_and_then_nothing(rt: HostRuntime) -> Result<(), Fail> {
+    let found = taken(rt.alloc(), seat(rt.alloc())?)?;
+    same("one piece", found.as_str(), "true Some(2) None None")
 }

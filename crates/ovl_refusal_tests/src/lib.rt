@@ -35,3 +35,5 @@ mod names;
 mod rewrites;
 #[cfg(test)]
 mod samples;
+#[cfg(test)]
+mod words;

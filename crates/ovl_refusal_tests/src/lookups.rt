@@ -1,5 +1,6 @@
 //! What a stack shows: by walks, looks, names and views, and its whole tree.
 ghost use Rattle.std.specs.Prelude.{◌<◌, length};
+ghost use Rattle.ovl_lookup.specs.Stacks.{all_layers};
 ghost use Rattle.ovl_lookup.specs.DirViews.{IsViewOver};
 
 use crate::samples::moved_stack;
@@ -23,14 +24,24 @@ fn has_nothing(alloc: Global, stack: &Stack, path: &Path) -> Result<bool, AllocE
     Ok(stack.own_names(alloc, 0, path)?.is_empty() && stack.data_place(alloc, path)?.is_none())
 }
 
+// Whether the walk of a layer of the stack's own goes to this path.
+fn goes_to(alloc: Global, stack: &Stack, path: &Path, next: &Path) -> Result<bool, AllocError>
+    requires { 0 < length (all_layers stack.now) }
+{
+    let trail = Trail::of(alloc, &path.names())?;
+    let step = stack.own_walk(alloc, 0, trail)?.copied(alloc)?;
+    Ok(step.next == *next && step.found.is_some() && !step.closed)
+}
+
 // Of the moved directory.
 fn is_walked(alloc: Global, stack: &Stack, path: &Path) -> Result<bool, AllocError> {
-    if stack.ordinary() < 1 {
+    if stack.ordinary() < 1 || stack.layers() < 1 {
         return Ok(false);
     }
     let step = walk(alloc, stack.sheet(0), path)?;
     Ok(
         step.next.len() == 1
+            && goes_to(alloc, stack, path, &step.next)?
             && next_path(alloc, stack, path)? == step.next
             && has_nothing(alloc, stack, path)?,
     )
