@@ -147,7 +147,7 @@ printed unless all is what the proved program ovl_layers shows. With --stack, PA
 CAT = """\
 Print the contents of the file to which a path leads. Links are followed inside of what is shown, 40 at most.
 The contents come from the layer that has them, and are printed once their digest is known to be right. With
---stack, PATH comes before it."""
+--stack, PATH comes before it, or after --."""
 
 DIFF = """\
 Print what differs between what two sources show, a line for each path, in path order: + PATH if only NEW
