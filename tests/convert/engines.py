@@ -96,6 +96,35 @@ def podman(folder: str) -> Engine:
     ], {})
 
 
+class Builder:
+    """Builds images of the Dockerfile in a folder, without a network, and saves them: by docker, or else by buildah."""
+
+    def __init__(self, folder: str, stack: contextlib.ExitStack) -> None:
+        self._folder = folder
+        self._build = ["build", "--network", "none"]
+        try:
+            self._engine = stack.enter_context(docker(f"{folder}/docker"))
+            self._save = ["save", "--output", f"{folder}/saved.tar", "NAME"]
+        except (OSError, RuntimeError):
+            self._engine = Engine([
+                "buildah", "--root", f"{folder}/root", "--runroot", f"{folder}/run", "--storage-driver", "vfs",
+            ], {})
+            self._build = ["build", "--isolation", "chroot", "--layers", "--pull-never"]
+            self._save = ["push", "--quiet", "NAME", f"docker-archive:{folder}/saved.tar:NAME"]
+
+    def build(self, name: str, context: str) -> None:
+        """Builds an image."""
+        self._engine(*self._build, "--tag", name, context)
+
+    def saved(self, name: str) -> str:
+        """An archive of an image, until the next one."""
+        path = f"{self._folder}/saved.tar"
+        with contextlib.suppress(FileNotFoundError):
+            os.unlink(path)
+        self._engine(*(word.replace("NAME", name) for word in self._save))
+        return path
+
+
 def run_podman(engine: Engine, image: str) -> str:
     """What an image prints that podman runs."""
     return engine("run", "--rm", "--network", "none", *_LIMITS, image)

@@ -1,5 +1,6 @@
 """`sizes --advice`: each rule named on an image made for it, and none on a clean one."""
 
+import contextlib
 import json
 import os
 import random
@@ -9,7 +10,7 @@ import subprocess
 import tarfile
 import unittest
 
-from engines import Engine
+from engines import Builder
 from images import archive, folder, member
 from plain_stacks import PlainStack, random_stack
 from support import call, why_no_trusted
@@ -22,7 +23,7 @@ from convert.sizes.texts import Origin
 from convert.sizes.waste import waste_of
 
 _STACKS = 60
-LINK = tarfile.LNKTYPE
+_LINK = tarfile.LNKTYPE
 _BIG = b"b" * 40_000
 _OTHER = b"o" * 30_000
 _COPY = "/bin/sh -c #(nop) COPY file:0a1b in /opt/data.bin "
@@ -67,7 +68,7 @@ _DOCKERFILES = (
     ("removed", "RUN head -c 9000 /dev/urandom > /a; RUN rm /a", "remove it in the same RUN"),
     ("cache", "RUN mkdir -p /var/cache/apt && head -c 9000 /dev/urandom > /var/cache/apt/x",
      "apt-get clean in the same RUN, or RUN --mount=type=cache"),
-    ("", "COPY --chown=33:33 --chmod=700 data /opt/; RUN head -c 9000 /dev/urandom > /a && rm /a && mkdir /srv", ""),
+    ("", "COPY --chown=33:33 data /opt/; RUN head -c 9000 /dev/urandom > /a && rm /a && mkdir /srv", ""),
 )
 _SAME = _data(name="srv/again.bin")
 # Two lines of a Dockerfile with their layers, and the advice: the rule, the step, its bytes and the remedy.
@@ -116,7 +117,7 @@ class Advice(SizesTest):
 
     def test_clean(self) -> None:
         """Nothing is advised if nothing is wasted, or if a cache's file has another name too."""
-        link = member("var/cache/apt/x", kind=LINK, target="var/lib/x")
+        link = member("var/cache/apt/x", kind=_LINK, target="var/lib/x")
         layers = [archive([member("var/lib/x", b"x" * 9_000), link]), _data(), _data(_OTHER, name="opt/other")]
         commands = [_RUN, _COPY, _COPY]
         self.assertEqual(self.advice("image", layers, commands), [])
@@ -173,27 +174,25 @@ class Numbers(StacksTest):
 
 
 class OfBuiltImages(SizesTest):
-    """Images that buildah builds of Dockerfiles, one for each rule, and a clean one."""
+    """Images that docker, or else buildah, builds of Dockerfiles, one for each rule, and a clean one."""
 
     def setUp(self) -> None:
         super().setUp()
         reason = why_no_trusted(self.folder)
-        absent = [tool for tool in ("buildah", *_TOOLS) if shutil.which(tool) is None]
+        absent = [tool for tool in _TOOLS if shutil.which(tool) is None]
         if reason or absent:
             self.skipTest(reason or f"needs {', '.join(absent)}")
-        self.buildah = Engine([
-            "buildah", "--root", self.path("root"), "--runroot", self.path("run"), "--storage-driver", "vfs",
-        ], {})
         os.makedirs(self.path("context", "tools", "bin"))
         with open(self.path("context", "data"), "wb") as file:
             file.write(random.Random(5).randbytes(50_000))
         for tool in _TOOLS:
             self._add_tool(str(shutil.which(tool)))
+        self.builder = Builder(self.folder, self.enterContext(contextlib.ExitStack()))
         try:
             self.build("base", "FROM scratch\nCOPY tools /\n")
             self.build("probe", "FROM base\nRUN mkdir /srv\n")
-        except RuntimeError as problem:
-            self.skipTest(f"buildah can't build here: {problem}")
+        except (OSError, RuntimeError) as problem:
+            self.skipTest(f"neither docker nor buildah can build here: {problem}")
 
     def _add_tool(self, program: str) -> None:
         """Puts a program with its libraries into the context."""
@@ -205,19 +204,15 @@ class OfBuiltImages(SizesTest):
 
     def build(self, name: str, text: str) -> None:
         """Builds an image of a Dockerfile."""
-        with open(self.path("context", name), "w", encoding="ascii") as file:
+        with open(self.path("context", "Dockerfile"), "w", encoding="ascii") as file:
             file.write(text)
-        self.buildah(
-            "build", "--isolation", "chroot", "--layers", "--pull-never", "--ignorefile", "/dev/null", "--tag", name,
-            "--file", self.path("context", name), self.path("context"),
-        )
+        self.builder.build(name, self.path("context"))
 
     def test_rules(self) -> None:
         for number, (rule, lines, remedy) in enumerate(_DOCKERFILES):
             with self.subTest(rule=rule, lines=lines):
                 self.build(f"image{number}", "FROM base\n" + lines.replace("; ", "\n") + "\n")
-                self.buildah("push", "--quiet", f"image{number}", f"oci:{self.path('pushed')}:{number}")
-                result = call("sizes", f"oci:{self.path('pushed')}:{number}", "--advice", "--json")
+                result = call("sizes", self.builder.saved(f"image{number}"), "--advice", "--json")
                 self.require_done(result)
                 found = [(one["rule"], one["remedy"]) for one in json.loads(result[1])["advice"]]
                 self.assertEqual(found, [(rule, remedy)] if rule else [])
