@@ -20,7 +20,7 @@ from .common.faults import OTHER, USAGE, ClosedPipe, Fault, UsageFault
 from .common.outputs import STANDARD_OUTPUT, standard_output
 from .common.program import choose_program
 from .common.progress import Verbosity, choose_verbosity, complain, note
-from .model.stacks import BLOBS, require_order, stack_in
+from .model.stacks import BLOBS, require_no_stack, require_order, stack_in
 from .usage import with_hint
 from .values import ALL
 from .words import Run, parser_of
@@ -189,9 +189,8 @@ def _take_folder_of_unpack(words: argparse.Namespace) -> None:
     if layers:
         words.image, words.stack = None, layers
         words.blobs = getattr(words, "blobs", None) or f"{_folder(given[0])}/{BLOBS}"
-    for word in given if len(given) > 1 else []:
-        if stack_in(_folder(word)):
-            raise UsageFault(f"{word} is a folder that unpack wrote, a stack of its own and no layer: name its manifests")
+    if len(given) > 1:
+        require_no_stack(list(map(_folder, given)))
     require_order(words.stack or [])
 
 

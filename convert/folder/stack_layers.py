@@ -120,6 +120,7 @@ def require_forms(options: StackOptions) -> list[Form]:
     """What each layer is given as; refuses what can't be read before anything is."""
     if not 1 <= len(options.layers) <= rules.MAX_LAYERS:
         raise UsageFault(f"layers must be 1 to {rules.MAX_LAYERS}")
+    stacks.require_no_stack(options.layers)
     forms = [form_of(layer) for layer in options.layers]
     if Form.MANIFEST in forms and options.blobs is None and not options.digests_only:
         raise UsageFault(

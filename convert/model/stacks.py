@@ -38,6 +38,13 @@ def stack_in(folder: str) -> list[str]:
     return paths if is_stack else []
 
 
+def require_no_stack(layers: Sequence[str]) -> None:
+    """Refuses a folder that `unpack` or `store` wrote where a layer is meant."""
+    for layer in layers:
+        if stack_in(layer):
+            raise UsageFault(f"{layer} is a folder that unpack wrote, a stack of its own and no layer: name its manifests")
+
+
 def require_order(layers: Sequence[str]) -> None:
     """Refuses numbered layers in the order in which a shell gives them, if that isn't the order of their numbers."""
     found = [_NUMBERED.fullmatch(layer) for layer in layers]

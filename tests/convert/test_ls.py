@@ -261,6 +261,8 @@ class Listed(ImageTest):
             with open(self.path(name), "wb") as file:
                 file.write(archive(layer))
         upper, lower = self.path("up:per.tar"), self.path("lower.tar")
+        for words in (["ls", f"lowerdir={self.path('stack')}:{lower}"], ["ls", "--stack", lower, self.path("stack")]):
+            self.require_fault(call(*words), 2, "stack is a folder that unpack wrote, a stack of its own and no layer")
         words = [f"lowerdir={upper}:{lower}".replace("up:", "up\\:")]
         result = call("ls", *words, "/f")
         self.assertEqual(result[:2], (0, "-rw-r--r--     0     0     1 1970-01-01 00:00 1 /f\n"))
