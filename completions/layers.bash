@@ -3,23 +3,11 @@ _layers() {
     local word=${COMP_WORDS[COMP_CWORD]} before=${COMP_WORDS[COMP_CWORD - 1]} command='' index
     for ((index = 1; index < COMP_CWORD; index++)); do
         case ${COMP_WORDS[index]} in
-            flatten | check | sizes | ls | cat | diff | vacuum | deref | merge | unpack | pack | scan | store | build | mounted) command=${COMP_WORDS[index]} && break ;;
+            check | sizes | ls | cat | diff | mounted | flatten | vacuum | deref | merge | unpack | pack | scan | store | build) command=${COMP_WORDS[index]} && break ;;
         esac
     done
     COMPREPLY=()
     case $command/$before in
-        flatten/--platform) compopt +o default && return ;;
-        flatten/--from-tag) compopt +o default && return ;;
-        flatten/--compress) mapfile -t COMPREPLY < <(compgen -W 'none gzip zstd xz lz4' -- "$word") && return ;;
-        flatten/-t | flatten/--name) compopt +o default && return ;;
-        flatten/--layers) compopt +o default && return ;;
-        flatten/--base) compopt +o default && return ;;
-        flatten/--keep) compopt -o filenames; mapfile -t COMPREPLY < <(compgen -d -- "$word") && return ;;
-        flatten/--exclude) compopt +o default && return ;;
-        flatten/--data-layers) compopt +o default && return ;;
-        flatten/--workers) compopt +o default && return ;;
-        flatten/--blobs) compopt -o filenames; mapfile -t COMPREPLY < <(compgen -d -- "$word") && return ;;
-        flatten/--form) mapfile -t COMPREPLY < <(compgen -W 'folder squashfs tar' -- "$word") && return ;;
         check/--base) compopt +o default && return ;;
         check/--max-waste) compopt +o default && return ;;
         check/--platform) compopt +o default && return ;;
@@ -48,6 +36,18 @@ _layers() {
         diff/--platform) compopt +o default && return ;;
         diff/--from-tag) compopt +o default && return ;;
         diff/--workers) compopt +o default && return ;;
+        flatten/--platform) compopt +o default && return ;;
+        flatten/--from-tag) compopt +o default && return ;;
+        flatten/--compress) mapfile -t COMPREPLY < <(compgen -W 'none gzip zstd xz lz4' -- "$word") && return ;;
+        flatten/-t | flatten/--name) compopt +o default && return ;;
+        flatten/--layers) compopt +o default && return ;;
+        flatten/--base) compopt +o default && return ;;
+        flatten/--keep) compopt -o filenames; mapfile -t COMPREPLY < <(compgen -d -- "$word") && return ;;
+        flatten/--exclude) compopt +o default && return ;;
+        flatten/--data-layers) compopt +o default && return ;;
+        flatten/--workers) compopt +o default && return ;;
+        flatten/--blobs) compopt -o filenames; mapfile -t COMPREPLY < <(compgen -d -- "$word") && return ;;
+        flatten/--form) mapfile -t COMPREPLY < <(compgen -W 'folder squashfs tar' -- "$word") && return ;;
         vacuum/--compress) mapfile -t COMPREPLY < <(compgen -W 'gzip xz zstd lz4' -- "$word") && return ;;
         vacuum/--keep) compopt -o filenames; mapfile -t COMPREPLY < <(compgen -d -- "$word") && return ;;
         vacuum/--data-layers) compopt +o default && return ;;
@@ -85,13 +85,14 @@ _layers() {
         build/--compress) mapfile -t COMPREPLY < <(compgen -W 'gzip xz zstd lz4' -- "$word") && return ;;
     esac
     case $command in
-        '') mapfile -t COMPREPLY < <(compgen -W 'flatten check sizes ls cat diff vacuum deref merge unpack pack scan store build mounted -h --help -q --quiet -v --verbose --color --unproved -V --version' -- "$word") ;;
-        flatten) [[ $word != -* ]] || mapfile -t COMPREPLY < <(compgen -W '-h --help --platform --from-tag --overlay-marks --skip-unsupported --out --compress -t --name --layers --base --keep --rootfs --exclude --dry-run --stack --data-layers --userxattr --no-userxattr --cross-file-systems --workers --blobs --form' -- "$word") ;;
+        '') mapfile -t COMPREPLY < <(compgen -W 'check sizes ls cat diff mounted flatten vacuum deref merge unpack pack scan store build -h --help -q --quiet -v --verbose --color --unproved -V --version' -- "$word") ;;
         check) [[ $word != -* ]] || mapfile -t COMPREPLY < <(compgen -W '-h --help --strict --json --base --max-waste --platform --from-tag --overlay-marks --skip-unsupported --stack --data-layers --userxattr --no-userxattr --cross-file-systems --workers --blobs' -- "$word") ;;
         sizes) [[ $word != -* ]] || mapfile -t COMPREPLY < <(compgen -W '-h --help --platform --from-tag --overlay-marks --skip-unsupported --stack --data-layers --userxattr --no-userxattr --cross-file-systems --workers --json --bytes --advice --html --base --max-waste --fail-over' -- "$word") ;;
         ls) [[ $word != -* ]] || mapfile -t COMPREPLY < <(compgen -W '-h --help --platform --from-tag --overlay-marks --skip-unsupported --stack --data-layers --userxattr --no-userxattr --cross-file-systems --workers --layer --removed -R --recursive --no-recursive --full-time --long-layer --bytes --json' -- "$word") ;;
         cat) [[ $word != -* ]] || mapfile -t COMPREPLY < <(compgen -W '-h --help --platform --from-tag --overlay-marks --skip-unsupported --stack --data-layers --userxattr --no-userxattr --cross-file-systems --workers --blobs' -- "$word") ;;
         diff) [[ $word != -* ]] || mapfile -t COMPREPLY < <(compgen -W '-h --help --ignore --no-config --stat --json --platform --from-tag --overlay-marks --skip-unsupported --userxattr --no-userxattr --cross-file-systems --workers' -- "$word") ;;
+        mounted) [[ $word != -* ]] || mapfile -t COMPREPLY < <(compgen -W '-h --help --json --cross-file-systems' -- "$word") ;;
+        flatten) [[ $word != -* ]] || mapfile -t COMPREPLY < <(compgen -W '-h --help --platform --from-tag --overlay-marks --skip-unsupported --out --compress -t --name --layers --base --keep --rootfs --exclude --dry-run --stack --data-layers --userxattr --no-userxattr --cross-file-systems --workers --blobs --form' -- "$word") ;;
         vacuum) [[ $word != -* ]] || mapfile -t COMPREPLY < <(compgen -W '-h --help --out --compress --keep --stack --data-layers --userxattr --no-userxattr --cross-file-systems --workers --blobs --form --skip-unsupported' -- "$word") ;;
         deref) [[ $word != -* ]] || mapfile -t COMPREPLY < <(compgen -W '-h --help --out --compress --keep --stack --data-layers --userxattr --no-userxattr --cross-file-systems --workers --blobs --form --skip-unsupported' -- "$word") ;;
         merge) [[ $word != -* ]] || mapfile -t COMPREPLY < <(compgen -W '-h --help --down-to --out --compress --keep --stack --data-layers --userxattr --no-userxattr --cross-file-systems --workers --blobs --form --skip-unsupported' -- "$word") ;;
@@ -100,7 +101,6 @@ _layers() {
         scan) [[ $word != -* ]] || mapfile -t COMPREPLY < <(compgen -W '-h --help --out --blobs --digests-only --userxattr --no-userxattr --cross-file-systems --skip-unsupported --workers' -- "$word") ;;
         store) [[ $word != -* ]] || mapfile -t COMPREPLY < <(compgen -W '-h --help --out --digests-only --userxattr --no-userxattr --cross-file-systems --skip-unsupported --workers' -- "$word") ;;
         build) [[ $word != -* ]] || mapfile -t COMPREPLY < <(compgen -W '-h --help --blobs --out --compress --userxattr --no-userxattr' -- "$word") ;;
-        mounted) [[ $word != -* ]] || mapfile -t COMPREPLY < <(compgen -W '-h --help --json --cross-file-systems' -- "$word") ;;
     esac
 }
 complete -o default -F _layers layers

@@ -3,12 +3,13 @@
 _layers() {
     local curcontext=$curcontext state line
     local -a commands=(
-        'flatten:write an image or a stack as one layer'
         'check:print whether an image is fit to ship, and why not'
         'sizes:print what each layer holds, and what of it isn'\''t shown'
         'ls:list what is shown, and the layer that each comes from'
         'cat:print the contents of a file that is shown'
         'diff:print what differs between two images, or trees'
+        'mounted:print what a folder shows, like ovl_layers show'
+        'flatten:write an image or a stack as one layer'
         'vacuum:write a stack'\''s topmost layer without what changes nothing'
         'deref:write a stack'\''s topmost layer without redirects and metacopy'
         'merge:write a stack'\''s two topmost layers as one'
@@ -17,7 +18,6 @@ _layers() {
         'scan:write a layer as a manifest and blobs'
         'store:write a layer of docker or podman, and those below it'
         'build:make the folder, or squashfs, of a manifest'
-        'mounted:print what a folder shows, like ovl_layers show'
     )
     _arguments -C \
         '-h[show this help message and exit]' \
@@ -35,34 +35,6 @@ _layers() {
         command) _describe command commands ;;
         words)
             case $words[1] in
-                flatten)
-                    _arguments \
-                    '-h[show this help message and exit]' \
-                    '--help[show this help message and exit]' \
-                    '--platform[which of several images, such as linux/amd64 or arm64]:OS/ARCH:' \
-                    '--from-tag[which of several images, by its name in the image'\''s index]:NAME:' \
-                    '--overlay-marks[takes attributes trusted.overlay.* of the image'\''s archives too, which change what the layers show]' \
-                    '--skip-unsupported[leaves out what can'\''t be stated, with a warning each, instead of refusing it]' \
-                    '--out[folder to make, or a file whose name ends in .tar]:IMAGE:_files' \
-                    '--compress[packs the layers, at a level such as gzip\:9]:none|gzip|zstd|xz|lz4|METHOD\:LEVEL:(none gzip zstd xz lz4)' \
-                    '-t[name of the new image, such as shop\:2]:NAME:' \
-                    '--name[name of the new image, such as shop\:2]:NAME:' \
-                    '--layers[how many layers are left at most]:N:' \
-                    '--base[the lowest N layers, or those of this image, stay byte for byte, and all above becomes one layer]:N|IMAGE:' \
-                    '--keep[folder to make, absent or empty, for all that is made on the way]:DIR:_files -/' \
-                    '--rootfs[what is shown in place of an image]' \
-                    '--exclude[leaves PATH out with all below it, as if the topmost layer had removed it]:PATH:' \
-                    '--dry-run[prints the commands, as a shell takes them, and runs none]' \
-                    '--stack[layers in place of an image, the topmost first]:LAYER:_files' \
-                    '--data-layers[with --stack]:K:' \
-                    '--userxattr[with --stack]' \
-                    '--no-userxattr[with --stack]' \
-                    '--cross-file-systems[enters other file systems too]' \
-                    '--workers[how many processes read files, 1 to 64]:N:' \
-                    '--blobs[with --stack]:DIR:_files -/' \
-                    '--form[with --stack]:FORM:(folder squashfs tar)' \
-                    '*:IMAGE:_files'
-                    ;;
                 check)
                     _arguments \
                     '-h[show this help message and exit]' \
@@ -166,6 +138,42 @@ _layers() {
                     '--cross-file-systems[enters other file systems too]' \
                     '--workers[how many processes read files, 1 to 64]:N:' \
                     '*:OLD:'
+                    ;;
+                mounted)
+                    _arguments \
+                    '-h[show this help message and exit]' \
+                    '--help[show this help message and exit]' \
+                    '--json[prints objects for a program, one a line]' \
+                    '--cross-file-systems[enters other file systems too]' \
+                    '*:DIR:_files -/'
+                    ;;
+                flatten)
+                    _arguments \
+                    '-h[show this help message and exit]' \
+                    '--help[show this help message and exit]' \
+                    '--platform[which of several images, such as linux/amd64 or arm64]:OS/ARCH:' \
+                    '--from-tag[which of several images, by its name in the image'\''s index]:NAME:' \
+                    '--overlay-marks[takes attributes trusted.overlay.* of the image'\''s archives too, which change what the layers show]' \
+                    '--skip-unsupported[leaves out what can'\''t be stated, with a warning each, instead of refusing it]' \
+                    '--out[folder to make, or a file whose name ends in .tar]:IMAGE:_files' \
+                    '--compress[packs the layers, at a level such as gzip\:9]:none|gzip|zstd|xz|lz4|METHOD\:LEVEL:(none gzip zstd xz lz4)' \
+                    '-t[name of the new image, such as shop\:2]:NAME:' \
+                    '--name[name of the new image, such as shop\:2]:NAME:' \
+                    '--layers[how many layers are left at most]:N:' \
+                    '--base[the lowest N layers, or those of this image, stay byte for byte, and all above becomes one layer]:N|IMAGE:' \
+                    '--keep[folder to make, absent or empty, for all that is made on the way]:DIR:_files -/' \
+                    '--rootfs[what is shown in place of an image]' \
+                    '--exclude[leaves PATH out with all below it, as if the topmost layer had removed it]:PATH:' \
+                    '--dry-run[prints the commands, as a shell takes them, and runs none]' \
+                    '--stack[layers in place of an image, the topmost first]:LAYER:_files' \
+                    '--data-layers[with --stack]:K:' \
+                    '--userxattr[with --stack]' \
+                    '--no-userxattr[with --stack]' \
+                    '--cross-file-systems[enters other file systems too]' \
+                    '--workers[how many processes read files, 1 to 64]:N:' \
+                    '--blobs[with --stack]:DIR:_files -/' \
+                    '--form[with --stack]:FORM:(folder squashfs tar)' \
+                    '*:IMAGE:_files'
                     ;;
                 vacuum)
                     _arguments \
@@ -296,14 +304,6 @@ _layers() {
                     '--userxattr[writes marks as user.overlay.*, as the mount option of this name does]' \
                     '--no-userxattr[writes marks as user.overlay.*, as the mount option of this name does]' \
                     '*:LAYER:_files'
-                    ;;
-                mounted)
-                    _arguments \
-                    '-h[show this help message and exit]' \
-                    '--help[show this help message and exit]' \
-                    '--json[prints objects for a program, one a line]' \
-                    '--cross-file-systems[enters other file systems too]' \
-                    '*:DIR:_files -/'
                     ;;
             esac
             ;;

@@ -15,12 +15,7 @@ from .common.progress import Verbosity
 HELP = "--help"
 _WIDTH = 80
 _HELP_AT = 26
-# What commands are for.
-JOBS: Mapping[str, Sequence[str]] = {
-    "look at images, stacks and trees": ("check", "sizes", "ls", "cat", "diff", "mounted"),
-    "make them smaller": ("flatten", "vacuum", "deref", "merge"),
-    "take them apart, and put them together": ("unpack", "pack", "scan", "store", "build"),
-}
+_NO_JOBS: Mapping[str, Sequence[str]] = {}
 
 
 class Parser(argparse.ArgumentParser):
@@ -58,7 +53,8 @@ def with_hint(message: str, prog: str) -> str:
 class HelpFormatter(argparse.HelpFormatter):
     """Help of 80 columns, or as COLUMNS says: paragraphs are filled, indented ones stay; commands are grouped by job."""
 
-    def __init__(self, prog: str) -> None:
+    def __init__(self, prog: str, jobs: Mapping[str, Sequence[str]] = _NO_JOBS) -> None:
+        self._jobs = jobs
         columns = shutil.get_terminal_size().columns
         super().__init__(prog, max_help_position=_HELP_AT, width=columns if "COLUMNS" in os.environ else min(columns, _WIDTH))
 
@@ -75,8 +71,8 @@ class HelpFormatter(argparse.HelpFormatter):
         about = {it.dest: it.help for it in action._choices_actions}
         width = max(map(len, about))
         return "".join(
-            f"  {job}:\n" + "".join(f"    {name:{width}}  {about[name]}\n" for name in names if name in about)
-            for job, names in JOBS.items()
+            f"  {job}:\n" + "".join(f"    {name:{width}}  {about[name]}\n" for name in names)
+            for job, names in self._jobs.items()
         )
 
 

@@ -3,8 +3,10 @@
 from __future__ import annotations
 
 import argparse
+import functools
 from collections.abc import Callable, Mapping, Sequence
 from dataclasses import dataclass
+from enum import Enum
 
 from . import VERSION, values
 from . import help_texts as texts
@@ -35,11 +37,11 @@ def parser_of(runs: Mapping[str, Run], words: Sequence[str]) -> argparse.Argumen
     """The parser of all words, with what each command runs. Only the commands among these words get their own."""
     parser = Parser(
         prog=NAME, description=texts.ABOUT, epilog=texts.MORE.format(name=NAME), allow_abbrev=False,
-        parents=[common_words(False)], formatter_class=HelpFormatter,
+        parents=[common_words(False)], formatter_class=functools.partial(HelpFormatter, jobs=jobs()),
     )
     parser.add_argument("-V", "--version", action="version", version=f"{NAME} {VERSION}", help="prints the version")
     commands = parser.add_subparsers(title="commands", metavar="COMMAND", required=True)
-    for it in _COMMANDS:
+    for it in COMMANDS:
         command = commands.add_parser(
             it.name, help=it.short, description=it.text, allow_abbrev=False, parents=[common_words(True)],
             formatter_class=HelpFormatter,
@@ -48,6 +50,11 @@ def parser_of(runs: Mapping[str, Run], words: Sequence[str]) -> argparse.Argumen
         if it.name in words:
             it.add(command)
     return parser
+
+
+def jobs() -> dict[str, list[str]]:
+    """The names of the commands for each job."""
+    return {job.value: [it.name for it in COMMANDS if it.job is job] for job in Job}
 
 
 def _of_files() -> str:
@@ -424,30 +431,43 @@ def _add_skip(parser: argparse._ActionsContainer) -> None:
     )
 
 
+class Job(Enum):
+    """What commands are for, in the order of help."""
+
+    LOOK = "look at images, stacks and trees"
+    SHRINK = "make them smaller"
+    REBUILD = "take them apart, and put them together"
+
+
 @dataclass(frozen=True)
-class _Command:
-    """A command: what it does in short and in full, and what adds its options."""
+class Command:
+    """A command: what it is for, what it does in short and in full, and what adds its options."""
 
     name: str
+    job: Job
     short: str
     text: str
     add: Callable[[argparse.ArgumentParser], None]
 
 
-_COMMANDS = (
-    _Command("flatten", "write an image or a stack as one layer", texts.FLATTEN, _add_flatten),
-    _Command("check", "print whether an image is fit to ship, and why not", texts.CHECK, _add_check),
-    _Command("sizes", "print what each layer holds, and what of it isn't shown", texts.SIZES, _add_sizes),
-    _Command("ls", "list what is shown, and the layer that each comes from", texts.LS, _add_ls),
-    _Command("cat", "print the contents of a file that is shown", texts.CAT, _add_cat),
-    _Command("diff", "print what differs between two images, or trees", texts.DIFF, _add_diff),
-    _Command("vacuum", "write a stack's topmost layer without what changes nothing", texts.VACUUM, _add_rewriting),
-    _Command("deref", "write a stack's topmost layer without redirects and metacopy", texts.DEREF, _add_rewriting),
-    _Command("merge", "write a stack's two topmost layers as one", texts.MERGE, _add_merge),
-    _Command("unpack", "write an image's layers as manifests and blobs", texts.UNPACK, _add_unpack),
-    _Command("pack", "write manifests and blobs as an image", texts.PACK, _add_pack),
-    _Command("scan", "write a layer as a manifest and blobs", texts.SCAN, _add_scan),
-    _Command("store", "write a layer of docker or podman, and those below it", texts.STORE, _add_store),
-    _Command("build", "make the folder, or squashfs, of a manifest", texts.BUILD, _add_build),
-    _Command("mounted", "print what a folder shows, like ovl_layers show", texts.MOUNTED, _add_mounted),
+COMMANDS = (
+    Command("check", Job.LOOK, "print whether an image is fit to ship, and why not", texts.CHECK, _add_check),
+    Command("sizes", Job.LOOK, "print what each layer holds, and what of it isn't shown", texts.SIZES, _add_sizes),
+    Command("ls", Job.LOOK, "list what is shown, and the layer that each comes from", texts.LS, _add_ls),
+    Command("cat", Job.LOOK, "print the contents of a file that is shown", texts.CAT, _add_cat),
+    Command("diff", Job.LOOK, "print what differs between two images, or trees", texts.DIFF, _add_diff),
+    Command("mounted", Job.LOOK, "print what a folder shows, like ovl_layers show", texts.MOUNTED, _add_mounted),
+    Command("flatten", Job.SHRINK, "write an image or a stack as one layer", texts.FLATTEN, _add_flatten),
+    Command(
+        "vacuum", Job.SHRINK, "write a stack's topmost layer without what changes nothing", texts.VACUUM, _add_rewriting,
+    ),
+    Command(
+        "deref", Job.SHRINK, "write a stack's topmost layer without redirects and metacopy", texts.DEREF, _add_rewriting,
+    ),
+    Command("merge", Job.SHRINK, "write a stack's two topmost layers as one", texts.MERGE, _add_merge),
+    Command("unpack", Job.REBUILD, "write an image's layers as manifests and blobs", texts.UNPACK, _add_unpack),
+    Command("pack", Job.REBUILD, "write manifests and blobs as an image", texts.PACK, _add_pack),
+    Command("scan", Job.REBUILD, "write a layer as a manifest and blobs", texts.SCAN, _add_scan),
+    Command("store", Job.REBUILD, "write a layer of docker or podman, and those below it", texts.STORE, _add_store),
+    Command("build", Job.REBUILD, "make the folder, or squashfs, of a manifest", texts.BUILD, _add_build),
 )

@@ -21,7 +21,6 @@ TOP = Path(__file__).resolve().parent.parent
 sys.path.insert(0, str(TOP))
 
 from convert import words  # noqa: E402
-from convert.usage import JOBS  # noqa: E402
 
 _FOLDERS = {"DIR"}
 _FILES = {"FILE", "IMAGE", "LAYER", "OUT"}
@@ -54,8 +53,7 @@ class Command:
 
 def words_of_layers() -> tuple[Command, list[Command]]:
     """The options of `layers`, and its commands."""
-    names = [name for names in JOBS.values() for name in names]
-    parser = words.parser_of(defaultdict(lambda: lambda _: None), names)
+    parser = words.parser_of(defaultdict(lambda: lambda _: None), [it.name for it in words.COMMANDS])
     commands = next(it for it in parser._actions if isinstance(it, argparse._SubParsersAction))
     about = {it.dest: it.help or "" for it in commands._choices_actions}
     parsers: dict[str, argparse.ArgumentParser] = dict(commands.choices)

@@ -35,7 +35,7 @@ from convert.common import open_dirs as places
 from convert.common.colours import Colour, When, choose_colours, painted
 from convert.image.compression import BLOCK, GZIP, Compression, packing
 from convert.model.manifests import read_manifest
-from convert.usage import JOBS
+from convert.words import COMMANDS
 
 _IMPORTED = """
 import sys
@@ -97,11 +97,11 @@ class Words(FolderTest):
     def test_help_in_80_columns_has_every_command(self) -> None:
         with mock.patch.dict(os.environ):
             os.environ.pop("COLUMNS", None)
-            whole, names = call("--help")[1], [name for names in JOBS.values() for name in names]
+            whole, names = call("--help")[1], [it.name for it in COMMANDS]
             helps = [whole, *(call(name, "--help")[1] for name in command._RUNS)]
         self.assertEqual([line for text in helps for line in text.splitlines() if len(line) > 80], [])
         listed = re.findall(r"^    (\w+)  ", whole, re.MULTILINE)
-        self.assertEqual(listed, [name for name in names if name in command._RUNS])
+        self.assertEqual(listed, names)
         self.assertEqual(set(listed), set(command._RUNS))
         self.assertLessEqual(len(whole.splitlines()), 64)
 
