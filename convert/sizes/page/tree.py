@@ -9,7 +9,7 @@ import base64
 import json
 import zlib
 from collections.abc import Iterable, Iterator, Mapping, Sequence
-from dataclasses import dataclass, replace
+from typing import NamedTuple
 
 from ...common.escaping import printable
 from ...model.merged_tree import LayerFile
@@ -28,8 +28,7 @@ _PAYS = "p"  # shown only by a layer above that has the contents again
 _NOBODY = -1
 
 
-@dataclass(frozen=True, slots=True)
-class Item:
+class Item(NamedTuple):
     """A file of a layer, or several: how its bytes count, and which layer is the reason."""
 
     kind: str
@@ -41,11 +40,11 @@ class Item:
 
     def alike(self) -> "Item":
         """What it has in common with others that are summed up with it."""
-        return replace(self, bytes=0, files=0)
+        return self._replace(bytes=0, files=0)
 
     def plus(self, other: "Item") -> "Item":
         """Both together."""
-        return replace(self, bytes=self.bytes + other.bytes, files=self.files + other.files)
+        return self._replace(bytes=self.bytes + other.bytes, files=self.files + other.files)
 
 
 Items = dict[str, list[Item]]  # by their places: paths without the slash at their beginning
