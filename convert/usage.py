@@ -56,7 +56,8 @@ class HelpFormatter(argparse.HelpFormatter):
     def __init__(self, prog: str, jobs: Mapping[str, Sequence[str]] = _NO_JOBS) -> None:
         self._jobs = jobs
         columns = shutil.get_terminal_size().columns
-        super().__init__(prog, max_help_position=_HELP_AT, width=columns if "COLUMNS" in os.environ else min(columns, _WIDTH))
+        width = columns if "COLUMNS" in os.environ else min(columns, _WIDTH)
+        super().__init__(prog, max_help_position=_HELP_AT, width=width)
 
     def _fill_text(self, text: str, width: int, indent: str) -> str:
         paragraphs = text.split("\n\n")

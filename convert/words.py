@@ -231,7 +231,8 @@ def _add_flatten(parser: argparse.ArgumentParser) -> None:
 
     every = {**LEVELS, **squashfs.LEVELS}
     _add_image(parser, may_be_absent=True, may_be_all=True)
-    _add_out(parser, f"{_NEW_IMAGE}; with --stack or --rootfs a folder, a file whose name ends in {_of_files()}, or - for an archive")
+    in_files = f"a folder, a file whose name ends in {_of_files()}, or - for an archive"
+    _add_out(parser, f"{_NEW_IMAGE}; with --stack or --rootfs {in_files}")
     parser.add_argument(
         "--compress", metavar=_methods(every), type=values.compression(every),
         help=f"{_PACKS}; xz and lz4 are for a squashfs [default: as the topmost given layer, or squashfs, is packed]",
