@@ -18,6 +18,8 @@ class Contents:
 
     def part_of_blob(self, digest: str, size: int, at: int, count: int) -> bytes:
         """The bytes at a place of a blob of this size, as many as there are."""
+        if at >= size:
+            return b""  # which no file may be long enough for
         try:
             with opened_blob(self._blobs, digest, size) as file, reading(blob_path(self._blobs, digest)):
                 return os.pread(file, count, at)

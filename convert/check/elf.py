@@ -56,6 +56,8 @@ class Elf:
         form = self._form
         size, count = (self._number("H", self._head, at) for at in (form.size_at, form.size_at + 2))
         parts = self._read(self._number(form.word, self._head, form.parts_at), min(size * count, _MOST_PARTS))
+        if len(parts) < size * count:
+            raise NoElf
         for begin in range(0, len(parts) - size + 1, size or len(parts) + 1):
             if self._number("I", parts, begin) == _INTERPRETER:
                 offset, length = (self._number(form.word, parts, begin + at) for at in (form.offset_at, form.length_at))

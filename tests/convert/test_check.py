@@ -59,7 +59,8 @@ _PROGRAMS: Mapping[str, bytes] = {
     "bin/dos": b"#!/bin/sh\r\n", "bin/js": b"#!/usr/bin/env node\n", "bin/split": b"#!/usr/bin/env -S A=1 node -x\n",
     "bin/words": b"#!/usr/bin/env sh -e\n", "bin/found": b"#!/usr/bin/env sh\n", "bin/text": b"echo\n", "bin/empty": b"",
     "bin/linked": elf(interpreter="/lib/ld.so"), "bin/old": elf(3, "/lib/ld-old.so", 32), "bin/arm": elf(183),
-    "bin/cut": elf()[:20], "bin/self": b"#!/bin/self\n", "bin/bare": b"#!\n", "lib/ld-there.so": elf(),
+    "bin/cut": elf()[:20], "bin/far": elf()[:32] + b"\xff" * 8 + elf()[40:],
+    "bin/self": b"#!/bin/self\n", "bin/bare": b"#!\n", "lib/ld-there.so": elf(),
     "bin/loads": elf(interpreter="/lib/ld-there.so"), "bin/proc": b"#!/proc/self/exe\n",
 }
 _TREE = [
@@ -116,6 +117,7 @@ _CONFIGURATIONS: Sequence[tuple[Mapping[str, object], Sequence[str]]] = (
     ({"Cmd": ["/bin/text"]}, ("warning command-format - /bin/text: the command is neither ELF",)),
     ({"Cmd": ["/bin/empty"]}, ("warning command-format",)),
     ({"Cmd": ["/bin/cut"]}, ("fault command-format - /bin/cut: the command has a head of ELF that is cut",)),
+    ({"Cmd": ["/bin/far"]}, ("fault command-format - /bin/far:",)),
     ({"Cmd": ["/bin/linked"]}, ("fault interpreter-missing - /lib/ld.so: the interpreter of /bin/linked",)),
     ({"Cmd": ["/bin/old"]}, ("fault interpreter-missing - /lib/ld-old.so:",)),
     ({"Cmd": ["/bin/loads"]}, ()),
