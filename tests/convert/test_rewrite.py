@@ -3,6 +3,7 @@
 import os
 import signal
 import socket
+import stat
 import subprocess
 import sys
 import tarfile
@@ -176,6 +177,20 @@ class Rows(RewriteTest):
         self.require_done(result)
         self.assertNotIn("cut", result[2])
         self.assertEqual(self.scanned(self.path("in", "new.tar"))[1][1].mtime_ns, 7_500_000_000)
+
+    def test_userxattr(self) -> None:
+        """Marks of a mount with this option are read and written so."""
+        upper, out = self.path("in", "upper"), self.path("in", "new")
+        os.makedirs(f"{upper}/n")
+        try:
+            os.chown(f"{upper}/n", 0, 0)
+            os.mknod(f"{upper}/d", stat.S_IFCHR)
+            os.setxattr(f"{upper}/n", "user.overlay.redirect", b"/d")
+        except OSError as error:
+            self.skipTest(f"needs root, and user.* attributes in {self.folder}: {error.strerror}")
+        self.require_done(call("deref", "--userxattr", "--stack", upper, *self.stack([_BASE]), "--out", out))
+        self.assertEqual(os.listxattr(f"{out}/n"), ["user.overlay.opaque"])
+        self.assertEqual(sorted(os.listdir(f"{out}/n")), ["f", "g"])
 
     def test_sockets(self) -> None:
         """One that a file can't have hides what is below it all the same."""
