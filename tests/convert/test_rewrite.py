@@ -14,16 +14,18 @@ from dataclasses import dataclass
 from pathlib import Path
 from unittest import mock
 
+import linked_stacks
 from images import archive, folder, member
 from squashfs_files import require
 from support import COMMAND, ROOT, FolderTest, call, links, program_words, why_no_trusted
 from test_kernel import IN_A_NAMESPACE, why_no_overlay
 
 from convert.model.entries import CHAR, METACOPY, OPAQUE, REDIRECT, Entry
+from convert.model.links import take_links
 from convert.model.manifests import read_manifest
 
 STACKS = int(os.environ.get("LAYERS_TEST_IMAGES", "6"))
-SEED = 3
+SEED, FIRST_LINKED = 3, 17
 _SCRIPT = Path(__file__).with_name("rewritten_stacks.py")
 LINK = tarfile.LNKTYPE
 Layer = list[tuple[tarfile.TarInfo, bytes]]
@@ -237,6 +239,28 @@ class Rows(RewriteTest):
         self.assertIn(mock.call(out), mounted.call_args_list)
         self.assertEqual(os.lstat(self.path("again")).st_mode, os.lstat(out).st_mode)
         self.require_nothing_left("again", "in", "out")
+
+
+class Random(RewriteTest):
+    """Random stacks with hard links, beside what is read plainly off the definitions."""
+
+    def test_links(self) -> None:
+        stayed = 0
+        for seed in range(FIRST_LINKED, FIRST_LINKED + STACKS):
+            folder_of_stack = self.path("in", str(seed))
+            layers = linked_stacks.random_stack(seed)
+            manifests = linked_stacks.write_stack(layers, folder_of_stack)
+            shown = linked_stacks.shown(layers)
+            for command in COMMANDS:
+                out = self.path("in", f"{command}.tar")
+                result = call(command, "--stack", *manifests, "--blobs", f"{folder_of_stack}/blobs", "--out", out)
+                self.require_done(result)
+                manifest, entries = self.scanned(out)
+                take_links(manifest, entries)
+                below = layers[2 if command == "merge" else 1:]
+                self.assertEqual(linked_stacks.shown([entries, *below]), shown, (seed, command))
+                stayed += " stay" in result[2]
+        self.assertGreater(stayed, 0)
 
 
 class Refused(RewriteTest):
