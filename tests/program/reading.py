@@ -251,6 +251,14 @@ def of_repeats(bench: Bench) -> Iterator[Count]:
     yield at_most("requests for memory of an escape", met / count, 7)
 
 
+def of_ends(bench: Bench) -> Iterator[Count]:
+    """Once a request is refused to one of four workers, the others do no more of the work."""
+    nested = bench.write("nested", [entry(f"/d{n:04d}" + "/d" * below) for n in range(2_000) for below in range(3)])
+    words = ["show", "--workers", "4", nested]
+    at = bench.met("memory", words)[1] // 5
+    yield at_most("requests for memory after one is refused", bench.met("memory", words, (5,), at=at)[1] - at, 2_000)
+
+
 def of_lines(bench: Bench) -> Iterator[Count]:
     """Room is made for the lines of a report's shares before they are written, and for a new layer's manifest."""
     lines, layers = bench.write("lines", files("/d", 40_000)), one_directory(bench, 20_000)
@@ -309,7 +317,8 @@ def of_yields(bench: Bench) -> Iterator[Count]:
 
 
 PARTS: tuple[Callable[[Bench], Iterator[Count]], ...] = (
-    of_peaks, of_forms, of_manifests, of_commands, of_held, of_rooms, of_repeats, of_lines, of_starters, of_reads, of_opens, of_yields)
+    of_peaks, of_forms, of_manifests, of_commands, of_held, of_rooms, of_repeats, of_ends, of_lines, of_starters, of_reads, of_opens,
+    of_yields)
 
 
 def main() -> None:
