@@ -1,10 +1,10 @@
 #!/usr/bin/env python3
 """Plants the bodies of bodies.txt, and prints which test finds each.
 
-Python 3.11, standard library, `rt`, and a C compiler `cc`. All bodies are compiled into one program, without proofs, each under a
-number that is written into its file. Then each has the tests of tests/program run, the one that must find it first and the others
-from the quickest on, until one fails. The status is 1 if a body isn't found, isn't found by its test, or has a text that is gone.
-It takes an hour of a processor.
+Python 3.11, standard library, `rt`, and a C compiler `cc`. All bodies are compiled into one program, without proofs, each under
+a number that is written into its file. Then each has the tests of tests/program run, the one that must find it first and the
+others from the quickest on, until one fails. The status is 1 if a body isn't found, isn't found by its test, or has a text
+that is gone. It takes an hour of a processor.
 
     python3 tests/planted/plant.py                  # all
     python3 tests/planted/plant.py first_blobs      # these
@@ -154,8 +154,8 @@ def kit_in(room: Path) -> Path:
     (made / "c/asan.a").write_bytes(b"!<arch>\n")
     link_all(kit / "toolchain", made / "toolchain", "bin")
     link_all(kit / "toolchain/bin", made / "toolchain/bin", "clang")
-    words = ["cc", "-O1", f'-DCLANG="{kit}/toolchain/bin/clang"', "-o", str(made / "toolchain/bin/clang"), str(HERE / "clang.c")]
-    subprocess.run(words, check=True)
+    clang = made / "toolchain/bin/clang"
+    subprocess.run(["cc", "-O1", f'-DCLANG="{kit}/toolchain/bin/clang"', "-o", clang, HERE / "clang.c"], check=True)
     return made
 
 
@@ -182,8 +182,8 @@ class Run:
 
 
 def run(wanted: str, program: Path, none: Path) -> Run:
-    """Runs a test, or only a case of it, which has failed once it reports something on standard error. A program without a body is
-    there too."""
+    """Runs a test, or only a case of it, which has failed once it reports something on standard error. A program without a body
+    is there too."""
     test, only, case = wanted.partition(": ")
     name, *words = TESTS[test] + (["--only", case] if only else [])
     script, begun = ROOT / "tests/program" / name, time.monotonic()

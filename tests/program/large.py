@@ -1,9 +1,9 @@
 #!/usr/bin/env python3
 """Makes stacks, blobs and manifests that are large in one way, and looks whether every command takes them whole.
 
-Python 3.11, standard library. No contract says that memory which could be had isn't refused, nor what a folder or a file has: a
-body that ends with `out of memory` behind a number of entries, or leaves out what comes after one of blobs or bytes, is proved.
-So each stack has more layers, entries, names, bytes, attributes, redirects, findings or blobs than a number that code might
+Python 3.11, standard library. No contract says that memory which could be had isn't refused, nor what a folder or a file has:
+a body that ends with `out of memory` after a number of entries, or leaves out what comes after one of blobs or bytes, is
+proved. So each stack has more layers, entries, names, bytes, attributes, redirects, findings or blobs than a number that code might
 choose, up to a limit, if there is one. All are sound: `fsck` must find no fault with contents of either size, and with
 the new layers of each command the stack must show the same. A manifest that isn't in written form must show what it
 shows in that form.
@@ -34,8 +34,8 @@ ENTRIES = 1_048_575
 
 @dataclass(frozen=True)
 class Large:
-    """A stack: what is said of it, what makes its layers, the topmost first, the commands that must answer beside `show` and `fsck`,
-    and the contents of its blobs; and whether its manifests aren't in written form."""
+    """A stack: what is said of it, what makes its layers, the topmost first, the commands that must answer beside `show` and
+    `fsck`, and the contents of its blobs; and whether its manifests aren't in written form."""
 
     what: str
     layers: Callable[[], Sources]
@@ -95,7 +95,8 @@ def redirected_through_layers() -> Sources:
 def moved_with_odd_names(count: int) -> Sources:
     """Directories with a file each, of which each was moved, by its path or by its name."""
     old = [f"o{n}" + "o" * (n % 200) for n in range(count)]
-    lower = [it for n in range(count) for it in (entry(f"/{old[n]}"), full_file(f"/{old[n]}/{odd_name(n)}", contents_of(n), mtime=-n))]
+    lower = [entry(f"/{it}") for it in old]
+    lower += [full_file(f"/{it}/{odd_name(n)}", contents_of(n), mtime=-n) for n, it in enumerate(old)]
     upper = [entry(f"/{odd_name(n)}", attrs={REDIRECT: f"/{old[n]}" if n % 2 else old[n]}) for n in range(count)]
     return [upper + [whiteout(f"/{it}") for it in old], lower]
 
@@ -122,7 +123,8 @@ def odd_texts() -> Sources:
 
 def many_attributes() -> Sources:
     long, many_of = {"user.long": "v" * 300_000}, {f"user.{n:07d}": "v" for n in range(5_000)}
-    return [[entry("/f", "file", long, size=0), entry("/g", attrs=many_of)], [entry("/d", attrs=long), entry("/e", "file", many_of, size=0)]]
+    return [[entry("/f", "file", long, size=0), entry("/g", attrs=many_of)],
+            [entry("/d", attrs=long), entry("/e", "file", many_of, size=0)]]
 
 
 def many_findings() -> Sources:

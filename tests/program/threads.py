@@ -1,8 +1,8 @@
 #!/usr/bin/env python3
 """Counts the threads that PROGRAM starts, of which no contract says how many share a thing, and what the first of them does.
 
-Python 3.11, standard library, and `rt`, whose compiler builds refuse.c. Forty layers with forty contents, and a layer whose report
-has many lines, are given to each command by 2, 4 and 12 workers. So a command is found in which one thread reads all
+Python 3.11, standard library, and `rt`, whose compiler builds refuse.c. Forty layers with forty contents, and a layer whose
+report has many lines, are given to each command by 2, 4 and 12 workers. So a command is found in which one thread reads all
 manifests or contents or writes all lines, one that starts a thread for each of them, and one of too few workers. Of many
 contents in parts no one thread reads most.
 
