@@ -20,8 +20,11 @@ sys.path.insert(0, str(ROOT))
 sys.dont_write_bytecode = True
 
 from convert import cli as command  # noqa: E402
+from convert.common import progress  # noqa: E402
 from convert.image import ahead  # noqa: E402
 from convert.model.attributes import can_read_trusted  # noqa: E402
+
+progress._EVERY_LINE = 1_000_000.0  # so that on a slow machine no step prints lines that no test waits for
 
 _SIDE_BY_SIDE = """
 import sys

@@ -16,7 +16,8 @@ from convert.common.huge_pages import with_huge_pages
 from convert.common.progress import Progress, Verbosity, choose_verbosity, detail, layers_at_work, note
 
 _SHARES = (
-    (Share(0, None, 3.2), "0:03"), (Share(1_234, None, 61), "1,234, 1:01"), (Share(0, 10, 5), "0 %"), (Share(5, 10, 0.5), "50 %"),
+    (Share(0, None, 3.2), "0:03"), (Share(1_234, None, 61), "1,234, 1:01"), (Share(0, 10, 5), "0 %"),
+    (Share(5, 10, 0.5), "50 %"),
     (Share(5, 10, 60), "50 %, 1:00 left"), (Share(1, 4, 3_600), "25 %, 3:00:00 left"), (Share(9, 7, 9), "100 %, 0:00 left"),
     (Share(3, 0, 1), "3, 0:01"),
 )
@@ -49,7 +50,8 @@ class Printing(unittest.TestCase):
         out, times = io.StringIO(), iter(range(1_000))
         out.isatty = lambda: is_terminal  # type: ignore[method-assign]
         with (
-            contextlib.redirect_stderr(out), mock.patch.object(progress.time, "monotonic", lambda: float(next(times))),
+            contextlib.redirect_stderr(out), mock.patch.object(progress, "_EVERY_LINE", 10.0),
+            mock.patch.object(progress.time, "monotonic", lambda: float(next(times))),
         ):
             act()
         return out.getvalue()
@@ -128,7 +130,8 @@ class HugePages(FolderTest):
     def test_environments(self) -> None:
         own = "glibc.malloc.hugetlb=1"
         for state, stated, wanted in (
-            ("always [madvise] never", None, own), ("[always] madvise never", "", own), ("always madvise [never]", None, None),
+            ("always [madvise] never", None, own), ("[always] madvise never", "", own),
+            ("always madvise [never]", None, None),
             ("[madvise]", "glibc.malloc.check=3", f"glibc.malloc.check=3:{own}"), (None, "a=b", "a=b"),
             ("[madvise]", "glibc.malloc.hugetlb=0:a=b", "glibc.malloc.hugetlb=0:a=b"),
         ):

@@ -279,7 +279,7 @@ class Hostile(FileTest):
         """3 KB that show 2^30 directories."""
         require("sqfs2tar", "mksquashfs")
         path, before = self.write("l", doubling(self.folder)), resource.getrusage(resource.RUSAGE_CHILDREN)
-        result = run("scan", path, "--out", self.path("out.json"), "--digests-only")
+        result = run("scan", path, "--out", self.path("out.json"), "--digests-only", "-q")
         after = resource.getrusage(resource.RUSAGE_CHILDREN)
         self.assertEqual((result.returncode, len(result.stderr.splitlines())), (3, 1), result.stderr)
         self.assertIn("out of memory", result.stderr)
