@@ -86,7 +86,7 @@ def _without_images(layer: str, entries: Iterable[Named]) -> Iterator[Named]:
             found.add(path)
         yield path, entry
     if any(names <= found for names in _IMAGES):
-        raise UsageFault(f"{layer} is an image and no layer: name it without --stack")
+        raise UsageFault(f"{layer} is an image and no layer: name it without --stack, or unpack it first")
 
 
 def _read(
