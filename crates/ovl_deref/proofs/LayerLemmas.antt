@@ -29,6 +29,7 @@ use Rattle.ovl_lookup.proofs.LawsOfPaths.{lookup-all, parent_path-child, last-na
 use Rattle.ovl_lookup.specs.Words.{over}
 use Rattle.ovl_lookup.proofs.LawsOfWalks.{entry-parent, directory-entry, directory_found, mark-child}
 use Rattle.ovl_rewrite.proofs.InodeLemmas.{opaque_named, unescaped-with, directory-flag}
+use Rattle.ovl_rewrite.proofs.LimitLemmas.{limit-parts}
 use Rattle.ovl_deref.specs.Deref.{any_prefix, is_in_moved, unfolded, full_attributes, filled, dereferenced_inode, dereferenced_at, IsDereferenced}
 use Rattle.ovl_deref.specs.Laws.{DerefGivesLayer}
 use Rattle.ovl_deref.proofs.DerefLemmas.{neither, any_prefix-child, moved-directory, full-attribute}
@@ -196,8 +197,9 @@ module _ (top : Entries) (below : StackView) (is : IsLayer top) (each : All IsLa
                   bare = ap (λ (n : Inode). has_escaped_name n.attrs) (sym same) ∙ inode_bare path i f;
                 }
 
-    pub layer-but_limits : (entries : Entries) → ascends entry_cmp entries ≡ true → IsDereferenced entries top below → list_all (λ entry. is_within_limits entry.0) entries ≡ true → nat_le (length entries) entry_limit ≡ true → IsLayer entries
+    layer-but_limits : (entries : Entries) → ascends entry_cmp entries ≡ true → IsDereferenced entries top below → list_all (λ entry. is_within_limits entry.0) entries ≡ true → nat_le (length entries) entry_limit ≡ true → IsLayer entries
     layer-but_limits entries up made = layer-made (dereferenced_at top below) entries up made (directory_stays [] refl is.rooted) parent-kept stated
 
 pub DerefGivesLayer-holds : DerefGivesLayer
-DerefGivesLayer-holds top below is each deep sound entries up made limited counted = layer-but_limits top below is each deep sound entries up made limited counted
+DerefGivesLayer-holds top below is each deep sound entries up made kept =
+    let parts = limit-parts entries kept in layer-but_limits top below is each deep sound entries up made parts.0 parts.1

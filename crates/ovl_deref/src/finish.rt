@@ -1,3 +1,4 @@
+//! The dereferenced layer, by the walk of its work.
 ghost use Rattle.std.specs.Prelude.{◌≡◌, Err, IfOk};
 ghost use Rattle.ovl_lookup.specs.Sound.{IsSoundStack};
 ghost use Rattle.ovl_lookup.specs.Words.{top_layer, lower_layers};
@@ -13,7 +14,7 @@ use ovl_board::Parcel;
 use ovl_inode::Inode;
 use ovl_layer::Layer;
 use ovl_names::Name;
-use ovl_rewrite::{RewriteFault, layer_within};
+use ovl_rewrite::{RewriteEnd, RewriteFault};
 use std::alloc::Global;
 
 /// The topmost layer without redirects and metacopy files. The parcels are the plain walk of the
@@ -38,8 +39,5 @@ pub fn finish_deref(
     ensures kept { IfOk result (λ _. PassesDerefLimit work.now → ⊥) }
     ensures limit { IsSoundStack work.now → result ≡ Err LimitOut → PassesDerefLimit work.now }
 {
-    // Each layer of a stack is one.
-    let _layers = work.stack.ordinary();
-    let root = work.stack.top().root().inode().copy(alloc)?;
-    layer_within(alloc, root, parcels)
+    RewriteEnd::of(alloc, work, parcels)?.finish(alloc)
 }

@@ -1,3 +1,4 @@
+//! A stack as the work of its deref. It must not know how the new layer is put together.
 ghost use Rattle.std.specs.Prelude.{◌≡◌};
 ghost use Rattle.ovl_rewrite.specs.NewLayers.{TellsLayer};
 ghost use Rattle.ovl_deref.specs.Directories.{new_at, deref_kids, deref_out};
@@ -7,7 +8,7 @@ use ovl_board::{Piece, Work};
 use ovl_inode::Inode;
 use ovl_lookup::Stack;
 use ovl_names::{DEPTH_LIMIT, Name};
-use ovl_rewrite::directories;
+use ovl_rewrite::{Rewrite, directories};
 use std::alloc::{AllocError, Global};
 use std::marker::Model;
 
@@ -17,7 +18,7 @@ use std::marker::Model;
 /// space of its piece.
 #[derive(Drop)]
 pub struct DerefWork<'a> {
-    pub(crate) stack: &'a Stack,
+    stack: &'a Stack,
 }
 
 impl<'a> Model for DerefWork<'a> {
@@ -71,5 +72,19 @@ impl<'a> Work for DerefWork<'a> {
 
     fn deepest(&self) -> u32 {
         (DEPTH_LIMIT * self.stack.ordinary()) as u32
+    }
+}
+
+impl<'a> Rewrite for DerefWork<'a> {
+    ghost use Rattle.ovl_lookup.specs.Sound.{IsSoundStack};
+
+    ghost new_of = { new_at };
+
+    ghost is_sound = { IsSoundStack };
+
+    fn root(&self, alloc: Global) -> Result<Inode, AllocError> {
+        // Each layer of a stack is one.
+        let _layers = self.stack.ordinary();
+        self.stack.top().root().inode().copy(alloc)
     }
 }

@@ -1,22 +1,25 @@
 -- What a run that fails is told as, and numbers within their limits.
-use Rattle.std.proofs.Common.{◌≡◌, ◌≢◌, ◌⊎◌, inl, inr, ℕ, ◌+◌, ◌-◌, ◌<◌, ◌≤◌, true, Result, Ok, Err, List, refl, arith}
+use Rattle.std.proofs.Common.{◌≡◌, ◌≢◌, ◌⊎◌, inl, inr, ℕ, ◌+◌, ◌-◌, ◌<◌, ◌≤◌, true, Result, Ok, Err, List, refl, sym, subst, arith}
 use Rattle.ovl_lookup.specs.Stacks.{StackView}
 use Rattle.ovl_board.specs.declared.assembly.BoardFault.{BoardFault}
 use Rattle.ovl_board.specs.declared.assembly.BoardFault.TheVariants.{Double, Stranger, Missing, Memory as BoardMemory}
 use Rattle.ovl_pool.specs.declared.runs.RunFault.{RunFault}
 use Rattle.ovl_pool.specs.declared.runs.RunFault.TheVariants.{Workers, Gate, Board, Memory}
 use Rattle.ovl_board.specs.declared.pieces.Piece.{Piece}
+use Rattle.ovl_board.specs.Pieces.{space_root}
 use Rattle.ovl_pool.specs.Runs.{IsBoardMemory, MayBeRefused}
 use Rattle.ovl_rewrite.specs.Directories.{visited_kids}
+use Rattle.ovl_rewrite.specs.declared.faults.RewriteFault.{RewriteFault}
+use Rattle.ovl_rewrite.specs.declared.faults.RewriteFault.TheVariants.{LimitOut as LimitPassed, Memory as NoMemory}
 use Rattle.ovl_rewrite.proofs.KeptLemmas.{visited-reached}
 use Rattle.ovl_check.specs.declared.findings.Finding.{Finding}
 use Rattle.ovl_commands.specs.declared.requests.Command.{Command}
 use Rattle.ovl_commands.specs.declared.requests.Answer.{Answer}
 use Rattle.ovl_engine.specs.declared.faults.EngineFault.{EngineFault}
 use Rattle.ovl_engine.specs.declared.faults.EngineFault.TheVariants.{Workers as NoWorkers, Layers, Layer, BlobOrder, BlobSize, NoLower, Faulty, LimitOut, Run, Memory as WantsMemory, DataLayers}
-use Rattle.ovl_engine.specs.Refusals.{failed_run}
+use Rattle.ovl_engine.specs.Refusals.{failed_deref, failed_run}
 use Rattle.ovl_commands.specs.Commands.{makes_layers}
-use Rattle.ovl_engine.specs.Outcomes.{IsFailedRun, IsFailedWalk, IsFailure, IsUnclean, IsRun}
+use Rattle.ovl_engine.specs.Outcomes.{IsFailedRun, IsFailedWalk, IsFailure, IsLimitedOut, IsUnclean, IsRun}
 
 module _ (refused : Type 0) where
   board_failed : (fault : BoardFault) → fault ≡ BoardMemory → IsFailedWalk refused (failed_run (Board fault))
@@ -45,6 +48,15 @@ module _ (refused : Type 0) where
   unwalked command stack found BlobSize is = is
   unwalked command stack found NoLower is = is
   unwalked command stack found DataLayers is = is
+
+  -- nor does a new layer that isn't made, where that passes a limit or memory ran out
+  pub unfinished : (command : Command) (stack : StackView) (found : List Finding) (fault : EngineFault) → (fault ≡ LimitOut) ⊎ (fault ≡ WantsMemory) → (fault ≡ LimitOut → IsLimitedOut command stack found) → IsFailure command stack found refused fault
+  unfinished command stack found fault (inl out) limited = subst (IsFailure command stack found refused) (sym out) (limited out)
+  unfinished command stack found fault (inr memory) limited = subst (IsFailure command stack found refused) (sym memory) tt
+
+  pub unmade : (command : Command) (stack : StackView) (found : List Finding) (fault : RewriteFault) → (fault ≡ LimitPassed → IsLimitedOut command stack found) → IsFailure command stack found refused (failed_deref fault)
+  unmade command stack found LimitPassed limited = limited refl
+  unmade command stack found NoMemory limited = tt
 
   -- nor is a command done that makes layers where a fault is found
   pub unclean : (command : Command) → makes_layers command ≡ true → (stack : StackView) (found : List Finding) (fault : EngineFault) → IsUnclean found fault → IsFailure command stack found refused fault
@@ -113,3 +125,10 @@ not_refused limit n all bottom front back same ahead behind some few (inr many) 
 -- what a gate may refuse of the kids that are visited it may refuse of all
 pub visited-refused : (kids : Piece → List Piece) (may_refuse : Piece → Type 0) (root : Piece) → MayBeRefused (visited_kids kids) may_refuse root → MayBeRefused kids may_refuse root
 visited-refused kids may_refuse root (piece, (reached, may)) = (piece, (visited-reached kids root piece reached, may))
+
+-- ... so where a work that makes a new layer isn't walked, the command isn't done
+pub new-unwalked : (kids : Piece → List Piece) (may_refuse : Piece → Type 0) (command : Command) (stack : StackView) (found : List Finding) (fault : EngineFault)
+    → IsFailedWalk (MayBeRefused (visited_kids kids) may_refuse (space_root 0)) fault → IsFailure command stack found (MayBeRefused kids may_refuse (space_root 0)) fault
+new-unwalked kids may_refuse command stack found fault failed =
+    unwalked (MayBeRefused kids may_refuse (space_root 0)) command stack found fault
+    (walk-part (MayBeRefused (visited_kids kids) may_refuse (space_root 0)) (MayBeRefused kids may_refuse (space_root 0)) (visited-refused kids may_refuse (space_root 0)) fault failed)

@@ -1,24 +1,20 @@
-ghost use Rattle.std.specs.Prelude.{◌≡◌, ◌<◌, ◌≤◌, true, List, IfOk, IfErr};
+//! Flatten of a stack.
+ghost use Rattle.std.specs.Prelude.{◌≡◌, ◌<◌, ◌≤◌, true, IfOk};
 ghost use Rattle.ovl_lookup.specs.Sound.{IsSoundStack};
 ghost use Rattle.ovl_board.specs.Machine.{worker_limit};
-ghost use Rattle.ovl_check.specs.declared.findings.Finding.{Finding};
-ghost use Rattle.ovl_flatten.specs.Flatten.{IsFlattened};
-ghost use Rattle.ovl_flatten.specs.Limits.{PassesFlattenLimit};
 ghost use Rattle.ovl_commands.specs.declared.requests.Command.TheVariants.{Flatten};
 ghost use Rattle.ovl_engine.specs.FsckReports.{is_clean};
-ghost use Rattle.ovl_engine.specs.Outcomes.{IsFailure, IsRun, MayRefuseOwn};
+ghost use Rattle.ovl_engine.specs.Outcomes.{IsRun, MayRefuseOwn};
 ghost use Rattle.ovl_engine.specs.Kept.{KeepsTreeOf, KeepsSoundness, IsQuietOf};
 
 use crate::faults::EngineFault;
-use crate::rewrites::{answer_telling, expect_clean};
-use crate::stacks::let_go;
+use crate::rewrites::{answer_telling, expect_clean, finished, walked};
 use crate::teams::Team;
 use ovl_check::Finding;
 use ovl_check::laws::{shown_layers_are_clean, unmarked_layers_are_quiet};
 use ovl_commands::Answer;
 use ovl_flatten::FlattenWork;
 use ovl_flatten::laws::{flatten_has_no_marks, flatten_is_sound, flatten_keeps_the_tree};
-use ovl_layer::Layer;
 use ovl_lookup::Stack;
 use ovl_pool::Gate;
 use std::sync::Wait;
@@ -46,27 +42,8 @@ pub(crate) fn flatten<G: Gate + Sync, R: Threads + Wait + Sync>(
     unmarked_layers_are_quiet();
     shown_layers_are_clean();
     expect_clean(team.alloc, found)?;
-    let layer = flattened(team, stack)?;
-    Ok(answer_telling(team.rt, team.alloc, team.workers, &layer, &[&layer])?)
-}
-
-// What a sound stack shows, as one layer. The stack goes once its work is walked, so that all rows
-// don't stand beside the new layer.
-fn flattened<G: Gate + Sync, R: Threads + Wait + Sync>(
-    team: &Team<'_, G, R>,
-    stack: Stack,
-) -> Result<Layer, EngineFault>
-    requires number { (0 < team.now.workers) × (team.now.workers ≤ worker_limit) }
-    requires sound { IsSoundStack stack }
-    ensures layer { IfOk result (λ layer. IsFlattened layer stack) }
-    ensures within { IfOk result (λ _. PassesFlattenLimit stack → ⊥) }
-    ensures fault { IfErr result (λ fault. (found : List Finding) → is_clean found ≡ true
-        → IsFailure Flatten stack found
-        (MayRefuseOwn Flatten stack (G.may_refuse team.now.gate.now)) fault) }
-{
     let work = FlattenWork::new(&stack);
-    let parcels = team.walk(&work, 0)?;
-    let end = work.end(team.alloc)?;
-    let_go(team.rt, team.alloc, stack, team.workers);
-    Ok(end.finish(team.alloc, parcels)?)
+    let end = walked(team, &work)?;
+    let layer = finished(team, stack, end)?;
+    Ok(answer_telling(team.rt, team.alloc, team.workers, &layer, &[&layer])?)
 }

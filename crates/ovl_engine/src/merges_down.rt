@@ -23,7 +23,7 @@ ghost use Rattle.ovl_engine.specs.MergesDown.{IsAcceptedDown, IsLeftByMerge, IsO
 use crate::checks::{findings_by, wrong_blobs};
 use crate::commands::stack_for;
 use crate::faults::EngineFault;
-use crate::merges::{merge, walked};
+use crate::merges::{merge, merge_end};
 use crate::questions::{Question, question_of};
 use crate::rewrites::expect_clean;
 use crate::teams::Team;
@@ -31,7 +31,6 @@ use ovl_check::{Blob, Content, contents_held};
 use ovl_commands::{Answer, Command};
 use ovl_layer::{Layer, Sheet};
 use ovl_lookup::Stack;
-use ovl_merge::MergeDone;
 use ovl_merge::laws::merged_layer_keeps_the_tree;
 use ovl_pool::Gate;
 use std::alloc::Global;
@@ -235,12 +234,11 @@ fn left_by_merge<G: Gate + Sync, R: Threads + Wait + Sync>(
     let _all = stack.layers();
     let _each = stack.ordinary();
     merged_layer_keeps_the_tree();
-    let (parcels, end) = walked(team, &stack)?;
+    let end = merge_end(team, &stack)?;
     let (mut both, data_only) = stack.into_sheets();
     let rest = both.split_off(2)?;
     drop(both);
-    let MergeDone { top, lower } = end.finish(team.alloc, parcels)?;
-    drop(top);
+    let lower = end.finish(team.alloc)?;
     Ok(laid_over(team.alloc, lower, rest, data_only)?)
 }
 

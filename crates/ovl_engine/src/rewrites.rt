@@ -1,20 +1,34 @@
-//! What the commands that make new layers share.
-ghost use Rattle.std.specs.Prelude.{◌≡◌, true, Ok, IfOk, IfErr, OnOk, map};
+//! What the commands that make new layers share: the stack is clean, the work is walked, the stack
+//! goes, the layer is made, and the answer is written.
+ghost use Rattle.std.specs.Prelude.{◌≡◌, ◌⊎◌, ◌<◌, ◌≤◌, true, Ok, Err, IfOk, IfErr, OnOk, map};
 ghost use Rattle.ovl_layer.specs.Layers.{IsLayer};
+ghost use Rattle.ovl_board.specs.Machine.{worker_limit};
+ghost use Rattle.ovl_board.specs.Pieces.{space_root};
+ghost use Rattle.ovl_pool.specs.Runs.{MayBeRefused};
+ghost use Rattle.ovl_rewrite.specs.Ends.{IsEndOf};
+ghost use Rattle.ovl_rewrite.specs.Limits.{IsLayerWithinLimits, PassesLimits};
+ghost use Rattle.ovl_rewrite.specs.NewLayers.{NewLayer, IsOf};
 ghost use Rattle.ovl_manifest.specs.Manifest.{read_layer};
 ghost use Rattle.ovl_manifest.specs.Text.{manifest_text};
 ghost use Rattle.ovl_reports.specs.LayerReports.{layer_report};
 ghost use Rattle.ovl_engine.specs.FsckReports as fsck_reports;
-ghost use Rattle.ovl_engine.specs.Outcomes.{IsUnclean, IsRewritten, new_manifests};
+ghost use Rattle.ovl_engine.specs.declared.faults.EngineFault.TheVariants.{LimitOut, Memory};
+ghost use Rattle.ovl_engine.specs.Outcomes.{IsFailedWalk, IsUnclean, IsRewritten, new_manifests};
 
 use crate::faults::EngineFault;
 use crate::fsck_reports::{fsck_report_of, is_clean};
+use crate::stacks::let_go;
+use crate::teams::Team;
 use ovl_check::Finding;
 use ovl_commands::Answer;
 use ovl_layer::Layer;
+use ovl_lookup::Stack;
 use ovl_manifest::write_layer;
+use ovl_pool::Gate;
 use ovl_reports::{layer_report_of, side_by_side};
+use ovl_rewrite::{Rewrite, RewriteEnd};
 use std::alloc::{AllocError, Global};
+use std::sync::Wait;
 use std::thread::Threads;
 
 /// Comes before new layers are made: a stack in which a fault is found is refused with the report
@@ -27,6 +41,40 @@ pub(crate) fn expect_clean(alloc: Global, found: Vec<Finding>) -> Result<(), Eng
         return Ok(());
     }
     Err(EngineFault::Faulty(fsck_report_of(alloc, &found)?))
+}
+
+/// The end of a work that makes a new layer, once it is walked.
+pub(crate) fn walked<W: Rewrite + Sync, G: Gate + Sync, R: Threads + Wait + Sync>(
+    team: &Team<'_, G, R>,
+    work: &W,
+) -> Result<RewriteEnd, EngineFault>
+    requires number { (0 < team.now.workers) × (team.now.workers ≤ worker_limit) }
+    ensures told { IfOk result (IsEndOf (W.new_of work.now)) }
+    ensures made { IfOk result
+        (λ _. W.is_sound work.now → IsLayerWithinLimits (W.new_of work.now)) }
+    ensures fault { IfErr result (IsFailedWalk
+        (MayBeRefused (W.kids_of work.now) (G.may_refuse team.now.gate.now) (space_root 0))) }
+{
+    let parcels = team.walk(work, 0)?;
+    Ok(RewriteEnd::of(team.alloc, work, parcels)?)
+}
+
+/// The new layer of such an end. The stack goes first, so that its rows don't stand beside the
+/// layer.
+pub(crate) fn finished<G, R: Threads + Sync>(
+    team: &Team<'_, G, R>,
+    stack: Stack,
+    end: RewriteEnd,
+) -> Result<Layer, EngineFault>
+    requires { 0 < team.now.workers }
+    ensures layer { IfOk result (λ layer. (new : NewLayer) → IsEndOf new end → IsOf new layer) }
+    ensures kept { IfOk result (λ _. (new : NewLayer) → IsEndOf new end → PassesLimits new → ⊥) }
+    ensures limit { result ≡ Err LimitOut → (new : NewLayer) → IsEndOf new end
+        → IsLayerWithinLimits new → PassesLimits new }
+    ensures fault { IfErr result (λ fault. (fault ≡ LimitOut) ⊎ (fault ≡ Memory)) }
+{
+    let_go(team.rt, team.alloc, stack, team.workers);
+    Ok(end.finish(team.alloc)?)
 }
 
 /// The answer with the report that `report` writes and these new layers, whose manifests are

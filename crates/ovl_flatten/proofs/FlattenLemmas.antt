@@ -20,6 +20,7 @@ use Rattle.ovl_lookup.proofs.LawsOfEntries.{layer-made}
 use Rattle.ovl_lookup.proofs.LawsOfLooks.{ShowsParents-holds, entry-directory_shown, inode-directory, inode-shows, inode-whole, is_broken, never-broken, shown-named, shown-sound, shown-unescaped, shown-visible, top-layer, top-over}
 use Rattle.ovl_lookup.proofs.LawsOfUnmarked.{shown-alone, nothing-alone, sound-alone}
 use Rattle.ovl_lookup.proofs.LawsOfWalks.{directory_found, directory-entry}
+use Rattle.ovl_rewrite.proofs.LimitLemmas.{limit-parts}
 use Rattle.ovl_flatten.specs.Flatten.{flattened_at, IsFlattened}
 use Rattle.ovl_flatten.specs.Laws.{FlattenKeepsTree, FlattenIsSound, FlattenHasNoMarks, FlattenGivesLayer, FlattenIsTheOne}
 
@@ -84,7 +85,8 @@ pub FlattenIsSound-holds : FlattenIsSound
 FlattenIsSound-holds stack each sound layer is made = sound-alone layer is (unmarked stack each sound layer made)
 
 pub FlattenGivesLayer-holds : FlattenGivesLayer
-FlattenGivesLayer-holds stack some each deep sound entries up made limited counted = layer-but_limits stack each sound some deep entries up made limited counted
+FlattenGivesLayer-holds stack some each deep sound entries up made kept =
+    let parts = limit-parts entries kept in layer-but_limits stack each sound some deep entries up made parts.0 parts.1
 
 pub FlattenIsTheOne-holds : FlattenIsTheOne
 FlattenIsTheOne-holds stack layer is bare same path = by (entry_at layer path) refl

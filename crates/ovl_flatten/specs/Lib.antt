@@ -2,4 +2,3 @@ pub mod Flatten
 pub mod Laws
 pub mod Directories
 pub mod Limits
-pub mod Ends

@@ -5,5 +5,5 @@ mod finish;
 pub mod laws;
 mod works;
 
-pub use finish::{FlattenEnd, finish_flatten};
+pub use finish::finish_flatten;
 pub use works::FlattenWork;

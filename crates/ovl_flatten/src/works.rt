@@ -1,13 +1,14 @@
+//! A stack as the work of its flatten. It must not know how the new layer is put together.
 ghost use Rattle.std.specs.Prelude.{◌≡◌};
 ghost use Rattle.ovl_rewrite.specs.NewLayers.{TellsLayer};
 ghost use Rattle.ovl_flatten.specs.Flatten.{flattened_at};
 ghost use Rattle.ovl_flatten.specs.Directories.{flatten_kids, flatten_out};
 
 use ovl_board::{Piece, Work};
-use ovl_inode::Inode;
+use ovl_inode::{Inode, visible};
 use ovl_lookup::{Stack, shown_inodes};
 use ovl_names::{DEPTH_LIMIT, Name};
-use ovl_rewrite::directories;
+use ovl_rewrite::{Rewrite, directories};
 use std::alloc::{AllocError, Global};
 use std::marker::Model;
 
@@ -17,7 +18,7 @@ use std::marker::Model;
 /// space of its piece.
 #[derive(Drop)]
 pub struct FlattenWork<'a> {
-    pub(crate) stack: &'a Stack,
+    stack: &'a Stack,
 }
 
 impl<'a> Model for FlattenWork<'a> {
@@ -72,5 +73,19 @@ impl<'a> Work for FlattenWork<'a> {
 
     fn deepest(&self) -> u32 {
         (DEPTH_LIMIT * self.stack.ordinary()) as u32
+    }
+}
+
+impl<'a> Rewrite for FlattenWork<'a> {
+    ghost use Rattle.ovl_lookup.specs.Sound.{IsSoundStack};
+
+    ghost new_of = { flattened_at };
+
+    ghost is_sound = { IsSoundStack };
+
+    fn root(&self, alloc: Global) -> Result<Inode, AllocError> {
+        // Each layer of a stack is one.
+        let _layers = self.stack.ordinary();
+        visible(alloc, self.stack.top().root().inode())
     }
 }

@@ -28,6 +28,7 @@ use Rattle.ovl_lookup.proofs.LawsOfFound.{shown_of-contents, any_found, data-reg
 use Rattle.ovl_lookup.proofs.LawsOfLooks.{shows-found, shown-named}
 use Rattle.ovl_lookup.proofs.LawsOfWalks.{directory_found}
 use Rattle.ovl_rewrite.proofs.InodeLemmas.{opaque_named, unescaped-with, directory-flag}
+use Rattle.ovl_rewrite.proofs.LimitLemmas.{limit-parts}
 use Rattle.ovl_merge.specs.Places.{Merge, whole, two_layers, lower_path, first_hit, passes, shows_own_directory, is_hidden, reach, gets_opaque, natural, base, child_of, shows_at, last_name}
 use Rattle.ovl_merge.specs.MergeDown.{with_value, with_contents, merged_directory, merged_metacopy, unreached_metacopy, kept_place, merged_inode, merged_entry, merged_entry_of, needs_whiteout, new_whiteout, IsMergedDown}
 use Rattle.ovl_merge.specs.Laws.{MergeGivesLayer}
@@ -250,4 +251,5 @@ module _ (m : Merge) (each : All IsLayer (whole m).layers) where
         (λ path inode there. record { named = entry-named path inode there; well = (fine path inode there).0; bare = (fine path inode there).1 })
 
 pub MergeGivesLayer-holds : MergeGivesLayer
-MergeGivesLayer-holds m each deep sound entries up is limited counted = layer-but_limits m each deep sound entries up is limited counted
+MergeGivesLayer-holds m each deep sound entries up is kept =
+    let parts = limit-parts entries kept in layer-but_limits m each deep sound entries up is parts.0 parts.1

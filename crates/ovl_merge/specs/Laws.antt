@@ -1,16 +1,16 @@
 -- Laws of a merge: over a sound stack the merged tree stays, and where the walks of the new lower
 -- layer go on.
-use Rattle.std.specs.Prelude.{◌≡◌, true, false, Some, None, [], ◌∷◌, length, nat_le}
-use Rattle.std.specs.List.{All, list_all}
-use Rattle.ovl_names.specs.Order.{ascends}
+use Rattle.std.specs.Prelude.{◌≡◌, true, false, Some, None, [], ◌∷◌}
+use Rattle.std.specs.List.{All}
 use Rattle.ovl_names.specs.Paths.{PathNames}
-use Rattle.ovl_layer.specs.Layers.{Entries, IsLayer, entry_cmp, is_within_limits, entry_limit}
+use Rattle.ovl_layer.specs.Layers.{Entries, IsLayer}
 use Rattle.ovl_lookup.specs.Stacks.{StackView}
 use Rattle.ovl_lookup.specs.Sound.{IsSoundStack}
 use Rattle.ovl_lookup.specs.Merged.{look}
 use Rattle.ovl_lookup.specs.Words.{over, through, look_on}
+use Rattle.ovl_rewrite.specs.Limits.{IsLayerWithinLimits}
 use Rattle.ovl_merge.specs.Places.{Merge, whole, two_layers, shows_own_directory, shows_directory_at, reach}
-use Rattle.ovl_merge.specs.MergeDown.{IsMergedDown, merged_top}
+use Rattle.ovl_merge.specs.MergeDown.{IsMergedDown, merged_entry, merged_top}
 
 -- the stack with the new layers in place of the upper and the lower one
 abbrev pub after_merge : Merge → Entries → StackView
@@ -46,12 +46,8 @@ MergeHasCore =
     (m : Merge) (lower : Entries) → All IsLayer (whole m).layers → IsSoundStack (whole m) →
     IsLayer lower → IsMergedDown m lower → (path : PathNames) → IsMergeCore m lower path
 
--- entries in order that are those of the new lower layer are a layer, but for the limits
+-- the new lower layer of a sound stack is a layer, but for the limits
 abbrev pub MergeGivesLayer : Type 0
 MergeGivesLayer =
     (m : Merge) → All IsLayer (whole m).layers → All IsLayer m.rest.data_only
-    → IsSoundStack (whole m) →
-    (entries : Entries) → ascends entry_cmp entries ≡ true → IsMergedDown m entries →
-    list_all (λ entry. is_within_limits entry.0) entries ≡ true
-    → nat_le (length entries) entry_limit ≡ true →
-    IsLayer entries
+    → IsSoundStack (whole m) → IsLayerWithinLimits (merged_entry m)

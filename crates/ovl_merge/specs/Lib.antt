@@ -7,4 +7,3 @@ pub mod Stands
 pub mod Reckoned
 pub mod Passages
 pub mod Candidates
-pub mod Ends

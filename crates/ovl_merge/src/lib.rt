@@ -13,5 +13,5 @@ mod stands;
 mod works;
 
 pub use faults::MergeFault;
-pub use finish::{MergeDone, MergeEnd, finish_merge};
+pub use finish::{MergeDone, finish_merge};
 pub use works::MergeWork;

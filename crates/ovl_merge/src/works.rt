@@ -1,3 +1,4 @@
+//! A stack as the work of a merge. It must not know how the new layer is put together.
 ghost use Rattle.std.specs.Prelude.{◌≡◌, ◌↔◌, ◌<◌, Err, IfOk, IfErr, length};
 ghost use Rattle.ovl_rewrite.specs.NewLayers.{TellsLayer};
 ghost use Rattle.ovl_merge.specs.declared.faults.MergeFault.TheVariants.{NoLower};
@@ -11,10 +12,10 @@ use crate::candidates::{candidates_in, hidden_names};
 use crate::directories::Directory;
 use crate::entries::inode_in;
 use ovl_board::{Piece, Work};
-use ovl_inode::Inode;
+use ovl_inode::{Inode, visible};
 use ovl_lookup::Stack;
 use ovl_names::{DEPTH_LIMIT, Name, Path};
-use ovl_rewrite::directories;
+use ovl_rewrite::{Rewrite, directories};
 use std::alloc::{AllocError, Global};
 use std::marker::Model;
 
@@ -89,6 +90,20 @@ impl<'a> Work for MergeWork<'a> {
         // A directory of the new layer is one that two layers show together.
         let _layers = self.stack.ordinary();
         2 * DEPTH_LIMIT as u32
+    }
+}
+
+impl<'a> Rewrite for MergeWork<'a> {
+    ghost use Rattle.ovl_lookup.specs.Sound.{IsSoundStack};
+
+    ghost new_of = { λ stack. merged_entry (merge_of stack) };
+
+    ghost is_sound = { IsSoundStack };
+
+    fn root(&self, alloc: Global) -> Result<Inode, AllocError> {
+        // Each layer of a stack is one.
+        let _layers = self.stack.ordinary();
+        visible(alloc, self.stack.top().root().inode())
     }
 }
 

@@ -1,10 +1,13 @@
 -- The plain walk over those directories alone that a manifest can hold.
-use Rattle.std.proofs.Common.{◌≡◌, ◌≤◌, ℕ, suc, inl, inr, Bool, true, false, cond, List, [], ◌∷◌, map, length, refl, sym, ap, ◌∙◌, subst, Contains}
-use Rattle.std.specs.Prelude.{◌&&◌, ◌||◌, not, filter}
-use Rattle.std.specs.List.{list_any, list_all}
+use Rattle.std.proofs.Common.{◌≡◌, ◌≤◌, ℕ, suc, inl, inr, Bool, true, false, cond, List, [], ◌∷◌, map, length, refl, sym, ap, ◌∙◌, subst, arith, Contains}
+use Rattle.std.specs.Prelude.{◌||◌, ◌==◌, not, filter}
+use Rattle.std.specs.List.{count_by, list_any, list_all}
+use Rattle.std.proofs.lemmas.Bool.{eqb-true, eq-eqb}
+use Rattle.std.proofs.lemmas.List.{length-map}
+use Rattle.std.proofs.lemmas.List.Sums.{length-filter}
 use Rattle.ovl_names.specs.Order.{ascends}
 use Rattle.ovl_names.specs.Paths.{PathNames, child_path}
-use Rattle.ovl_names.proofs.Ascending.{both}
+use Rattle.ovl_names.proofs.Ascending.{both, not_false}
 use Rattle.ovl_inode.specs.declared.inodes.Inode.{Inode}
 use Rattle.ovl_inode.specs.Marks.{is_directory}
 use Rattle.ovl_layer.specs.Layers.{Entry, Entries, IsLayer, entry_cmp, is_within_limits}
@@ -15,7 +18,7 @@ use Rattle.ovl_board.specs.Walks.Reached.{start, next}
 use Rattle.ovl_board.specs.Parcels.{ParcelView, IsPlain, own_view, pieces_of}
 use Rattle.ovl_board.proofs.LawsOfMembers.{In, In-map, In-map-cases, In-Contains, Contains-In, In-filter-cases, All-Every, Every-All, AllPairs-Rises, Rises-AllPairs, Rises-filter}
 use Rattle.ovl_board.proofs.LawsOfWalks.{reached_by}
-use Rattle.ovl_rewrite.specs.Directories.{NamedInode, directories_among, is_kept, visited_kids, is_past_limits}
+use Rattle.ovl_rewrite.specs.Directories.{NamedInode, directories_among, is_kept, visited_kids}
 use Rattle.ovl_rewrite.specs.Passes.{TreeEntries, InodesParcel, tree_kids, tree_out, entries_under}
 use Rattle.ovl_rewrite.specs.NewLayers.{NewLayer, IsOf, IsToldBy, IsToldWithin, tree_by, leaves_out}
 use Rattle.ovl_rewrite.proofs.DirectoryLemmas.{entry-new}
@@ -45,18 +48,36 @@ all-one test [] all x h = absurd h
 all-one test (first ∷ xs) all x (inl same) = ap test same ∙ (both {a = test first} {b = list_all test xs} all).0
 all-one test (first ∷ xs) all x (inr h) = all-one test xs (both {a = test first} {b = list_all test xs} all).1 x h
 
-pub any-true : {X : Type 0} (test : X → Bool) (xs : List X) (x : X) → In x xs → test x ≡ true → list_any test xs ≡ true
-any-true test [] x h here = absurd h
-any-true {X} test (first ∷ xs) x h here = by (any-true test xs x) (test first) refl h
-  where
-    by : (In x xs → test x ≡ true → list_any test xs ≡ true) → (b : Bool) → test first ≡ b → In x (first ∷ xs) → (b || list_any test xs) ≡ true
-    by later true e h = refl
-    by later false e (inl same) = let bad : false ≡ true = sym e ∙ (ap test (sym same) ∙ here) in cc
-    by later false e (inr h) = later h here
-
 pub any-map : {X Y : Type 0} (f : X → Y) (test : Y → Bool) (xs : List X) → list_any test (map f xs) ≡ list_any (λ x. test (f x)) xs
 any-map f test [] = refl
 any-map f test (x ∷ xs) = ap (λ b. test (f x) || b) (any-map f test xs)
+
+-- ---- lists of which a test keeps as many as there are
+
+filter-short : {X : Type 0} (test : X → Bool) (xs : List X) → length (filter test xs) ≤ length xs
+filter-short test [] = omega arith
+filter-short test (x ∷ xs) = by (test x) (filter-short test xs)
+  where
+    by : (b : Bool) → length (filter test xs) ≤ length xs → length (cond b (x ∷ filter test xs) (filter test xs)) ≤ length (x ∷ xs)
+    by true shorter = omega (arith, shorter)
+    by false shorter = omega (arith, shorter)
+
+filter-whole : {X : Type 0} (test : X → Bool) (xs : List X) → length (filter test xs) ≡ length xs → filter test xs ≡ xs
+filter-whole test [] same = refl
+filter-whole {X} test (x ∷ xs) same = by (test x) (filter-whole test xs) same
+  where
+    by : (b : Bool) → (length (filter test xs) ≡ length xs → filter test xs ≡ xs) → length (cond b (x ∷ filter test xs) (filter test xs)) ≡ length (x ∷ xs) → cond b (x ∷ filter test xs) (filter test xs) ≡ x ∷ xs
+    by true later same = ap (λ (ys : List X). x ∷ ys) (later (omega (arith, same)))
+    by false later same = absurd (omega (arith, same, filter-short test xs))
+
+-- else there is one that it doesn't keep
+filter-left : {X : Type 0} (test : X → Bool) (xs : List X) → (length (filter test xs) ≡ length xs → ⊥) → (x : X) × (In x xs) × (test x ≡ false)
+filter-left test [] other = absurd (other refl)
+filter-left {X} test (x ∷ xs) other = by (test x) refl (filter-left test xs) other
+  where
+    by : (b : Bool) → test x ≡ b → ((length (filter test xs) ≡ length xs → ⊥) → (y : X) × (In y xs) × (test y ≡ false)) → (length (cond b (x ∷ filter test xs) (filter test xs)) ≡ length (x ∷ xs) → ⊥) → (y : X) × (In y (x ∷ xs)) × (test y ≡ false)
+    by false here later other = (x, inl refl, here)
+    by true here later other = let found = later (λ same. other (omega (arith, same))) in (found.0, inr found.1, found.2)
 
 -- ---- fewer kids
 
@@ -106,26 +127,35 @@ module _ (kids : Piece → List Piece) where
 
 -- ---- the directories of a piece
 
-kept-all : (piece : Piece) (entries : List NamedInode) → list_any (is_past_limits piece.dir) entries ≡ false → filter is_kept (directories_among piece entries) ≡ directories_among piece entries
-kept-all piece [] none = refl
-kept-all piece (entry ∷ entries) none = by (kept-all piece entries) (is_directory entry.1) refl (is_within_limits (child_path piece.dir entry.0)) refl none
-  where
-    by : (list_any (is_past_limits piece.dir) entries ≡ false → filter is_kept (directories_among piece entries) ≡ directories_among piece entries)
-        → (d : Bool) → is_directory entry.1 ≡ d → (w : Bool) → is_within_limits (child_path piece.dir entry.0) ≡ w → list_any (is_past_limits piece.dir) (entry ∷ entries) ≡ false
-        → filter is_kept (directories_among piece (entry ∷ entries)) ≡ directories_among piece (entry ∷ entries)
-    by later false d w e none =
-        let none_later : list_any (is_past_limits piece.dir) entries ≡ false = sym (λ j. (d j && not (is_within_limits (child_path piece.dir entry.0))) || list_any (is_past_limits piece.dir) entries) ∙ none in
-        (λ j. filter is_kept (map (λ (e : NamedInode). piece_in piece e.0) (cond (d j) (entry ∷ filter (λ (e : NamedInode). is_directory e.1) entries) (filter (λ (e : NamedInode). is_directory e.1) entries))))
-        ∙ (later none_later
-        ∙ sym (λ j. map (λ (e : NamedInode). piece_in piece e.0) (cond (d j) (entry ∷ filter (λ (e : NamedInode). is_directory e.1) entries) (filter (λ (e : NamedInode). is_directory e.1) entries))))
-    by later true d true e none =
-        let none_later : list_any (is_past_limits piece.dir) entries ≡ false = sym (λ j. (d j && not (e j)) || list_any (is_past_limits piece.dir) entries) ∙ none in
-        (λ j. filter is_kept (map (λ (e : NamedInode). piece_in piece e.0) (cond (d j) (entry ∷ filter (λ (e : NamedInode). is_directory e.1) entries) (filter (λ (e : NamedInode). is_directory e.1) entries))))
-        ∙ ((λ j. cond (e j) (piece_in piece entry.0 ∷ filter is_kept (directories_among piece entries)) (filter is_kept (directories_among piece entries)))
-        ∙ (ap (λ (ps : List Piece). piece_in piece entry.0 ∷ ps) (later none_later)
-        ∙ sym (λ j. map (λ (e : NamedInode). piece_in piece e.0) (cond (d j) (entry ∷ filter (λ (e : NamedInode). is_directory e.1) entries) (filter (λ (e : NamedInode). is_directory e.1) entries)))))
-    by later true d false e none =
-        let bad : true ≡ false = sym (λ j. (d j && not (e j)) || list_any (is_past_limits piece.dir) entries) ∙ none in cc
+abbrev is_own_directory : NamedInode → Bool
+is_own_directory entry = is_directory entry.1
+
+directories-count : (piece : Piece) (entries : List NamedInode) → length (directories_among piece entries) ≡ count_by is_own_directory entries
+directories-count piece entries = length-map (filter is_own_directory entries) (λ (entry : NamedInode). piece_in piece entry.0) ∙ length-filter is_own_directory entries
+
+module _ (tree : TreeEntries) where
+  abbrev own : Piece → InodesParcel
+  own piece = own_view (visited_kids (tree_kids tree)) (tree_out tree) piece
+
+  abbrev kid_count : Piece → ℕ
+  kid_count piece = length (visited_kids (tree_kids tree) piece)
+
+  -- where as many kids were walked as there are directories, all were
+  kept-all : (piece : Piece) → leaves_out (own piece) ≡ false → visited_kids (tree_kids tree) piece ≡ tree_kids tree piece
+  kept-all piece none =
+      filter-whole is_kept (tree_kids tree piece)
+      (eqb-true (kid_count piece) (count_by is_own_directory (tree piece.dir)) (not_false (kid_count piece == count_by is_own_directory (tree piece.dir)) none)
+      ∙ sym (directories-count piece (tree piece.dir)))
+
+  -- else an entry is a directory that no manifest can hold
+  left-entry : (piece : Piece) → leaves_out (own piece) ≡ true → (entry : NamedInode) × (In entry (tree piece.dir)) × (is_within_limits (child_path piece.dir entry.0) ≡ false)
+  left-entry piece some =
+      let kid = filter-left is_kept (tree_kids tree piece) (λ same.
+      let counted : (kid_count piece == count_by is_own_directory (tree piece.dir)) ≡ true =
+      eq-eqb (kid_count piece) (count_by is_own_directory (tree piece.dir)) (same ∙ directories-count piece (tree piece.dir)) in
+      let bad : false ≡ true = sym (ap not counted) ∙ some in cc) in
+      let one = In-map-cases (λ (entry : NamedInode). piece_in piece entry.0) kid.0 (filter is_own_directory (tree piece.dir)) kid.1 in
+      (one.0, (In-filter-cases is_own_directory one.0 (tree piece.dir) one.1.0).0, ap is_kept (sym one.1.1) ∙ kid.2)
 
 -- ---- what such a walk tells
 
@@ -147,20 +177,18 @@ module _ (root : Inode) (views : List InodesParcel) (new : NewLayer) (by : IsTol
     told = by.told;
     rooted = by.rooted;
     walk = plain-whole (tree_kids tree) (tree_out tree) (space_root 0) views by.walk (λ p h.
-        kept-all p (tree p.dir) (any-none leaves_out views none (own_view (visited_kids (tree_kids tree)) (tree_out tree) p)
-        (subst (In (own_view (visited_kids (tree_kids tree)) (tree_out tree) p)) (sym by.walk.own) (In-map (own_view (visited_kids (tree_kids tree)) (tree_out tree)) p (pieces_of views) h))));
+        kept-all tree p (any-none leaves_out views none (own tree p) (subst (In (own tree p)) (sym by.walk.own) (In-map (own tree) p (pieces_of views) h))));
   }
 
   -- what is left out is an entry that no layer has
   pub left-out : list_any leaves_out views ≡ true → IsLayer kept_entries → ⊥
   left-out some layer =
       let view = any-some leaves_out views some in
-      let own = In-map-cases (own_view (visited_kids (tree_kids tree)) (tree_out tree)) view.0 (pieces_of views) (subst (In view.0) by.walk.own view.1) in
-      let piece : Piece = own.0 in
-      let entry = any-some (is_past_limits piece.dir) (tree piece.dir) (ap leaves_out (sym own.1.1) ∙ view.2) in
+      let parcel = In-map-cases (own tree) view.0 (pieces_of views) (subst (In view.0) by.walk.own view.1) in
+      let piece : Piece = parcel.0 in
+      let entry = left-entry tree piece (ap leaves_out (sym parcel.1.1) ∙ view.2) in
       let path : PathNames = child_path piece.dir entry.0.0 in
       let there : In (path, entry.0.1) kept_entries =
       found-In kept_entries path entry.0.1 (kept-entries.1 path ∙ entry-new new by.names by.deepest by.told piece.dir entry.0 entry.1) in
       let within : is_within_limits path ≡ true = all-one (λ (e : Entry). is_within_limits e.0) kept_entries layer.limited (path, entry.0.1) there in
-      let past : not (is_within_limits path) ≡ true = (both {a = is_directory entry.0.1} {b = not (is_within_limits path)} entry.2).1 in
-      let bad : false ≡ true = sym (ap not within) ∙ past in cc
+      let bad : false ≡ true = sym entry.2 ∙ within in cc

@@ -1,16 +1,12 @@
 -- From the parcels to the new layer.
-use Rattle.std.proofs.Common.{◌≡◌, ℕ, suc, ◌-◌, Bool, true, false, cond, Option, Some, None, List, [], ◌∷◌, ◌++◌, length, map, refl, sym, ap, ◌∙◌, subst, append_assoc, arith}
+use Rattle.std.proofs.Common.{◌≡◌, ℕ, suc, ◌-◌, true, List, [], ◌∷◌, ◌++◌, length, refl, sym, ap, ◌∙◌, subst, arith}
 use Rattle.std.specs.Prelude.{Result, Ok, Err, IfOk}
 use Rattle.std.proofs.lemmas.List.{append-nil}
 use Rattle.ovl_names.specs.Order.{ascends}
 use Rattle.ovl_inode.specs.declared.inodes.Inode.{Inode}
 use Rattle.ovl_layer.specs.Layers.{Entries, entry_cmp, IsLayer}
-use Rattle.ovl_layer.specs.Entries.{entry_fault, entries_after, is_miscounted, is_statable, stated_pair, layer_of_pairs, IsFaultOf}
-use Rattle.ovl_layer.specs.declared.faults.LayerFault.{LayerFault}
-use Rattle.ovl_layer.specs.declared.faults.LayerFault.TheVariants.{NotJson, Shape, Version, Count, Entry as WrongEntry, Order, NoParent, Root, Escaped, Memory}
 use Rattle.ovl_layer.specs.LayerTrees.{entries_from}
 use Rattle.ovl_layer.specs.Siblings.{CanStand}
-use Rattle.ovl_layer.proofs.BackLemmas.{pairs-back}
 use Rattle.ovl_layer.proofs.NodeLemmas.{placed-root}
 use Rattle.ovl_layer.proofs.SiblingLemmas.{stand-layer}
 use Rattle.ovl_board.specs.Pieces.{space_root}
@@ -19,45 +15,6 @@ use Rattle.ovl_board.proofs.LawsOfWalks.{IsPlain-from_preorder, HasReachedPieces
 use Rattle.ovl_rewrite.specs.Passes.{TreeEntries, IsTree, tree_kids, tree_out, entries_under, InodesParcel, views_under, WalksUnder, StopsUnder}
 use Rattle.ovl_rewrite.specs.NewLayers.{NewLayer, IsOf, IsToldBy, tree_by}
 use Rattle.ovl_rewrite.proofs.TreeLemmas.{told-ascend, told-of, is-tree}
-
--- ---- pairs that are a layer are its entries
-
-pairs-given : (before pairs layer : Entries) → entries_after before (map stated_pair pairs) ≡ Ok layer → before ++ pairs ≡ layer
-pairs-given before [] layer e = let same : before ≡ layer = cc in append-nil before ∙ same
-pairs-given before (pair ∷ pairs) layer e = by (λ more. pairs-given (before ++ pair ∷ []) pairs layer more) (is_statable pair) (entry_fault before pair) refl e
-  where
-    after : Option LayerFault → Result Entries LayerFault
-    after o = elim (elim o as (λ _. Result Entries LayerFault) [ Some found ↦ Err found | None ↦ Ok (before ++ pair ∷ []) ]) as (λ _. Result Entries LayerFault) [ Ok entries ↦ entries_after entries (map stated_pair pairs) | Err found ↦ Err found ]
-
-    by : (entries_after (before ++ pair ∷ []) (map stated_pair pairs) ≡ Ok layer → (before ++ pair ∷ []) ++ pairs ≡ layer)
-        → (b : Bool) (fault : Option LayerFault) → entry_fault before pair ≡ fault → entries_after before (cond b (Some pair) None ∷ map stated_pair pairs) ≡ Ok layer → before ++ pair ∷ pairs ≡ layer
-    by later false fault f e = let bad : Err (WrongEntry (length before)) ≡ Ok layer = e in cc
-    by later true (Some fault) f e = let bad : Err fault ≡ Ok layer = sym (ap after f) ∙ e in cc
-    by later true None f e = sym (append_assoc before (pair ∷ []) pairs) ∙ later (sym (ap after f) ∙ e)
-
-pub pairs-are : (pairs layer : Entries) → layer_of_pairs pairs ≡ Ok layer → pairs ≡ layer
-pairs-are pairs layer e = by (is_miscounted (length (map stated_pair pairs))) e
-  where
-    by : (b : Bool) → cond b (Err Count) (entries_after [] (map stated_pair pairs)) ≡ Ok layer → pairs ≡ layer
-    by true e = let bad : Err Count ≡ Ok layer = e in cc
-    by false e = pairs-given [] pairs layer e
-
--- no fault but out of memory is told of a layer
-told-memory : (layer : Entries) (fault : LayerFault) → IsFaultOf (Ok layer) fault → fault ≡ Memory
-told-memory layer Memory told = refl
-told-memory layer NotJson told = let bad : Ok layer ≡ Err NotJson = told in cc
-told-memory layer Shape told = let bad : Ok layer ≡ Err Shape = told in cc
-told-memory layer Version told = let bad : Ok layer ≡ Err Version = told in cc
-told-memory layer Count told = let bad : Ok layer ≡ Err Count = told in cc
-told-memory layer (WrongEntry n) told = let bad : Ok layer ≡ Err (WrongEntry n) = told in cc
-told-memory layer (Order n) told = let bad : Ok layer ≡ Err (Order n) = told in cc
-told-memory layer (NoParent n) told = let bad : Ok layer ≡ Err (NoParent n) = told in cc
-told-memory layer Root told = let bad : Ok layer ≡ Err Root = told in cc
-told-memory layer (Escaped n) told = let bad : Ok layer ≡ Err (Escaped n) = told in cc
-
--- entries that are a layer's are refused only when out of memory
-pub layer-refused : (entries : Entries) (fault : LayerFault) → IsLayer entries → IsFaultOf (layer_of_pairs entries) fault → fault ≡ Memory
-layer-refused entries fault is told = told-memory entries fault (subst (λ (r : Result Entries LayerFault). IsFaultOf r fault) (pairs-back entries is) told)
 
 -- ---- the entries that the parcels tell
 

@@ -6,4 +6,5 @@ pub mod NextLemmas
 pub mod TreeLemmas
 pub mod LayerLemmas
 pub mod KeptLemmas
+pub mod LimitLemmas
 pub mod RoomLemmas

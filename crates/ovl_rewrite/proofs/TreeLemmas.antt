@@ -31,7 +31,7 @@ found-In (entry ∷ entries) path inode here = by (found-In entries path inode) 
         inl (λ j. ((pointwise_decides bytes_decides path entry.0).0 e j, sym same j))
     by later false e here = inr (later here)
 
-In-found : (entries : Entries) (path : PathNames) (inode : Inode) → Rises Before entries → In (path, inode) entries → entry_at entries path ≡ Some inode
+pub In-found : (entries : Entries) (path : PathNames) (inode : Inode) → Rises Before entries → In (path, inode) entries → entry_at entries path ≡ Some inode
 In-found [] path inode up h = absurd h
 In-found (entry ∷ entries) path inode up (inl same) =
     let here : path_eq path entry.0 ≡ true = (pointwise_decides bytes_decides path entry.0).1 (ap (λ (e : Entry). e.0) same) in

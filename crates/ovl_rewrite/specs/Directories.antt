@@ -1,6 +1,6 @@
 -- The directories of a new layer as work: a piece is a directory, its kids are the directories in
 -- it, and its output is each name in it with its inode.
-use Rattle.std.specs.Prelude.{◌≡◌, Bool, true, ◌&&◌, not, length, nat_lt, List, map, filter, Vec}
+use Rattle.std.specs.Prelude.{◌≡◌, Bool, true, length, nat_lt, List, map, filter, Vec}
 use Rattle.std.specs.Global.{Global}
 use Rattle.std.specs.Coded.{Coded-set, codes}
 use Rattle.ovl_names.specs.Names.{PathName, is_name}
@@ -29,11 +29,6 @@ is_kept piece = is_within_limits piece.dir
 -- the kids that are visited: what no manifest can hold is left out, since no new layer has it
 abbrev pub visited_kids : (Piece → List Piece) → Piece → List Piece
 visited_kids kids piece = filter is_kept (kids piece)
-
--- an entry of a directory is itself one, and no manifest can hold it
-abbrev pub is_past_limits : PathNames → NamedInode → Bool
-is_past_limits directory entry =
-    is_directory entry.1 && not (is_within_limits (child_path directory entry.0))
 
 -- a manifest can hold the paths of those names in a directory that have fewer bytes than this room
 abbrev pub IsNameRoom : PathNames → NameRoom → Type 0

@@ -1,7 +1,7 @@
 -- What a new layer has at each path, told directory by directory.
-use Rattle.std.specs.Prelude.{◌≡◌, ◌≤◌, ℕ, Bool, true, false, Option, Some, None, List, [], length, map}
+use Rattle.std.specs.Prelude.{◌≡◌, ◌≤◌, ℕ, Bool, true, false, ◌==◌, not, Option, Some, None, List, [], length, map}
 use Rattle.std.specs.Option.{option_map}
-use Rattle.std.specs.List.{list_any, filter_map}
+use Rattle.std.specs.List.{count_by, list_any, filter_map}
 use Rattle.std.specs.Map.{lookup}
 use Rattle.ovl_names.specs.Names.{PathName, name_eq, name_cmp}
 use Rattle.ovl_names.specs.Order.{ascends}
@@ -12,7 +12,7 @@ use Rattle.ovl_layer.specs.Layers.{Entries, entry_at}
 use Rattle.ovl_board.specs.declared.pieces.Piece.{Piece}
 use Rattle.ovl_board.specs.Pieces.{space_root}
 use Rattle.ovl_board.specs.Parcels.{IsPlain}
-use Rattle.ovl_rewrite.specs.Directories.{NamedInode, directories_among, visited_kids, is_past_limits}
+use Rattle.ovl_rewrite.specs.Directories.{NamedInode, directories_among, visited_kids}
 use Rattle.ovl_rewrite.specs.Passes.{TreeEntries, InodesParcel, tree_kids, tree_out}
 
 -- a new layer: what it has at each path
@@ -86,6 +86,7 @@ pub record IsToldWithin (new : NewLayer) (root : Inode) (views : List InodesParc
   pub rooted : new [] ≡ Some root
   pub walk : IsWalkWithin (tree_kids (tree_by new names)) (tree_out (tree_by new names)) views
 
--- something was left out at a directory
+-- a directory was left out at a directory: not each of those in it is a kid
 abbrev pub leaves_out : InodesParcel → Bool
-leaves_out view = list_any (is_past_limits view.piece.dir) view.seen
+leaves_out view =
+    not (length view.kids == count_by (λ entry. is_directory entry.1) view.seen)

@@ -1,10 +1,11 @@
+//! A new layer, put together from what a walk over its directories put out, in one pass. It must
+//! not know of limits.
 ghost use Rattle.std.specs.Prelude.{◌≡◌, ◌≤◌, true, Err, IfOk, OnOk, MatchResult, [], length};
 ghost use Rattle.std.specs.Vec.Iter.{into_iter_items};
 ghost use Rattle.ovl_names.specs.Order.{ascends};
-ghost use Rattle.ovl_layer.specs.declared.faults.LayerFault.TheVariants.{Memory as NoMemory};
 ghost use Rattle.ovl_layer.specs.Layers.{Entries, entry_cmp, IsLayer};
 ghost use Rattle.ovl_board.specs.Parcels.{parcel_views};
-ghost use Rattle.ovl_rewrite.specs.declared.faults.RewriteFault.TheVariants.{LimitOut, Memory};
+ghost use Rattle.ovl_rewrite.specs.declared.faults.RewriteFault.TheVariants.{LimitOut};
 ghost use Rattle.ovl_rewrite.specs.Directories.{inodes_seen};
 ghost use Rattle.ovl_rewrite.specs.Passes.{WalksUnder, StopsUnder};
 ghost use Rattle.ovl_rewrite.specs.NewLayers.{NewLayer, IsOf, IsToldBy};
@@ -12,8 +13,8 @@ ghost use Rattle.ovl_rewrite.specs.NewLayers.{NewLayer, IsOf, IsToldBy};
 use crate::RewriteFault;
 use ovl_board::Parcel;
 use ovl_inode::{Inode, is_directory};
-use ovl_layer::{Layer, LayerFault, Siblings, from_entries};
-use ovl_names::{Name, Path};
+use ovl_layer::{Layer, Siblings};
+use ovl_names::Name;
 use std::alloc::Global;
 use std::vec::IntoIter;
 
@@ -41,33 +42,6 @@ pub(crate) fn layer_told(
     // The type keeps that it is a layer.
     let _root = layer.root();
     Ok(layer)
-}
-
-/// The layer of these entries; `LimitOut` comes only if they are none.
-pub fn layer_of(alloc: Global, entries: Vec<(Path, Inode)>) -> Result<Layer, RewriteFault>
-    ensures layer { IfOk result (λ layer. (layer ≡ entries.items) × IsLayer layer) }
-    ensures limit { result ≡ Err LimitOut → IsLayer entries.items → ⊥ }
-{
-    match from_entries(alloc, entries) {
-        Ok(layer) => {
-            // The type keeps that it is a layer.
-            let _root = layer.root();
-            Ok(layer)
-        }
-        Err(fault) => Err(refusal(fault)),
-    }
-}
-
-// What a fault of entries that are a layer, but for the limits, says.
-fn refusal(fault: LayerFault) -> RewriteFault
-    ensures limit { result ≡ LimitOut → fault ≡ NoMemory → ⊥ }
-    ensures memory { result ≡ Memory → fault ≡ NoMemory }
-{
-    // Made by hand (2): out of memory while a layer is made of entries.
-    match fault {
-        LayerFault::Memory => RewriteFault::Memory,
-        _ => RewriteFault::LimitOut,
-    }
 }
 
 // The entries under the directory of the next parcel; its parcel and those of what lies under it

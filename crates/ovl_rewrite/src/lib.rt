@@ -1,13 +1,14 @@
 //! A new layer, built from the outputs of a run.
 #![tactic(auto)]
 
+mod ends;
 mod faults;
-mod kept;
 mod kids;
 mod layers;
+mod rewrites;
 mod rooms;
 
+pub use ends::RewriteEnd;
 pub use faults::RewriteFault;
-pub use kept::layer_within;
 pub use kids::directories;
-pub use layers::layer_of;
+pub use rewrites::Rewrite;

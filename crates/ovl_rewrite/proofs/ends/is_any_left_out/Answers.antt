@@ -8,7 +8,7 @@ use Rattle.ovl_board.specs.Parcels.{parcel_view}
 use Rattle.ovl_rewrite.specs.Directories.{NamedInode, inodes_seen}
 use Rattle.ovl_rewrite.specs.NewLayers.{leaves_out}
 use Rattle.ovl_rewrite.proofs.KeptLemmas.{any-map}
-use Rattle.ovl_rewrite.proofs.kept.is_any_left_out.Goals as goal
+use Rattle.ovl_rewrite.proofs.ends.is_any_left_out.Goals as goal
 
 pub returns : goal.returns
 returns c =
