@@ -1,3 +1,4 @@
+//! The parcels of a run, put in the order of the walk. It must not know what an output is.
 ghost use Rattle.std.specs.Prelude.{◌≡◌, ◌≤◌, [], ◌∷◌, ◌++◌, map, reverse, OnOk, OnErr, IfOk, IsTrue, MatchOption, MatchResult, All, AllPairs, Contains, IsSorted, IsPermutation};
 ghost use Rattle.ovl_board.specs.declared.assembly.BoardFault.TheVariants.{Memory};
 ghost use Rattle.ovl_board.specs.Pieces.{IsBefore, piece_cmp};

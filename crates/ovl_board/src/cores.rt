@@ -1,3 +1,4 @@
+//! Work by several workers as a machine of single steps, on one thread.
 ghost use Rattle.std.specs.Prelude.{◌≡◌, ◌↔◌, ◌<◌, ◌⊎◌, Some, None, IsTrue, IfOk, IsOk, IfErr, OnOk, OnErr, MatchResult};
 ghost use Rattle.std.specs.Coded.{Coded-set};
 ghost use Rattle.ovl_board.specs.declared.events.CoreFault.TheVariants.{NotPossible, Memory};

@@ -1,3 +1,4 @@
+//! What one worker of the machine holds. It must not know the work.
 ghost use Rattle.std.specs.Prelude.{◌≡◌, ◌↔◌, [], ◌∷◌, Some, None, IsTrue, IsSome, MatchOption, MatchResult, option_copied};
 ghost use Rattle.ovl_board.specs.declared.events.CoreFault.TheVariants.{NotPossible, Memory};
 ghost use Rattle.ovl_board.specs.Desks.{empty_desk, is_free, pushed_desk};

@@ -1,3 +1,4 @@
+//! The steps of the machine, and why it refuses one.
 ghost use Rattle.std.specs.Prelude.{◌≡◌};
 ghost use Rattle.ovl_board.specs.declared.events.CoreFault.TheVariants.{Memory};
 

@@ -1,3 +1,4 @@
+//! Laws of walks and of balance; the contract of each is its statement.
 ghost use Rattle.ovl_board.specs.Laws.{ReachedByNames, HasReachedPieces, KeepsBalance, BalancedArePlain, PlainAreOwn, BalancedHaveNoFault, OwnAssemble, InOrderHaveNoFault};
 
 use crate::works::Work;

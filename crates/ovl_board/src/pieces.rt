@@ -1,3 +1,4 @@
+//! A piece of work. It must not know what a piece means to a work.
 ghost use Rattle.std.specs.Prelude.{◌≡◌, IfOk, IsTrue, ◌↔◌};
 ghost use Rattle.ovl_board.specs.Trees.{is_child};
 

@@ -1,3 +1,4 @@
+//! The walk of a work by one thread, by which all others are measured.
 ghost use Rattle.std.specs.Prelude.{◌≡◌, ◌++◌, ◌-◌, IfOk, length, map};
 ghost use Rattle.ovl_board.specs.Pieces.{HasLawfulKids};
 ghost use Rattle.ovl_board.specs.Walks.{preorder};

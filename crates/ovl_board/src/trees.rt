@@ -1,3 +1,4 @@
+//! Listed paths as work, for tests.
 ghost use Rattle.std.specs.Prelude.{◌≡◌, ◌↔◌, ◌<◌, ◌^◌, IfOk, IsOk, IsTrue, AllPairs};
 ghost use Rattle.std.specs.declared.cmp.Ordering.TheVariants.{Less};
 ghost use Rattle.ovl_names.specs.Paths.{path_cmp};

@@ -1,3 +1,4 @@
+//! What the layers below show in the place of a directory that is checked. It must not know codes.
 ghost use Rattle.std.specs.Prelude.{◌≡◌, ◌<◌, ℕ, true, false, None, length, unwrap_or, IfOk, IfSome};
 ghost use Rattle.std.specs.List.{list_any};
 ghost use Rattle.ovl_lookup.specs.Stacks.{all_layers};

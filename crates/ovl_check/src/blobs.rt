@@ -1,3 +1,4 @@
+//! The digests of blobs that are held, as work. It must not know layers.
 ghost use Rattle.std.specs.Prelude.{◌≡◌, IfOk, true, map};
 ghost use Rattle.std.specs.List.{flat_map};
 ghost use Rattle.ovl_names.specs.Names.{name_eq};

@@ -1,3 +1,4 @@
+//! The visit of a directory that is checked: the findings of what is in it.
 ghost use Rattle.std.specs.Prelude.{◌≡◌, ◌<◌, ◌&&◌, ◌||◌, not, ◌++◌, ◌∷◌, [], if◌then◌else◌, true, false, Some, None, IfOk, OnOk, length, map, filter, unwrap_or};
 ghost use Rattle.std.specs.List.{flat_map};
 ghost use Rattle.ovl_lookup.specs.Stacks.{all_layers};

@@ -1,3 +1,4 @@
+//! Blobs by name, length and whether they are intact. It must not know layers.
 ghost use Rattle.std.specs.Prelude.{◌≡◌, ◌↔◌, true, IfOk, IsTrue, Contains};
 ghost use Rattle.ovl_names.specs.Order.{ascends};
 ghost use Rattle.ovl_check.specs.Blobs.{are_in_order, blob_views, digest_cmp, wrong_names};

@@ -1,3 +1,4 @@
+//! From the facts of an entry to its codes. It must not look into layers.
 ghost use Rattle.std.specs.Prelude.{◌≡◌};
 ghost use Rattle.ovl_check.specs.Facts as facts;
 

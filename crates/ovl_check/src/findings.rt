@@ -1,3 +1,4 @@
+//! Codes and findings, and their order.
 ghost use Rattle.std.specs.Prelude.{◌≡◌};
 ghost use Rattle.ovl_check.specs.Codes.{is_fault, code_word};
 

@@ -1,3 +1,4 @@
+//! The facts of an entry, from its layer and those below. It must not know codes.
 ghost use Rattle.std.specs.Prelude.{◌≡◌, ◌<◌, ℕ, not, true, false, Some, length, unwrap_or, IfOk, IfSome};
 ghost use Rattle.std.specs.List.{list_any};
 ghost use Rattle.ovl_lookup.specs.Stacks.{all_layers};

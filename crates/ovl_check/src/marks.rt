@@ -1,3 +1,4 @@
+//! What the check asks of one inode or its mark. It must not know layers.
 ghost use Rattle.std.specs.Prelude.{◌≡◌, ◌||◌, Some};
 ghost use Rattle.ovl_inode.specs.Marks as marks;
 ghost use Rattle.ovl_lookup.specs.Sound as sound;

@@ -1,3 +1,4 @@
+//! Elements under digests, sought by name.
 ghost use Rattle.std.specs.Prelude.{◌≡◌, ◌<◌, ℕ, List, slice_index, true};
 ghost use Rattle.std.specs.Option.{option_map};
 ghost use Rattle.ovl_check.specs.Named.{names_ascend, element_named, IsStart, AreStarts};

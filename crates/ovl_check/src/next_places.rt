@@ -1,3 +1,4 @@
+//! Where a directory's path goes on below, lent, and the order of such places.
 ghost use Rattle.std.specs.Prelude.{◌≡◌, Some, reverse, unwrap_or, IfOk};
 ghost use Rattle.std.specs.Cmp.{partial_equiv_from_equiv, po};
 ghost use Rattle.std.specs.Cmp.Lexicographic.{nat_list_cmp_total, nat_list_eq_equiv, texts_ties, lists_total, lists_equiv, lists_ties};

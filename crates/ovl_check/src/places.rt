@@ -1,3 +1,4 @@
+//! What layers have at whole paths that redirects name. It must not know codes.
 ghost use Rattle.std.specs.Prelude.{◌≡◌, ◌<◌, ◌≤◌, Some, IfOk, length};
 ghost use Rattle.std.specs.Option.{option_map};
 ghost use Rattle.ovl_lookup.specs.Stacks.{all_layers};

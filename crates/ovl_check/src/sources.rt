@@ -1,3 +1,4 @@
+//! Blobs that are held, with those that are wrong.
 ghost use Rattle.std.specs.Prelude.{◌≡◌};
 ghost use Rattle.ovl_check.specs.Blobs.{blob_views, wrong_names};
 

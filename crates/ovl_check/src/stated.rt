@@ -1,3 +1,4 @@
+//! The names of blobs that layers state. It must not know contents.
 ghost use Rattle.std.specs.Prelude.{◌≡◌, ◌++◌, IfOk, OnOk};
 ghost use Rattle.ovl_check.specs.Stated.{AreStated, name_in, names_in};
 

@@ -1,3 +1,4 @@
+//! The check of a stack as work: what it is of, and what its visits put out.
 ghost use Rattle.std.specs.Prelude.{◌≡◌};
 ghost use Rattle.ovl_check.specs.CheckViews.{told_contents};
 ghost use Rattle.ovl_check.specs.Facts as facts;

@@ -1,3 +1,4 @@
+//! A blob read to its end in parts: its length, and whether it is intact.
 ghost use Rattle.std.specs.Prelude.{◌≡◌, ◌<◌, ◌+◌, ◌-◌, ◌^◌, ◌++◌, [], List, ℕ, Err, IfOk, IfSome, OnOk, length};
 ghost use Rattle.std.specs.Io.KnownBytes.{Consumes, IsAtEnd};
 ghost use Rattle.ovl_check.specs.declared.tellings.PartFault.TheVariants.{TooLong};

@@ -1,3 +1,4 @@
+//! A command, and its answer. It must not know what a layer is.
 /// What is done with a stack of layers.
 #[derive(Clone, Copy, Debug, PartialEq, Eq)]
 pub enum Command {

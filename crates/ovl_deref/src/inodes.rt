@@ -1,3 +1,4 @@
+//! What becomes of one inode. It must not look into layers.
 ghost use Rattle.std.specs.Prelude.{◌≡◌, ◌||◌, IfOk};
 ghost use Rattle.ovl_names.specs.Names.{name_eq};
 ghost use Rattle.ovl_inode.specs.Attributes.{redirect_name, metacopy_name};

@@ -1,3 +1,4 @@
+//! Contents as blobs, under the digests that they have.
 ghost use Rattle.std.specs.Prelude.{◌≡◌, IfOk, map};
 ghost use Rattle.std.specs.BTreeMap.{IsOrdered};
 ghost use Rattle.sha2.specs.Sha256.{sha256};

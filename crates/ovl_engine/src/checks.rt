@@ -1,3 +1,4 @@
+//! The check of a stack by workers. It must not know commands.
 ghost use Rattle.std.specs.Prelude.{◌≡◌, ◌<◌, ◌≤◌, ◌+◌, true, List, IfOk, MatchResult, length, map};
 ghost use Rattle.ovl_lookup.specs.Stacks.{all_layers};
 ghost use Rattle.ovl_lookup.specs.Sound.{IsSoundStack};

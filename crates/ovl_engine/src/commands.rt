@@ -1,3 +1,4 @@
+//! A command over manifests and blobs that are held: refusals, the check, the answer.
 ghost use Rattle.std.specs.Prelude.{◌≡◌, ◌↔◌, ◌<◌, ◌≤◌, true, false, Err, IfOk, IfErr, OnOk, List, length, nat_lt, nat_le};
 ghost use Rattle.ovl_lookup.specs.Stacks.{layer_limit};
 ghost use Rattle.ovl_board.specs.Machine.{worker_limit};

@@ -1,3 +1,4 @@
+//! Where contents come from that aren't held. It must not know files.
 ghost use Rattle.std.specs.Prelude.{◌≡◌, ℕ, Option, true, List, IfOk, IfErr};
 ghost use Rattle.ovl_names.specs.Order.{ascends};
 ghost use Rattle.ovl_check.specs.Blobs.{digest_cmp};

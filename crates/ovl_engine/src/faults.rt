@@ -1,3 +1,4 @@
+//! Why a command gives no answer, of all that it is made of.
 ghost use Rattle.std.specs.Prelude.{◌≡◌};
 ghost use Rattle.ovl_engine.specs.declared.faults.EngineFault.TheVariants.{Memory};
 ghost use Rattle.ovl_engine.specs.Refusals.{unread_layer, failed_run, failed_deref, failed_merge};

@@ -1,3 +1,4 @@
+//! Manifests that a command owns, or that are lent to it.
 ghost use Rattle.std.specs.Prelude.{◌≡◌, IfOk, length, map};
 ghost use Rattle.ovl_engine.specs.Requests.{ManifestTexts};
 

@@ -1,3 +1,4 @@
+//! From manifests to a stack, and its end. It must not know commands.
 ghost use Rattle.std.specs.Prelude.{◌≡◌, ◌+◌, ◌-◌, ◌^◌, ◌<◌, ◌≤◌, None, Ok, IfOk, IfErr, MatchResult, length, map};
 ghost use Rattle.std.specs.Thread.{IsSync, IsSend};
 ghost use Rattle.ovl_lookup.specs.Stacks.{layer_limit, stack_with};

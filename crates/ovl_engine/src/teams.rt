@@ -1,3 +1,4 @@
+//! The workers of a command. It must not know which work they do.
 ghost use Rattle.std.specs.Prelude.{◌<◌, ◌≤◌, MatchResult};
 ghost use Rattle.ovl_board.specs.Machine.{worker_limit};
 ghost use Rattle.ovl_board.specs.Pieces.{space_root};

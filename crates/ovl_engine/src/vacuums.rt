@@ -1,3 +1,4 @@
+//! Vacuum of a stack.
 ghost use Rattle.std.specs.Prelude.{◌≡◌, ◌<◌, ◌≤◌, true, IfOk, MatchResult, length};
 ghost use Rattle.ovl_board.specs.Machine.{worker_limit};
 ghost use Rattle.ovl_lookup.specs.Sound.{IsSoundStack};

@@ -1,3 +1,4 @@
+//! Extended attributes. It must not know which of them mean something to the overlay.
 ghost use Rattle.std.specs.Prelude.{◌≡◌, Some, None, IsTrue, IfOk, OnOk, OnErr, MatchResult, []};
 ghost use Rattle.std.specs.Cmp.{partial_equiv_from_equiv};
 ghost use Rattle.std.specs.Option.{option_map};

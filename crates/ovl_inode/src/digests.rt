@@ -1,3 +1,4 @@
+//! Digests by their bytes and their digits.
 ghost use Rattle.std.specs.Prelude.{◌≡◌, Some, IsTrue, MatchResult};
 ghost use Rattle.hex.specs.Hex.{encode_lower};
 ghost use Rattle.ovl_inode.specs.Bytes.{is_digest};

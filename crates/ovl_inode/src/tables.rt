@@ -1,3 +1,4 @@
+//! Attributes as places in two texts. It must not know what a name means.
 ghost use Rattle.std.specs.Prelude.{◌≡◌, ◌==◌, ◌<◌, ◌≤◌, ◌+◌, ◌^◌, Some, [], length, insert, set, slice_get, IfOk, OnOk, OnErr, IsTrue, MatchResult, IfSome, take};
 ghost use Rattle.std.specs.declared.cmp.Ordering.TheVariants.{Less};
 ghost use Rattle.std.specs.Iterator.{YieldsFirstBy, YieldsLastBy, item_count};

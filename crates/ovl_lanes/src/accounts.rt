@@ -1,3 +1,4 @@
+//! What an owner or a pass took and pushed.
 use ovl_board::Piece;
 use std::collections::LinkedList;
 

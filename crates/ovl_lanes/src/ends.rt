@@ -1,3 +1,4 @@
+//! The two ends of a lane. They must not know kids, nor when a run is done.
 ghost use Rattle.std.specs.Prelude.{◌≡◌, ◌≤◌, true, false, length};
 ghost use Rattle.crossbeam_deque.specs.Handles.{view, worker_view, worker_flavor, worker_index, stealer_flavor};
 

@@ -1,3 +1,4 @@
+//! The numbers of a closed lane.
 ghost use Rattle.std.specs.Prelude.{◌≡◌, ◌+◌};
 
 /// How many pieces were pushed to a lane, were taken from it and are left in it: those pushed are

@@ -1,3 +1,4 @@
+//! The rule of a lane, and the steps that keep it. It has no code that runs.
 use crate::accounts::Account;
 use crossbeam_deque::protocol::{Join, Lesson, Outcome, Protocol, Split};
 use ovl_board::Piece;

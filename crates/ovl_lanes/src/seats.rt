@@ -1,3 +1,4 @@
+//! Lanes for workers, from the first to the close.
 ghost use Rattle.std.specs.Prelude.{◌≡◌, ◌↔◌, ◌⊎◌, ◌<◌, length, List, All, Err, IfOk, vec_len};
 ghost use Rattle.ovl_board.specs.Machine.{worker_limit};
 ghost use Rattle.ovl_board.specs.declared.pieces.Piece.{Piece};

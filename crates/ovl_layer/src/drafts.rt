@@ -1,3 +1,4 @@
+//! A layer of entries in path order, node by node. It must not know texts.
 ghost use Rattle.std.specs.Prelude.{◌≡◌, ◌≤◌, ◌+◌, ◌-◌, true, false, [], ◌∷◌, ◌++◌, IsTrue, IfOk, length, map, take, vec_len};
 ghost use Rattle.std.specs.List.{starts_with};
 ghost use Rattle.ovl_names.specs.Names.{name_eq};

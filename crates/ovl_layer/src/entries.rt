@@ -1,3 +1,4 @@
+//! The layer of a list of entries, or its first fault. It must not know texts.
 ghost use Rattle.std.specs.Prelude.{◌≡◌, ◌*◌, ◌<◌, ◌≤◌, ◌↔◌, Ok, Err, Some, IfSome, IsTrue, MatchResult, [], length, take};
 ghost use Rattle.ovl_names.specs.Paths.{child_path, depth_limit};
 ghost use Rattle.ovl_inode.specs.Attributes as attributes;

@@ -1,3 +1,4 @@
+//! Why bytes or entries are no layer.
 ghost use Rattle.std.specs.Prelude.{◌≡◌};
 ghost use Rattle.ovl_layer.specs.declared.faults.LayerFault.TheVariants.{Memory};
 ghost use Rattle.ovl_layer.specs.declared.faults.SiblingFault.TheVariants.{Memory as NoMemory};

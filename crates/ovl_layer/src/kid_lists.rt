@@ -1,3 +1,4 @@
+//! The rows directly below each row of a sheet.
 ghost use Rattle.std.specs.Prelude.{◌≡◌, ℕ, ◌<◌, ◌^◌, length, drop, slice_get, Some, IfOk, IsTrue};
 ghost use Rattle.ovl_layer.specs.Sheets.{kid_numbers, are_earlier};
 ghost use Rattle.ovl_layer.specs.KidLists.{AreCounts, AreKidEnds};

@@ -1,3 +1,4 @@
+//! Going down a layer name by name, be it a tree or a table.
 ghost use Rattle.std.specs.Prelude.{◌≡◌, ◌≢◌, [], IfOk, MatchOption};
 ghost use Rattle.ovl_layer.specs.Layers.{Entries, names_below};
 ghost use Rattle.ovl_layer.specs.LayerTrees.{entries_in, entries_under};

@@ -1,3 +1,4 @@
+//! A sheet of entries in path order, row by row. It must not know texts.
 ghost use Rattle.std.specs.Prelude.{◌≡◌, ◌≤◌, true, false, [], ◌∷◌, ◌++◌, IsTrue, IfOk, OnErr, length, take};
 ghost use Rattle.std.specs.Ordering.{is_lt};
 ghost use Rattle.ovl_names.specs.Paths.{path_cmp, child_path};

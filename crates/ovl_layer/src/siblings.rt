@@ -1,3 +1,4 @@
+//! A layer of directories that are complete, put together from below.
 ghost use Rattle.std.specs.Prelude.{◌≡◌, ◌↔◌, ◌&&◌, not, false, [], ◌∷◌, ◌++◌, Err, IfOk, OnErr, IsTrue, MatchOption};
 ghost use Rattle.ovl_inode.specs.Attributes.{has_escaped_name};
 ghost use Rattle.ovl_inode.specs.Marks.{is_directory};

@@ -1,3 +1,4 @@
+//! What is shown in a directory, as inodes that a new layer may have.
 ghost use Rattle.std.specs.Prelude.{◌≡◌, IfOk};
 ghost use Rattle.std.specs.List.{filter_map};
 ghost use Rattle.ovl_lookup.specs.ShownInodes.{named_shown};

@@ -1,3 +1,4 @@
+//! The whole merged tree as a list. It must not know workers.
 ghost use Rattle.std.specs.Prelude.{◌≡◌, ◌≤◌, ◌++◌, length, IfOk, OnOk};
 ghost use Rattle.ovl_lookup.specs.Stacks.{from_layer};
 ghost use Rattle.ovl_lookup.specs.Merged.{AreKids, IsMerged};

@@ -1,3 +1,4 @@
+//! Lists in the order of names, two as one. It must not know layers.
 ghost use Rattle.std.specs.Prelude.{◌≡◌, map, IfOk};
 ghost use Rattle.ovl_names.specs.Names.{PathName};
 ghost use Rattle.ovl_lookup.specs.NamedLists.{AreInOrder, both_joined};

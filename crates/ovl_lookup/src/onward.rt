@@ -1,3 +1,4 @@
+//! Where one mark sends a walk in the layer below.
 ghost use Rattle.ovl_lookup.specs.Onwards.{IsOnward};
 
 use ovl_inode::{Mark, Redirect};

@@ -1,3 +1,4 @@
+//! Of what kind something is that is shown.
 ghost use Rattle.std.specs.Prelude.{◌≡◌};
 ghost use Rattle.ovl_lookup.specs.declared.looks.Look.{Look};
 ghost use Rattle.ovl_lookup.specs.Merged.{is_nothing, is_shown_directory};

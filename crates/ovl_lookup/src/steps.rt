@@ -1,3 +1,4 @@
+//! Walks in one layer. They must not know other layers.
 ghost use Rattle.std.specs.Prelude.{◌≡◌, ◌<◌, ◌++◌, [], false, Some, length, take, drop, unwrap_or, IfOk, MatchOption};
 ghost use Rattle.ovl_names.specs.Names.{PathName};
 ghost use Rattle.ovl_names.specs.Paths.{PathNames, child_path};

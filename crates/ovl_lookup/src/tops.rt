@@ -1,3 +1,4 @@
+//! The names in a view, each with its topmost place.
 ghost use Rattle.std.specs.Prelude.{[], ◌∷◌, ◌+◌, ◌<◌, ◌^◌, length, IfOk};
 ghost use Rattle.std.specs.List.{All};
 ghost use Rattle.ovl_lookup.specs.ViewPasses.{AreTops, tops_told};

@@ -1,3 +1,4 @@
+//! The names of a trail from its end.
 ghost use Rattle.std.specs.Prelude.{◌≡◌, [], ◌++◌};
 ghost use Rattle.std.specs.Slice.Iter.{iter_rest};
 ghost use Rattle.ovl_lookup.specs.Trails.{names_of_parts};

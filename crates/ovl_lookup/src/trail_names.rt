@@ -1,3 +1,4 @@
+//! The names of a trail from its front.
 ghost use Rattle.std.specs.Prelude.{◌≡◌};
 ghost use Rattle.std.specs.Iterator.{YieldsFirstRef, item_count};
 ghost use Rattle.ovl_lookup.specs.Trails.{names_of_parts};

@@ -1,3 +1,4 @@
+//! A directory of the merged tree, found once for all names in it.
 ghost use Rattle.std.specs.Prelude.{◌≡◌, ◌≤◌, false, None, drop, length, IfOk, OnOk, MatchOption};
 ghost use Rattle.std.specs.List.{All};
 ghost use Rattle.ovl_names.specs.Paths.{child_path};

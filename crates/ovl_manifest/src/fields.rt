@@ -1,3 +1,4 @@
+//! An entry from the value of its object. It must not know other entries.
 ghost use Rattle.std.specs.Prelude.{◌≡◌, ◌≤◌, false, Some, None, IfOk, IfSome, MatchBool, [], ◌++◌, codes, map, is_some};
 ghost use Rattle.std.specs.Option.{option_map};
 ghost use Rattle.std.specs.List.{list_all};

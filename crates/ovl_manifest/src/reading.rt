@@ -1,3 +1,4 @@
+//! From bytes to a layer or a sheet, or the first fault. It must not know other layers.
 ghost use Rattle.std.specs.Prelude.{◌≡◌, Ok, MatchResult};
 ghost use Rattle.ovl_manifest.specs.Manifest as manifest;
 ghost use Rattle.ovl_layer.specs.Entries.{IsFaultOf};

@@ -1,3 +1,4 @@
+//! The one text of a layer.
 ghost use Rattle.std.specs.Prelude.{◌≡◌, true, false, ◌++◌, Ok, IfOk, OnOk, string_bytes};
 ghost use Rattle.serde_json.specs.Written.{compact_text};
 ghost use Rattle.ovl_names.specs.Paths.{PathNames, child_path};

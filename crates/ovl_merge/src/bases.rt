@@ -1,3 +1,4 @@
+//! Where the names of a directory lie below the two layers.
 ghost use Rattle.std.specs.Prelude.{◌≡◌, ◌<◌, true, length, IfOk};
 ghost use Rattle.ovl_names.specs.Paths.{PathNames};
 ghost use Rattle.ovl_lookup.specs.Sights.{sight_of};

@@ -1,3 +1,4 @@
+//! The names that may have an entry in a directory of the new layer.
 ghost use Rattle.std.specs.Prelude.{◌≡◌, ◌<◌, [], Option, length, IfOk, IfSome};
 ghost use Rattle.ovl_names.specs.Paths.{PathNames};
 ghost use Rattle.ovl_layer.specs.Sheets.{path_at};

@@ -1,3 +1,4 @@
+//! A directory that the two layers show, found once for all names in it.
 ghost use Rattle.std.specs.Prelude.{◌≡◌, ◌<◌, ◌||◌, false, length, is_some, IfOk, MatchOption};
 ghost use Rattle.std.specs.Option.{option_map};
 ghost use Rattle.ovl_merge.specs.Places.{merge_of, shows_own_directory};

@@ -1,3 +1,4 @@
+//! What the new layer has at a name.
 ghost use Rattle.std.specs.Prelude.{◌≡◌, ◌<◌, Option, Some, None, true, IfOk, IfSome, string_bytes, length};
 ghost use Rattle.std.specs.Option.{option_map};
 ghost use Rattle.ovl_names.specs.Paths.{PathNames, child_path};

@@ -1,3 +1,4 @@
+//! Why layers aren't merged.
 ghost use Rattle.std.specs.Prelude.{◌≡◌};
 ghost use Rattle.ovl_merge.specs.declared.faults.MergeFault.TheVariants.{Memory};
 ghost use Rattle.ovl_merge.specs.Limits.{refused};

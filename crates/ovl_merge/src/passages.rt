@@ -1,3 +1,4 @@
+//! The walks of a name through both layers, and what its place in the rest shows.
 ghost use Rattle.std.specs.Prelude.{◌≡◌, ◌≢◌, ◌<◌, Option, None, Some, length, IfOk, IfSome};
 ghost use Rattle.std.specs.Option.{option_map, option_and_then};
 ghost use Rattle.ovl_names.specs.Paths.{PathNames, child_path};

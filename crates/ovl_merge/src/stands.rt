@@ -1,3 +1,4 @@
+//! Walks of one directory, and of names in it, in one of the two layers.
 ghost use Rattle.std.specs.Prelude.{◌≡◌, ◌<◌, ℕ, Option, None, length, is_some, IfOk, IfSome};
 ghost use Rattle.std.specs.Option.{option_map};
 ghost use Rattle.ovl_names.specs.Paths.{PathNames, child_path};

@@ -1,3 +1,4 @@
+//! Two paths compared from their ends.
 ghost use Rattle.std.specs.Prelude.{◌≡◌, ◌+◌, ◌==◌, MatchBool, IsTrue, position};
 ghost use Rattle.ovl_names.specs.Names.{slash};
 ghost use Rattle.ovl_names.specs.Paths.{text_names, has_names};

@@ -1,3 +1,4 @@
+//! Texts as reports write them.
 ghost use Rattle.std.specs.Prelude.{◌≡◌, IfOk, OnOk, OnErr, string_bytes, ◌++◌};
 ghost use Rattle.ovl_names.specs.Escapes.{escaped as escaped_text, escaped_byte, is_plain as the_plain};
 

@@ -1,3 +1,4 @@
+//! Which texts are names, and names.
 ghost use Rattle.std.specs.Prelude.{◌≡◌, Some, IsTrue, IfOk, MatchResult, string_bytes};
 ghost use Rattle.std.specs.Cmp.{partial_equiv_from_equiv};
 ghost use Rattle.std.specs.Cmp.Lexicographic.{nat_list_cmp_total, nat_list_eq_equiv, texts_po, texts_ties};

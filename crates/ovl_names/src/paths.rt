@@ -1,3 +1,4 @@
+//! Which texts are paths, and paths. They must not know what a path leads to.
 ghost use Rattle.std.specs.Prelude.{◌≡◌, ◌↔◌, ◌<◌, ◌==◌, Some, None, is_some, IsTrue, IfOk, OnErr, MatchResult, [], ◌∷◌, ◌++◌, if◌then◌else◌, length, take, nat_lt, string_bytes, string_capacity};
 ghost use Rattle.std.specs.Ordering.{nat_cmp};
 ghost use Rattle.std.specs.declared.cmp.Ordering.TheVariants.{Less, Greater};

@@ -1,3 +1,4 @@
+//! Texts that need no memory of their own while they are short.
 ghost use Rattle.std.specs.Prelude.{◌≡◌, IfOk};
 ghost use Rattle.ovl_names.specs.Texts.{text_bytes};
 

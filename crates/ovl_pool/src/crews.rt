@@ -1,3 +1,4 @@
+//! The threads of a run, started and joined. They must not know what a worker does.
 ghost use Rattle.std.specs.Prelude.{◌≡◌, ◌++◌, IfOk, IsOkAnd};
 ghost use Rattle.ovl_pool.specs.Crews.{AreSharesOfBoth};
 ghost use Rattle.ovl_pool.specs.Hauls.{IsHaulOfBoth};

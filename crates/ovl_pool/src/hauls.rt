@@ -1,3 +1,4 @@
+//! What workers bring, put together.
 ghost use Rattle.std.specs.Prelude.{◌≡◌, None, IfOk, IsPermutation, [], false};
 ghost use Rattle.ovl_pool.specs.Hauls.{AreInPieceOrder, IsHaulOfBoth};
 

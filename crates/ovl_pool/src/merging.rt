@@ -1,3 +1,4 @@
+//! Two ordered lists of parcels as one.
 ghost use Rattle.std.specs.Prelude.{◌++◌, IfOk, IsPermutation};
 ghost use Rattle.ovl_pool.specs.Hauls.{AreInPieceOrder};
 

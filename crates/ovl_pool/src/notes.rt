@@ -1,3 +1,4 @@
+//! What a worker notes at the tally, and what that says it does next.
 ghost use Rattle.std.specs.Prelude.{◌≡◌, ◌<◌, ◌+◌, ◌^◌, OnOk, IfOk, MatchResult};
 ghost use Rattle.ovl_pool.specs.declared.notes.Prospect.TheVariants.{End};
 ghost use Rattle.ovl_pool.specs.declared.tallies.Over.{Over};

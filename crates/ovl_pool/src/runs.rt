@@ -1,3 +1,4 @@
+//! A run from its root to the plain walk. It must not know what an output means.
 ghost use Rattle.std.specs.Prelude.{◌≡◌, ◌↔◌, ◌<◌, ◌≤◌, ◌+◌, ◌⊎◌, [], List, length, Err, IfOk, IfErr, vec_len};
 ghost use Rattle.ovl_board.specs.declared.pieces.Piece.{Piece};
 ghost use Rattle.ovl_board.specs.Machine.{worker_limit};

@@ -1,3 +1,4 @@
+//! A worker for each lane, and the lanes closed again.
 ghost use Rattle.std.specs.Prelude.{◌≡◌, ◌<◌, ◌+◌, ◌^◌, IfOk, OnOk, All, List, length, vec_len};
 ghost use Rattle.std.specs.List.{AllWithin};
 ghost use Rattle.ovl_board.specs.declared.pieces.Piece.{Piece};

@@ -1,3 +1,4 @@
+//! A worker's shares of the two ledgers.
 ghost use Rattle.std.specs.Prelude.{◌≡◌, ◌≤◌, ◌+◌};
 ghost use Rattle.ovl_pool.specs.Crews.{AreSharesOfBoth};
 

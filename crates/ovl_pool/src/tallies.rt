@@ -1,3 +1,4 @@
+//! How much is known and delivered, for all workers. It must not know pieces.
 ghost use Rattle.std.specs.Prelude.{◌≡◌, ◌↔◌, ◌≤◌, ◌<◌, ◌+◌, ◌^◌, ◌⊎◌, IsTrue, IsSome, true, false};
 ghost use Rattle.std.specs.Bool.{OnTrue, OnFalse};
 

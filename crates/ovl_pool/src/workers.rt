@@ -1,3 +1,4 @@
+//! What one worker does until nothing is left.
 ghost use Rattle.std.specs.Prelude.{◌≡◌, OnOk};
 ghost use Rattle.ovl_pool.specs.Flows.{IsPushed, IsPushedOf};
 ghost use Rattle.ovl_pool.specs.Passes.{ends_of};

@@ -1,3 +1,4 @@
+//! Walks, assemblies and the steps of the machine.
 use ovl_board::{
     BoardFault, Core, CoreFault, Event, Parcel, Piece, Tree, all_lawful, assemble, kids_lawful,
     plain_walk,

@@ -1,3 +1,4 @@
+//! Lanes by one thread: each step and its account.
 ghost use Rattle.std.specs.Prelude.{IfOk};
 ghost use Rattle.ovl_lanes.specs.Lanes.{IsOneLane, IsWhole};
 ghost use Rattle.ovl_lanes.specs.Seats.{IsNew};

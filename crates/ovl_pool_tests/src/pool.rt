@@ -1,3 +1,4 @@
+//! Runs by several workers, with gates and works that look at them.
 ghost use Rattle.std.specs.Prelude.{◌≡◌, []};
 ghost use Rattle.ovl_board.specs.Trees.{tree_kids, deepest_path};
 

@@ -1,3 +1,4 @@
+//! Why the program ends without a report, and its status then.
 ghost use Rattle.std.specs.Prelude.{◌≡◌};
 ghost use Rattle.ovl_program.specs.declared.files.reads.ReadFault.TheVariants.{Memory as ReadMemory};
 ghost use Rattle.ovl_program.specs.declared.faults.ProgramFault.TheVariants.{Engine};

@@ -1,3 +1,4 @@
+//! Files and folders that the program reads.
 /// The files that the program reads: manifests and blobs.
 pub mod blob_folder;
 pub mod blob_parts;

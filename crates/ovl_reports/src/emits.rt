@@ -1,3 +1,4 @@
+//! Bytes written out, and how many where a write fails.
 ghost use Rattle.std.specs.Prelude.{◌<◌, length, take, MatchResult};
 ghost use Rattle.std.specs.Io.KnownBytes.{Appends};
 

@@ -1,3 +1,4 @@
+//! The report of show, from the walk of its work.
 ghost use Rattle.std.specs.Prelude.{◌≡◌, ℕ, ◌+◌, ◌-◌, ◌*◌, ◌<◌, ◌≤◌, ◌++◌, ◌∷◌, [], List, IfOk, OnOk, codes, decimal, drop, if◌then◌else◌, length, string_bytes, take};
 ghost use Rattle.std.specs.Fork.{slice_chunk};
 ghost use Rattle.std.specs.List.{flat_map, sum_by};

@@ -1,3 +1,4 @@
+//! The report of vacuum.
 ghost use Rattle.std.specs.Prelude.{◌≡◌, ◌++◌, IfOk, OnOk, string_bytes};
 ghost use Rattle.ovl_reports.specs.VacuumReports.{removed_line, vacuum_report};
 

@@ -1,3 +1,4 @@
+//! Why no new layer is given.
 ghost use Rattle.std.specs.Prelude.{◌≡◌};
 ghost use Rattle.ovl_rewrite.specs.Passes.{failed_siblings};
 ghost use Rattle.ovl_rewrite.specs.declared.faults.RewriteFault.TheVariants.{Memory};

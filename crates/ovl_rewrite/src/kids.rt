@@ -1,3 +1,4 @@
+//! The directories among entries, as kids, but for what no manifest can hold.
 ghost use Rattle.std.specs.Prelude.{◌≡◌, IfOk, filter};
 ghost use Rattle.ovl_rewrite.specs.Directories.{directories_among, is_kept};
 

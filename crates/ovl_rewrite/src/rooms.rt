@@ -1,3 +1,4 @@
+//! Which names in a directory a manifest can hold.
 ghost use Rattle.std.specs.Prelude.{◌≡◌};
 ghost use Rattle.ovl_names.specs.Paths.{PathNames, child_path};
 ghost use Rattle.ovl_layer.specs.Layers.{is_within_limits};

@@ -1,3 +1,4 @@
+//! A directory of the topmost layer: which of its entries change nothing.
 ghost use Rattle.std.specs.Prelude.{◌≡◌, ◌<◌, [], length, unwrap_or, IfOk, IfSome, MatchOption};
 ghost use Rattle.ovl_names.specs.Paths.{child_path};
 ghost use Rattle.ovl_layer.specs.Layers.{names_below};

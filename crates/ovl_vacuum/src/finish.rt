@@ -1,3 +1,4 @@
+//! The layer that is left, from what the walk put out.
 ghost use Rattle.std.specs.Prelude.{◌≡◌, ◌<◌, ◌≤◌, ◌+◌, false, [], Ok, IfOk, length};
 ghost use Rattle.ovl_names.specs.Paths.{child_path};
 ghost use Rattle.ovl_board.specs.Parcels.{parcel_views};

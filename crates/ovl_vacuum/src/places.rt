@@ -1,3 +1,4 @@
+//! The paths of rows, each made from that of the row before.
 ghost use Rattle.std.specs.Prelude.{◌≡◌, ◌<◌, [], length, IfOk};
 ghost use Rattle.ovl_layer.specs.Sheets.{path_at};
 ghost use Rattle.ovl_names.specs.Paths.{parent_path};

@@ -1,3 +1,4 @@
+//! A stack as the work of vacuum.
 ghost use Rattle.std.specs.Prelude.{◌≡◌};
 ghost use Rattle.ovl_vacuum.specs.Directories.{TellsIdle};
 

@@ -1,3 +1,4 @@
+//! The blobs of a folder. It must not know layers.
 ghost use Rattle.std.specs.Prelude.{◌≡◌, ◌≢◌, ◌≤◌, ◌+◌, true, Ok, None, IfOk, IfErr, IfSome, string_bytes, vec_len, map, All};
 ghost use Rattle.std.specs.BTreeMap.{IsOrdered, keys};
 ghost use Rattle.std.specs.Fs.{dir_entry_name};

@@ -1,3 +1,4 @@
+//! Files read whole, several at a time. It must not know what they hold.
 ghost use Rattle.std.specs.Prelude.{◌≡◌, ◌<◌, ◌≤◌, ◌*◌, max, IfOk, IfErr, IfSome, MatchResult, string_bytes, vec_len, length, map, All, Contains};
 ghost use Rattle.std.specs.Thread.{IsSync};
 ghost use Rattle.ovl_program.specs.BlobFolders.{IsToldOf};

@@ -1,3 +1,4 @@
+//! An answer written to writers. It must not know files.
 ghost use Rattle.std.specs.Prelude.{◌≡◌, ◌<◌, ◌≤◌, ◌++◌, ◌∷◌, [], map, length, take, MatchResult, IfErr};
 ghost use Rattle.std.specs.Io.KnownBytes.{Appends};
 ghost use Rattle.ovl_engine.specs.Outcomes.{new_manifests};

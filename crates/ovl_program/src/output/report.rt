@@ -1,3 +1,4 @@
+//! An answer written to files and standard output.
 ghost use Rattle.std.specs.Prelude.{◌≡◌, ◌<◌, ◌≤◌, ℕ, IfOk, MatchResult, length, take};
 ghost use Rattle.std.specs.Io.KnownBytes.{Appends};
 ghost use Rattle.ovl_program.specs.declared.faults.ProgramFault.TheVariants.{Output};

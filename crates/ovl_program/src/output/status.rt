@@ -1,3 +1,4 @@
+//! The status of a program whose report is written.
 ghost use Rattle.std.specs.Prelude.{◌≡◌};
 ghost use Rattle.ovl_program.specs.Status.{ending_of, ending_status};
 

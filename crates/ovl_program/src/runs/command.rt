@@ -1,3 +1,4 @@
+//! A line done with contents that are held.
 ghost use Rattle.std.specs.Prelude.{◌≡◌, [], true, option_map, IfOk, IfErr, IfNone, IfSome};
 ghost use Rattle.ovl_check.specs.Blobs.{blob_views, are_in_order};
 ghost use Rattle.ovl_commands.specs.declared.requests.Command.TheVariants.{Merge};

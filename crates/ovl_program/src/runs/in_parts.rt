@@ -1,3 +1,4 @@
+//! A line done with contents that are read in parts.
 ghost use Rattle.std.specs.Prelude.{◌≡◌, [], Some, true, IfOk, IfErr, length};
 ghost use Rattle.ovl_names.specs.Order.{ascends};
 ghost use Rattle.ovl_check.specs.Blobs.{digest_cmp};

@@ -1,3 +1,4 @@
+//! Which of these a line asks for.
 use crate::faults::ProgramFault;
 use crate::files::manifests::SharedFiles;
 use crate::output::status::Ending;
