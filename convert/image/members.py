@@ -132,19 +132,22 @@ class _Folder:
     def size(self, name: str) -> int | None:
         """The size of a file that is inside of the folder, through links too."""
         way = self._way(name)
-        return None if way is None else os.stat(way).st_size
+        if way is None:
+            return None
+        with reading(f"{self.path}/{name}"):
+            return os.stat(way).st_size
 
     def identity(self, name: str) -> Hashable:
         """The file's place in its file system."""
-        status = os.stat(self._way(name) or "")
+        way = self._required(name)
+        with reading(f"{self.path}/{name}"):
+            status = os.stat(way)
         return status.st_dev, status.st_ino
 
     @contextlib.contextmanager
     def opened(self, name: str) -> Iterator[Slice]:
         """The bytes of a file."""
-        way = self._way(name)
-        if way is None:
-            raise cannot_read(f"{self.path}/{name}", "the image has no such file")
+        way = self._required(name)
         with reading(f"{self.path}/{name}"):
             file = os.open(way, READ_WHERE_IT_LEADS)
         try:
@@ -153,6 +156,13 @@ class _Folder:
             yield Slice(file, 0, size)
         finally:
             os.close(file)
+
+    def _required(self, name: str) -> str:
+        """The way to a file, which may have gone since it was looked for."""
+        way = self._way(name)
+        if way is None:
+            raise cannot_read(f"{self.path}/{name}", "the image has no such file")
+        return way
 
     def _way(self, name: str) -> str | None:
         inner = _inner(name)

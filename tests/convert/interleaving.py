@@ -24,11 +24,12 @@ class _Watch:
         self._number = 0
         self._calls: frozenset[str] = WRITES
         self._is_at_work = False
+        self._process = 0  # that runs: one that it starts, which has the hook too, hasn't its moments
         self.count = 0
 
     def hear(self, event: str, arguments: tuple[object, ...]) -> None:
         """The hook."""
-        if self._act is None or self._is_at_work or event not in self._calls:
+        if self._act is None or self._is_at_work or event not in self._calls or os.getpid() != self._process:
             return
         if event == "open" and (str(arguments[0]).endswith((".py", ".pyc")) or not self._counts(arguments[2])):
             return
@@ -47,6 +48,7 @@ class _Watch:
     def run(self, run: _Run, number: int, act: Callable[[], None], calls: frozenset[str]) -> tuple[int, str, str]:
         """Runs the command with an act before its moment of this number; the first one is 1."""
         self._act, self._number, self._calls, self.count = act, number, calls, 0
+        self._process = os.getpid()
         try:
             return run()
         finally:
