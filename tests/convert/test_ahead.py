@@ -15,7 +15,7 @@ from collections.abc import Iterator
 from unittest import mock
 
 from images import archive, folder, member, packed, write_layout
-from support import ROOT, FolderTest, call
+from support import IS_SIDE_BY_SIDE, ROOT, FolderTest, call
 
 from convert.image import ahead
 from convert.common import budgets
@@ -138,8 +138,11 @@ class Same(AheadTest):
                 self.unpacked(*words)
             self.assertEqual(worker.call_count, count)
             self.empty()
+
+    @unittest.skipIf(IS_SIDE_BY_SIDE, "then small images too are read side by side")
+    def test_not_of_a_small_image(self) -> None:
+        write_layout(self.path("image"), [archive([member("a", b"a")]), archive([member("b", b"b")])])
         with mock.patch("convert.image.ahead._Worker", side_effect=AssertionError):
-            write_layout(self.path("image"), two)
             self.assertEqual(self.unpacked()[0][0], 0)  # type: ignore[index]
 
 
