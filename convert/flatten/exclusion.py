@@ -4,7 +4,8 @@ from collections.abc import Iterable, Iterator, Sequence
 
 from ..common.budgets import Budget
 from ..common.faults import UsageFault
-from ..model.entries import REDIRECT, Entry, named
+from ..model.entries import REDIRECT, named
+from ..model.entry_file import EntryFile
 from ..model.layer_tree import Folder, LayerTree, whiteout
 from ..model.manifests import has_attribute, read_manifest, write_manifest
 from ..model.merged_tree import Directory, MergedTree
@@ -37,19 +38,20 @@ def lines_without(lines: Iterable[ShowLine], paths: Sequence[str]) -> Iterator[S
 
 def write_without(layer: str | None, below: Sequence[str], paths: Iterable[str], out: str) -> None:
     """Writes the manifest of a layer, or of a new one, that shows nothing at these paths over the layers below it."""
-    tree, merged = LayerTree(Budget()), MergedTree()
-    for entry in read_manifest(layer) if layer else ():
-        path, entry.path = entry.path, ""
-        tree.put(_names(path), entry)
-    for lower in reversed(below):
-        merged.cover(named(read_manifest(lower)), has_attribute(lower, [REDIRECT]))
-    for path in paths:
-        names = _names(path)
-        tree.drop(names)
-        if _is_shown_below(tree, merged.root, names):
-            tree.put(names, whiteout())
-    tree.settle(merged.root, lambda gap, path: None)
-    write_manifest(out, tree.entries(), layer or out)
+    with EntryFile() as file:
+        tree, merged = LayerTree(Budget(), file), MergedTree()
+        for entry in read_manifest(layer) if layer else ():
+            path, entry.path = entry.path, ""
+            tree.put(_names(path), entry)
+        for lower in reversed(below):
+            merged.cover(named(read_manifest(lower)), has_attribute(lower, [REDIRECT]))
+        for path in paths:
+            names = _names(path)
+            tree.drop(names)
+            if _is_shown_below(tree, merged.root, names):
+                tree.put(names, whiteout())
+        tree.settle(merged.root, lambda gap, path: None)
+        write_manifest(out, tree.entries(), layer or out)
 
 
 def _names(path: str) -> list[str]:
@@ -63,7 +65,7 @@ def _is_shown_below(tree: LayerTree, below: Directory | None, names: list[str]) 
     for name in names[:-1]:
         inner = here.children.get(name) if here else None
         shown = here.lower(under, name) if here else under.children.get(name) if under else None
-        if isinstance(inner, Entry) or not isinstance(shown, Directory):
+        if isinstance(inner, int) or not isinstance(shown, Directory):
             return False
         here, under = inner, shown
     return (here.lower(under, names[-1]) if here else under and under.children.get(names[-1])) is not None

@@ -16,6 +16,7 @@ from ..image.pack import contents_of
 from ..model.attributes import marks_to_user
 from ..model.blobs import opened_blob
 from ..model.entries import DIRECTORY, Entry
+from ..model.entry_file import EntryFile
 from ..model.links import FirstNames, take_links
 from ..model.manifests import read_manifest
 from ..squashfs import programs as squashfs
@@ -157,8 +158,9 @@ def _header(entry: Entry, userxattr: bool) -> Header:
 def _require_same(path: str, entries: list[Entry], options: BuildOptions, form: Form) -> None:
     """Reads the new file again: it gives the very entries, and the same of them are one file."""
     here, there = FirstNames(), FirstNames()
-    tree = tree_of_file(path, form, options.label, options.userxattr)
-    there_are = (replace(entry, path=path) for path, entry in tree.entries())
-    for wanted, found in itertools.zip_longest(entries, there_are):
-        if wanted is None or found is None or wanted != found or here.before(wanted) != there.before(found):
-            raise Fault(f"{options.label}: read again it has another {(wanted or found).path}, so it isn't written")
+    with EntryFile() as file:
+        tree = tree_of_file(path, form, options.label, options.userxattr, file)
+        there_are = (replace(entry, path=path) for path, entry in tree.entries())
+        for wanted, found in itertools.zip_longest(entries, there_are):
+            if wanted is None or found is None or wanted != found or here.before(wanted) != there.before(found):
+                raise Fault(f"{options.label}: read again it has another {(wanted or found).path}, so it isn't written")

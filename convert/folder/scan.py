@@ -15,6 +15,7 @@ from ..model import rules
 from ..model.attributes import Unstated, marks_of, read_attributes, require_trusted
 from ..model.blobs import Writer, writers
 from ..model.entries import BLOCK, CHAR, DIRECTORY, FILE, NO_ATTRIBUTES, SYMLINK, Entry, is_whiteout, named
+from ..model.entry_file import EntryFile
 from ..model.links import write_layer
 from ..model.workers import give_blobs
 from ..squashfs.layer_files import FileOptions, Form, form_of, scan_file
@@ -46,10 +47,11 @@ def scan(options: ScanOptions) -> None:
     if form is Form.FOLDER:
         scan_folder(options, losses)
     else:
-        scan_file(FileOptions(
-            layer=options.layer, out=options.out, blobs=options.blobs, userxattr=options.userxattr,
-            skip_unsupported=options.skip_unsupported,
-        ), form, losses)
+        with EntryFile() as entries:
+            scan_file(FileOptions(
+                layer=options.layer, out=options.out, blobs=options.blobs, userxattr=options.userxattr,
+                skip_unsupported=options.skip_unsupported,
+            ), form, losses, entries)
     losses.report()
 
 

@@ -1,6 +1,5 @@
 """The layers of a stack, each a folder, a squashfs, an archive or a manifest, as manifests and blobs in one folder."""
 
-import itertools
 import os
 import re
 from collections.abc import Iterable, Iterator, Sequence
@@ -13,8 +12,9 @@ from ..common.progress import counted, layers_at_work
 from ..model import rules, stacks
 from ..model.blobs import blob_path, opened_blob, writers
 from ..model.entries import REDIRECT, Entry, Named, named, without_paths
+from ..model.entry_file import EntryFile
 from ..model.links import renumber, take_links, write_layer
-from ..model.merged_tree import MergedTree, write_shown_links
+from ..model.merged_tree import MergedTree, place_of, write_shown_links
 from ..model.manifests import has_attribute, read_manifest
 from ..squashfs.layer_files import FileOptions, Form, form_of, scan_file
 from .scan import ScanOptions, scan_folder
@@ -66,15 +66,17 @@ def read_stack(options: StackOptions, out: str, data_layers: int = 0) -> None:
     in the lowest layers aren't shown if they are data-only.
     """
     forms = require_forms(options)
-    losses, below, links = ScanLosses(), MergedTree(), itertools.count(1)
-    for number, form in layers_at_work(reversed(list(enumerate(forms)))):
-        entries = _without_images(options.layers[number], _read(options, number, form, out, losses, links))
-        if number < len(forms) - data_layers:
-            below.cover(entries, has_attribute(f"{out}/{stacks.layer_name(number, len(options.layers))}", [REDIRECT]))
-        else:
-            for _ in entries:
-                pass
-    write_shown_links(out, below)
+    losses, below = ScanLosses(), MergedTree()
+    with EntryFile(out) as file:
+        for number, form in layers_at_work(reversed(list(enumerate(forms)))):
+            entries = _without_images(options.layers[number], _read(options, number, form, out, losses, file))
+            if number < len(forms) - data_layers:
+                manifest = f"{out}/{stacks.layer_name(number, len(options.layers))}"
+                below.cover(entries, has_attribute(manifest, [REDIRECT]), leaf_of=place_of)
+            else:
+                for _ in entries:
+                    pass
+        write_shown_links(out, lambda: file.linked(below.nodes()))
     losses.report()
 
 
@@ -90,7 +92,7 @@ def _without_images(layer: str, entries: Iterable[Named]) -> Iterator[Named]:
 
 
 def _read(
-    options: StackOptions, number: int, form: Form, out: str, losses: ScanLosses, links: Iterator[int]
+    options: StackOptions, number: int, form: Form, out: str, losses: ScanLosses, file: EntryFile
 ) -> Iterator[Named]:
     """Writes one layer; gives its entries."""
     layer, manifest = options.layers[number], f"{out}/{stacks.layer_name(number, len(options.layers))}"
@@ -100,11 +102,11 @@ def _read(
             layer=layer, out=manifest, blobs=blobs, userxattr=options.userxattr,
             cross_file_systems=options.cross_file_systems, skip_unsupported=options.skip_unsupported,
             workers=options.workers,
-        ), losses, links))
+        ), losses, file.links))
     if form is Form.MANIFEST:
         entries = read_manifest(layer)
         take_links(layer, entries)
-        renumber(entries, links)
+        renumber(entries, file.links)
         if blobs is not None:
             _copy_contents(entries, str(options.blobs), blobs)
         write_layer(manifest, lambda: named(entries), layer, True)
@@ -113,7 +115,7 @@ def _read(
     return scan_file(FileOptions(
         layer=layer, out=manifest, blobs=blobs, userxattr=options.userxattr,
         skip_unsupported=options.skip_unsupported, hides_sockets=not is_lowest,
-    ), form, losses, links)
+    ), form, losses, file, True)
 
 
 def require_forms(options: StackOptions) -> list[Form]:

@@ -67,7 +67,7 @@ def store(options: StoreOptions) -> None:
                 skip_unsupported=options.skip_unsupported, workers=options.workers,
             ), losses, links)
             below.cover(without_paths(entries), has_attribute(manifest, [REDIRECT]))
-        write_shown_links(stage, below)
+        write_shown_links(stage, below.entries)
     for number, layer in enumerate(layers):
         note_path(layer, f"is {stacks.layer_name(number, len(layers))}")
     if os.path.ismount(os.path.join(options.folder, _MERGED)):

@@ -1,9 +1,7 @@
 """A layer's archive on its way into a tree, and the contents of its files into blobs."""
 
 import contextlib
-import copy
 import functools
-import itertools
 import hashlib
 import os
 from collections.abc import Callable, Hashable, Iterator, Mapping
@@ -24,6 +22,7 @@ from ..model.entries import (
     BLOCK, CHAR, DIRECTORY, FIFO, FILE, LINK_MODE, METACOPY, NO_ATTRIBUTES, OVERLAY, SYMLINK, WHITEOUT, Entry,
     is_whiteout,
 )
+from ..model.entry_file import EntryFile
 from ..model.layer_tree import Blocked, Gap, LayerTree, Unfit, whiteout
 from ..model.merged_tree import MergedTree
 from ..model.times import ONE_SECOND
@@ -104,7 +103,6 @@ class ReadOptions:
     kept: KeptLayers | None = None  # of an image, which may name a layer again
     is_again: bool = False  # what is lost was reported before
     attribute_sets: dict[RawAttributes, Attributes] = field(default_factory=dict)  # as records had them before
-    links: Iterator[int] = field(default_factory=lambda: itertools.count(1))  # numbers for the names of one file
 
 
 class ArchiveReader:
@@ -160,15 +158,16 @@ class ArchiveReader:
 
 
 class LayerArchive:
-    """One layer's archive."""
+    """One layer's archive, whose entries go into a file that those of the layers below are in too."""
 
-    def __init__(self, layer: Layer, options: ReadOptions) -> None:
+    def __init__(self, layer: Layer, options: ReadOptions, entries: EntryFile) -> None:
         self._layer = layer
         self._options = options
-        self._tree = LayerTree(options.budget)
+        self._entries = entries
+        self._tree = LayerTree(options.budget, entries)
         self._paths = Paths(not options.is_folder)
         self._losses = Losses()
-        self._aufs_links: dict[str, Entry] = {}
+        self._aufs_links: dict[str, int] = {}  # the places of files
         self._left_out: set[str] = set()  # paths of what can't be stated
 
     def tree(self) -> LayerTree:
@@ -222,14 +221,12 @@ class LayerArchive:
 
     def _is_left_out(self, names: list[str]) -> bool:
         """Whether an entry is below one that can't be stated; one of its very path takes its place."""
-        if not self._left_out:
-            return False
         self._left_out.discard(_path(names))
         return any(_path(names[:depth]) in self._left_out for depth in range(1, len(names)))
 
     def _take(self, header: Header, store: Store) -> None:
         names = self._paths.names(header.name)
-        if self._is_left_out(names):
+        if self._left_out and self._is_left_out(names):
             self._losses.add(Loss.BELOW, _path(names))
             return
         if may_be_special(header.name) and _is_special(names):
@@ -237,15 +234,15 @@ class LayerArchive:
                 self._take_special(header, names, store)
                 return
             self._losses.add(Loss.WHITEOUT_NAME, _path(names))
-        entry = self._entry(header, names)
+        entry, place = self._entry(header, names), None
         self._tree.folder(names[:-1])
         if header.type == HARD_LINK:
-            entry = self._linked(header, names, entry)
+            entry, place = self._linked(header, names, entry)
         elif entry.kind == FILE:
             _fill(entry, store)
         elif is_whiteout(entry) and not self._options.is_folder:
             self._losses.add(Loss.DEVICE, _path(names))
-        self._tree.put(names, entry)
+        self._tree.put(names, entry, place)
 
     def _take_special(self, header: Header, names: list[str], store: Store) -> None:
         """What is no entry of the layer: a whiteout, an opaque mark, or what aufs keeps for itself."""
@@ -255,7 +252,7 @@ class LayerArchive:
                 entry = self._entry(header, names)
                 self._options.budget.entries.take()
                 _fill(entry, store)
-                self._aufs_links[_path(names)] = entry
+                self._aufs_links[_path(names)] = self._entries.put(entry)
             return
         try:
             self._take_whiteout(header, names)
@@ -333,15 +330,16 @@ class LayerArchive:
             raise Unfit(problem)
         return Attributes(kept or NO_ATTRIBUTES, len(attributes) - len(own), tuple(problems.values()))
 
-    def _linked(self, header: Header, names: list[str], entry: Entry) -> Entry:
-        """One more name of a file of this layer, or a copy of one of the layers below."""
+    def _linked(self, header: Header, names: list[str], entry: Entry) -> tuple[Entry, int | None]:
+        """One more name of a file of this layer, with its place, or a copy of one of the layers below."""
         target, is_folder = os.fsdecode(header.target), self._options.is_folder
         linked = Paths(not is_folder).names(header.target, "the file that it links to")
         aufs = self._aufs_links.get(_path(linked))
-        here = aufs or (self._tree.file_at(linked, None, is_folder) if linked else None)
-        found = here or (self._tree.file_at(linked, self._options.below.root) if linked else None)
-        if found is None:
+        here = self._tree.file_at(linked, None, is_folder) if aufs is None and linked else aufs
+        place = self._tree.file_at(linked, self._options.below.root) if here is None and linked else here
+        if place is None:
             raise Unfit(f"it links to {target}, which is no file of this layer so far or of those below")
+        found = self._entries.entry(place)
         if METACOPY in found.attributes and not is_folder:
             raise Unfit(f"it links to {target}, a file without its contents")
         self._options.budget.attributes.take(len(found.attributes))
@@ -349,11 +347,10 @@ class LayerArchive:
             self._losses.add(Loss.LINK_HEADER, _path(names))
         if here is None:
             self._losses.add(Loss.LOWER_LINK, _path(names))
-        elif not is_whiteout(here):  # the kernel links the whiteouts of a mount to one another, which nothing shows
-            here.link = here.link or next(self._options.links)
-        own = copy.copy(found)
-        own.link = here.link if here else 0
-        return own
+        elif not is_whiteout(found):  # the kernel links the whiteouts of a mount to one another, which nothing shows
+            self._entries.add_name(here)
+            return found, here
+        return found, None
 
     def _refuse_or_note(self, header: Header, problem: str) -> None:
         name = os.fsdecode(header.name)

@@ -18,6 +18,7 @@ from ..tar.headers import Header
 Contents = tuple[str, int]  # the digest of an entry's data, and how many bytes they are
 NO_CONTENTS: Contents = ("", 0)
 _LENGTH_BYTES = 4
+_WITHOUT_REFERENCES = 2  # the version of the form, which is quicker to read
 _members = operator.attrgetter(*(member.name for member in fields(Header)))
 
 
@@ -57,7 +58,7 @@ class Keeping:
 
     def add(self, header: Header, contents: Contents) -> None:
         """The next entry, while no other archive is kept in the file."""
-        data = marshal.dumps((*_members(header), contents))
+        data = marshal.dumps((*_members(header), contents), _WITHOUT_REFERENCES)
         try:
             self._file.write(len(data).to_bytes(_LENGTH_BYTES, "little") + data)
         except OSError:

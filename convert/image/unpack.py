@@ -12,9 +12,10 @@ from ..common.progress import layers_at_work
 from ..model import rules, stacks
 from ..model.blobs import staged_writers
 from ..model.entries import REDIRECT
+from ..model.entry_file import EntryFile
 from ..model.links import LinkNames, links_path
 from ..model.manifests import has_attribute, write_manifest
-from ..model.merged_tree import MergedTree, write_shown_links
+from ..model.merged_tree import MergedTree, place_of, write_shown_links
 from .ahead import NewWriter, layers_read
 from .archives import LayerArchive, ReadOptions
 from .configuration import text_of
@@ -64,24 +65,28 @@ def unpack_opened(options: UnpackOptions, image: Image, read: KeptLayers | None 
 def _unpack_layers(
     options: UnpackOptions, layers: list[ImageLayer], stage: str, new_writer: NewWriter, read: KeptLayers | None
 ) -> None:
-    below, writer = MergedTree(), new_writer()
+    below, writer, entries = MergedTree(), new_writer(), EntryFile(stage)
     read_options = ReadOptions(
         out=options.out, skip_unsupported=options.skip_unsupported, overlay_marks=options.overlay_marks, writer=writer,
         budget=Budget(), below=below, is_again=options.is_again,
     )
     try:
         with contextlib.nullcontext(read) if read else layers_read(layers, read_options, stage, new_writer) as kept:
-            _take_layers(layers, replace(read_options, kept=kept), stage)
-        write_shown_links(stage, below)
+            _take_layers(layers, replace(read_options, kept=kept), stage, entries)
+        write_shown_links(stage, lambda: entries.linked(below.nodes()))
     finally:
+        entries.close()
         writer.close()
 
 
-def _take_layers(layers: list[ImageLayer], read_options: ReadOptions, stage: str) -> None:
-    """Writes the manifest of each layer, and its links, and puts it above those below."""
+def _take_layers(layers: list[ImageLayer], read_options: ReadOptions, stage: str, entries: EntryFile) -> None:
+    """Writes the manifest of each layer, and its links, and puts it above those below.
+
+    Over them the topmost says nothing but what is shown as one file.
+    """
     written = 0
     for number, layer in layers_at_work(zip(reversed(range(len(layers))), layers)):
-        tree = LayerArchive(layer, read_options).tree()
+        tree = LayerArchive(layer, read_options, entries).tree()
         path, names = f"{stage}/{stacks.layer_name(number, len(layers))}", LinkNames()
         write_manifest(path, names.passing(tree.entries()), layer.path)
         names.write(links_path(path), tree.entries, path)
@@ -90,4 +95,6 @@ def _take_layers(layers: list[ImageLayer], read_options: ReadOptions, stage: str
             raise cannot_read(
                 layer.path, f"the manifests of the layers have over {rules.MAX_IMAGE_MANIFESTS:,} bytes"
             )
-        read_options.below.cover(tree.entries(), has_attribute(path, [REDIRECT]))
+        if number > 0 or entries.has_links():
+            has_redirects = has_attribute(path, [REDIRECT])
+            read_options.below.cover(tree.entries(), has_redirects, leaf_of=place_of)

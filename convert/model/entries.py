@@ -43,6 +43,7 @@ class Entry:
     major: int = 0
     minor: int = 0
     link: int = field(default=0, compare=False)  # the same number: names of one file; a manifest doesn't have it
+    place: int = field(default=0, compare=False)  # in the file of entries that it comes from, if it does
 
     def names_contents(self) -> bool:
         """Whether the manifest names a blob for this entry."""

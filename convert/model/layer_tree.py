@@ -8,6 +8,7 @@ from enum import Enum, auto
 from ..common.budgets import Budget, TooMuch
 from . import rules
 from .entries import CHAR, DIRECTORY, IS_OPAQUE, NO_ATTRIBUTES, OPAQUE, OVERLAY, SYMLINK, Entry, Named, is_whiteout
+from .entry_file import EntryFile
 from .merged_tree import Directory, Node
 
 _IMPLIED_MODE = 0o755
@@ -23,14 +24,13 @@ class Blocked(Unfit):
 
 @dataclass(slots=True)
 class Folder:
-    """A directory. `is_stated` is false if the archive leaves it out and has only what is in it.
-
-    `is_anew` says that its layer had something else in its place first.
+    """A directory, and the places of what else is in it. `is_stated` is false if the archive leaves it out and has only
+    what is in it; `is_anew` says that its layer had something else in its place first.
     """
 
     entry: Entry
-    children: dict[str, "Folder | Entry"] = field(default_factory=dict)
-    whiteouts: dict[str, Entry] = field(default_factory=dict)
+    children: dict[str, "Folder | int"] = field(default_factory=dict)
+    whiteouts: dict[str, int] = field(default_factory=dict)
     is_opaque: bool = False
     is_stated: bool = True
     is_root: bool = False
@@ -67,16 +67,17 @@ class LayerTree:
     same path it says nothing more than that a directory there is opaque.
     """
 
-    def __init__(self, budget: Budget) -> None:
+    def __init__(self, budget: Budget, entries: EntryFile) -> None:
         self.root = _implied()
         self.root.is_root = True
         self._budget = budget
+        self._entries = entries
         self._count = 1
         self._way: list[str] = []
         self._last = self.root
 
-    def put(self, names: list[str], entry: Entry) -> None:
-        """Puts an entry in. A directory in place of another one keeps what is in it."""
+    def put(self, names: list[str], entry: Entry, place: int | None = None) -> None:
+        """Puts an entry in, which may have a place. A directory in place of another one keeps what is in it."""
         if not names:
             if entry.kind != DIRECTORY:
                 raise Unfit("the root is no directory")
@@ -93,8 +94,10 @@ class LayerTree:
         elif before is None and name not in folder.whiteouts:
             self._grow()
         self._weigh(name, entry)
-        is_anew = isinstance(before, Entry)
-        folder.children[name] = Folder(entry, is_anew=is_anew) if entry.kind == DIRECTORY else entry
+        if entry.kind == DIRECTORY:
+            folder.children[name] = Folder(entry, is_anew=isinstance(before, int))
+        else:
+            folder.children[name] = self._entries.put(entry) if place is None else place
 
     def drop(self, names: list[str]) -> None:
         """Takes what is at a path away, with all below it, and what hides lower layers there."""
@@ -108,7 +111,7 @@ class LayerTree:
         before = folder.children.get(name)
         if isinstance(before, Folder):
             self._drop(folder, name, before)
-        elif folder.children.pop(name, None) and name not in folder.whiteouts:
+        elif folder.children.pop(name, None) is not None and name not in folder.whiteouts:
             self._count -= 1
 
     def put_whiteout(self, names: list[str], whiteout: Entry) -> None:
@@ -118,7 +121,7 @@ class LayerTree:
         if name not in folder.children and name not in folder.whiteouts:
             self._grow()
         self._weigh(name, whiteout)
-        folder.whiteouts[name] = whiteout
+        folder.whiteouts[name] = self._entries.put(whiteout)
 
     def put_opaque(self, names: list[str]) -> None:
         """Hides all that lower layers have below a directory."""
@@ -138,26 +141,26 @@ class LayerTree:
                 self._budget.unstated.take()
                 found = folder.children[name] = _implied()
             elif not isinstance(found, Folder):
-                sort = "the symlink" if found.kind == SYMLINK else "what is no directory,"
+                sort = "the symlink" if self._entries.entry(found).kind == SYMLINK else "what is no directory,"
                 raise Blocked(f"its path leads through {sort} /{'/'.join(names[:depth])}")
             folder = found
         self._way, self._last = names, folder
         return folder
 
-    def file_at(self, names: list[str], below: Directory | None, with_whiteouts: bool = False) -> Entry | None:
-        """What isn't a directory at a path: of this layer as far as it has come, or of what is below it."""
+    def file_at(self, names: list[str], below: Directory | None, with_whiteouts: bool = False) -> int | None:
+        """The place of what isn't a directory at a path: of this layer as far as it has come, or of what is below it."""
         here: Folder | None = self.root
         for name in names[:-1]:
             under = here.lower(below, name) if here else below.children.get(name) if below else None
             inner = here.children.get(name) if here else None
-            if isinstance(inner, Entry):
+            if isinstance(inner, int):
                 return None
             here, below = inner, under if isinstance(under, Directory) else None
         name = names[-1]
         found: Folder | Node | None = here.children.get(name) if here else None
         if found is None:
             found = here.lower(below, name) if here else below.children.get(name) if below else None
-        if not isinstance(found, Entry) or (is_whiteout(found) and not with_whiteouts):
+        if not isinstance(found, int) or (not with_whiteouts and is_whiteout(self._entries.entry(found))):
             return None
         return found
 
@@ -187,7 +190,7 @@ class LayerTree:
                 self._drop(folder, name, child)
                 for hidden in [*child.whiteouts, *([""] if child.is_opaque else [])]:
                     report(Gap.WHITEOUT, f"{path}/{name}/{hidden}")
-            elif not child.is_stated and isinstance(under, Entry):
+            elif not child.is_stated and under is not None and not isinstance(under, Directory):
                 report(Gap.OVER_OTHER, f"{path}/{name}")
         if not folder.is_stated:
             if below is not None:
@@ -213,9 +216,11 @@ class LayerTree:
             if name is None:
                 levels.pop()
                 continue
-            child = folder.children.get(name) or folder.whiteouts[name]
-            if isinstance(child, Entry):
-                yield f"{path}/{name}", child
+            child = folder.children.get(name)
+            if child is None:
+                child = folder.whiteouts[name]
+            if isinstance(child, int):
+                yield f"{path}/{name}", self._entries.entry(child)
                 continue
             if child.is_opaque or name in folder.whiteouts:
                 child.entry.attributes = {**child.entry.attributes, OPAQUE: IS_OPAQUE}

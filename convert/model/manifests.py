@@ -313,13 +313,11 @@ def _entry_text(path: str, entry: Entry) -> str:
     return (
         f'{{{blob}"gid":{entry.gid},"kind":"{entry.kind}",{device}"mode":{entry.mode},'
         f'"mtime":{seconds},"mtime-nsec":{below},"path":{quoted(path)},{size}{target}'
-        f'"uid":{entry.uid},"xattrs":{_attributes_text(entry)}}}'
+        f'"uid":{entry.uid},"xattrs":{_attributes_text(entry) if entry.attributes else "{}"}}}'
     )
 
 
 def _attributes_text(entry: Entry) -> str:
-    if not entry.attributes:
-        return "{}"
     parts = (
         f'{quoted(name)}:"{entry.attributes[name].hex()}"'
         for name in sorted(entry.attributes)

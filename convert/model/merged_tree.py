@@ -67,13 +67,18 @@ class LayerFile:
         return self.data if self.is_metacopy else self
 
 
-Node = Directory | LayerFile | Entry
+Node = Directory | LayerFile | Entry | int  # the place of an entry in its file
 # What the tree has for an entry that is no directory, and is put over what the layers below show there.
-LeafOf = Callable[[Entry, Node | None], LayerFile | Entry]
+LeafOf = Callable[[Entry, Node | None], LayerFile | Entry | int]
 
 
 def _entry_itself(entry: Entry, _: Node | None) -> Entry:
     return entry
+
+
+def place_of(entry: Entry, _: Node | None) -> Entry | int:
+    """The place of an entry in its file, if it has one, in place of the entry."""
+    return entry.place or entry
 
 
 class MergedTree:
@@ -106,32 +111,28 @@ class MergedTree:
         if self.root is None:
             return
         yield "/", self.root
-        levels = [("", _sorted_children(self.root))]
+        levels = [("", self.root, iter(sorted(self.root.children)))]
         while levels:
-            path, children = levels[-1]
-            found = next(children, None)
-            if found is None:
+            path, folder, names = levels[-1]
+            name = next(names, None)
+            if name is None:
                 levels.pop()
                 continue
-            inner, node = f"{path}/{found[0]}", found[1]
+            inner, node = f"{path}/{name}", folder.children[name]
             yield inner, node
             if isinstance(node, Directory):
-                levels.append((inner, _sorted_children(node)))
+                levels.append((inner, node, iter(sorted(node.children))))
 
     def entries(self) -> Iterator[Named]:
         """The entries in it."""
         for path, node in self.nodes():
-            if not isinstance(node, LayerFile):
+            if isinstance(node, (Directory, Entry)):
                 yield path, node.entry if isinstance(node, Directory) else node
 
 
-def write_shown_links(folder: str, tree: MergedTree) -> None:
-    """Writes the names that all layers of a stack show together as one file."""
-    count_links(tree.entries()).write(f"{folder}/{stacks.SHOWN_LINKS}", tree.entries)
-
-
-def _sorted_children(folder: Directory) -> Iterator[tuple[str, Node]]:
-    return iter(sorted(folder.children.items(), key=lambda item: item[0]))
+def write_shown_links(folder: str, entries: Callable[[], Iterable[Named]]) -> None:
+    """Writes the names that all layers of a stack show together as one file; other entries may be left out."""
+    count_links(entries()).write(f"{folder}/{stacks.SHOWN_LINKS}", entries)
 
 
 @dataclass(slots=True)
@@ -238,7 +239,7 @@ class _Covering:
         todo = [node]
         while todo:
             node = todo.pop()
-            if isinstance(node, Entry):
+            if not isinstance(node, (Directory, LayerFile)):
                 continue
             node.uses -= 1
             if node.uses > 0:
@@ -252,7 +253,7 @@ class _Covering:
 
 
 def _use(node: Node) -> None:
-    if not isinstance(node, Entry):
+    if isinstance(node, (Directory, LayerFile)):
         node.uses += 1
 
 

@@ -18,8 +18,9 @@ from ..common.streams import Slice, Source, Watched, is_packed, unpacked
 from ..image.archives import LayerArchive, ReadOptions
 from ..model.blobs import Digester, writers
 from ..model.entries import Named
+from ..model.entry_file import EntryFile
 from ..model.layer_tree import LayerTree, whiteout
-from ..model.links import renumber, write_layer
+from ..model.links import write_layer
 from ..model.merged_tree import MergedTree
 from ..tar.headers import BLOCK_BYTES, parse_header
 from . import programs as squashfs
@@ -134,37 +135,33 @@ def opened_layer(path: str, form: Form, reported_path: str | None = None) -> Ite
 
 
 def scan_file(
-    options: FileOptions, form: Form, losses: ScanLosses, links: Iterator[int] | None = None
+    options: FileOptions, form: Form, losses: ScanLosses, entries: EntryFile, is_of_stack: bool = False
 ) -> Iterator[Named]:
-    """Writes the manifest of a squashfs or an archive, and the contents of its files; gives its entries.
-
-    With numbers for files of several names it is of a stack; see `write_layer`.
-    """
+    """Writes the manifest of a squashfs or an archive, and the contents of its files; gives its entries, which a file
+    has. See `write_layer`."""
     with opened_layer(options.layer, form) as layer:
-        tree = _read(layer, options)
+        tree = _read(layer, options, entries)
     left_out = Losses()
     for path in layer.sockets:
         left_out.add(Loss.SOCKET, path)
         if options.hides_sockets:
             tree.put(path[1:].split("/"), whiteout())
     left_out.report(layer.name)
-    if links is not None:
-        renumber((entry for _, entry in tree.entries()), links)
-    losses.hard_links += write_layer(options.out, tree.entries, options.layer, links is not None)
+    losses.hard_links += write_layer(options.out, tree.entries, options.layer, is_of_stack)
     return tree.entries()
 
 
-def tree_of_file(path: str, form: Form, reported_path: str, userxattr: bool) -> LayerTree:
-    """The entries of a layer's file that was written here, with the digests of its files."""
+def tree_of_file(path: str, form: Form, reported_path: str, userxattr: bool, entries: EntryFile) -> LayerTree:
+    """The entries of a layer's file that was written here, with the digests of its files, in a file of entries."""
     with opened_layer(path, form, reported_path) as layer:
         read_options = ReadOptions(
             out=reported_path, overlay_marks=True, writer=Digester(), budget=Budget(), below=MergedTree(),
             is_folder=True, userxattr=userxattr,
         )
-        return LayerArchive(layer, read_options).tree()
+        return LayerArchive(layer, read_options, entries).tree()
 
 
-def _read(layer: _FileLayer, options: FileOptions) -> LayerTree:
+def _read(layer: _FileLayer, options: FileOptions, entries: EntryFile) -> LayerTree:
     most = max(_MOST_CONTENTS, _MOST_RATIO * layer.size())
     with writers(options.blobs) as new_writer:
         writer = new_writer()
@@ -173,6 +170,6 @@ def _read(layer: _FileLayer, options: FileOptions) -> LayerTree:
                 out=options.blobs or options.out, skip_unsupported=options.skip_unsupported, overlay_marks=True,
                 writer=writer, budget=Budget(), below=MergedTree(), is_folder=True, userxattr=options.userxattr,
                 most_contents=most,
-            )).tree()
+            ), entries).tree()
         finally:
             writer.close()

@@ -12,13 +12,23 @@ import zlib
 from collections.abc import Iterable
 
 from images import archive, folder, member, put_index, put_manifest, write_layout
-from support import COMMAND, FolderTest
+from support import COMMAND, ROOT, FolderTest
 
 MEGABYTE = 1_000_000
 SECONDS, SECONDS_A_MEGABYTE = 2.0, 0.02  # of processor, beside what Python's start takes
 START = 1.0
 MEMORY = 300 * MEGABYTE
-_BLOCK = 512  # bytes, in which the system counts what a process writes
+_BLOCK = 512  # bytes, in which the system counts what a process writes and archives are made
+_ENTRY_MEMORY, _ENTRIES = 280, 50_000  # bytes of an entry, with what reading a long layer takes
+_WITH_PEAK = """
+import sys
+sys.path.insert(0, sys.argv[1])
+from convert.cli import main
+status = main(sys.argv[2:])
+with open("/proc/self/status", encoding="ascii") as lines:
+    print(next(line.split()[1] for line in lines if line.startswith("VmHWM:")))
+sys.exit(status)
+"""
 
 
 class Bounds(FolderTest):
@@ -85,9 +95,33 @@ class Bounds(FolderTest):
         put_index(self.path("image"), [_with_config(self.path("image"), descriptor, text.encode())])
         self.require_bounded("image", len(text) / MEGABYTE, 0, "")
 
+    def test_what_entries_take(self) -> None:
+        """In one directory, and with two layers, the lower of which is held."""
+        few, many = _contents(1), _contents(_ENTRIES)
+        least = self.peak([few, few])
+        for layers in ([many], [many, few]):
+            self.assertLess(self.peak(layers) - least, _ENTRY_MEMORY * _ENTRIES)
+
+    def peak(self, layers: list[bytes]) -> int:
+        """The most memory that a process takes which unpacks these layers."""
+        self.empty()
+        write_layout(self.path("image"), [gzip.compress(layer, 1) for layer in layers])
+        command = [sys.executable, "-B", "-c", _WITH_PEAK, str(ROOT), "unpack", self.path("image"), "--out", self.path("out")]
+        return int(subprocess.run([*command, "--digests-only"], check=True, capture_output=True).stdout) * 1024
+
     def test_many_headers_in_the_archive_of_an_image(self) -> None:
         size = self.put("image.tar.gz", [_entry("d", tarfile.DIRTYPE) * 1_000] * 400)
         self.require_bounded("image.tar.gz", size, 3, "over 100,000 files in its archive")
+
+
+def _contents(count: int) -> bytes:
+    """An archive of so many files, each of other contents and times."""
+    pieces = [folder("./")[0].tobuf()]
+    for number in range(count):
+        info, data = member(f"file-{number:06}", b"%d" % number)
+        info.mtime = 1_700_000_000 + number
+        pieces += [info.tobuf(tarfile.USTAR_FORMAT), data.ljust(_BLOCK, b"\0")]
+    return b"".join([*pieces, bytes(2 * _BLOCK)])
 
 
 def _long_name() -> bytes:
