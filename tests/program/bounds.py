@@ -53,6 +53,10 @@ def of_no_blob(count: int) -> Layer:
     return [entry("/d")] + [entry(f"/d/f{n:05d}", "file", size=1, blob=NAME) for n in range(count)]
 
 
+def escaped(count: int) -> Layer:
+    return [entry(f'/"{n:05d}', "file", size=0) for n in range(count)]
+
+
 def directories(count: int) -> Layer:
     return [entry(f"/d{n:05d}") for n in range(count)]
 
@@ -91,7 +95,8 @@ def alike(count: int, names: int) -> Layer:
 
 @dataclass(frozen=True)
 class Bound:
-    """A command on layers, the topmost first, the most millions of instructions, the contents that are there, and its status."""
+    """A command with its options on layers, the topmost first, the most millions of instructions, the contents that are there,
+    and its status."""
 
     command: str
     layers: tuple[Layer, ...]
@@ -113,6 +118,8 @@ BOUNDS = {
     "metacopy files over their contents": Bound("vacuum", copied(20, 400), 16.1, (CONTENTS,)),
     "metacopy files and their contents": Bound("merge", copied(100, 400, 0), 37.9, (CONTENTS,)),
     "many layers of other names": Bound("show", apart(128, 20), 15.1),
+    "names that are escaped": Bound("show", (escaped(2_000),), 50.7),
+    "contents that are read in parts": Bound("fsck --any-size", (of_contents(OTHERS),), 8.6, OTHERS),
     "places of many names that differ in the first": Bound("fsck", (alike(100, 1_000), []), 47.4, status=1),
 }
 
@@ -128,9 +135,10 @@ def words_of(program: str, bound: Bound, folder: str) -> list[str]:
     for contents in bound.contents:
         with open(os.path.join(blobs, hashlib.sha256(contents).hexdigest()), "wb") as out:
             out.write(contents)
-    words = [program, bound.command, "--workers", "1"]
-    words += ["--blobs", blobs] if bound.command != "show" else []
-    words += ["--out", new] if bound.command not in ("show", "fsck") else []
+    what, *more = bound.command.split()
+    words = [program, what, *more, "--workers", "1"]
+    words += ["--blobs", blobs] if what != "show" else []
+    words += ["--out", new] if what not in ("show", "fsck") else []
     return words + write(folder, bound.layers)
 
 

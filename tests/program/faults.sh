@@ -111,7 +111,7 @@ gives() {
 }
 
 # Ways to run the words: standard output is a device without room, or closed, or a pipe that nobody reads; standard error
-# is closed; `disk` is one of 4,096 bytes, or one that is only read; standard input is closed, or a folder, or gives zeros
+# is closed, or such a device; `disk` is one of 4,096 bytes, or one that is only read; standard input is closed, or a folder, or gives zeros
 # without end, or is a pipe that gives spaces and a layer.
 without_room() {
     "$@" > /dev/full
@@ -121,6 +121,9 @@ without_output() {
 }
 without_errors() {
     "$@" 2>&-
+}
+without_room_for_errors() {
+    "$@" 2> /dev/full
 }
 on_a_small_disk() {
     unshare -m sh -c 'mount -t tmpfs -o size=4096 none disk && exec "$@"' sh "$@"
@@ -191,6 +194,9 @@ python3 -B "$here/refusals.py" --library refuse.so || exit 1
 mkdir blobs wrong short hollow most eight none bad.utf8 large flood closed folder.json
 printf abc > "blobs/$abc"
 printf note > blobs/note
+# (A blob may have two names, and be only for reading.)
+ln "blobs/$abc" blobs/again
+chmod 400 "blobs/$abc"
 mkdir "blobs/${abc//b/f}"
 ln -s "$abc" "blobs/${abc//b/0}"
 printf abd > "wrong/$abc"
@@ -276,6 +282,13 @@ fifos() {
     fifos /x/ 524286
 } | layer > many_below.json
 fifos /z 1 | layer > one.json
+# A fault after 70,000 entries; and as many files whose contents are missing.
+{
+    fifos /a 70000
+    printf ',0'
+} | layer > late.json
+seq -f ',{"blob":"'$abc'","gid":0,"kind":"file","mode":420,"mtime":0,"mtime-nsec":0,"path":"/k%07.0f","size":3,"uid":0,'"$plain"'}' 70000 |
+    tr -d '\n' | layer > lost.blobs.json
 # A redirect of 100,000 names; and a chain of as many directories as a path may have names, the last of which goes on at the
 # chain of deeper.json.
 at dir /m "\"xattrs\":{\"trusted.overlay.redirect\":\"$(printf '2f61%.0s' {1..100000})\"}" | layer > far.json
@@ -315,6 +328,7 @@ refuses 3 'cannot read folder.json' show folder.json
 refuses 3 'cannot read long.json' show long.json
 refuses 3 'layer 0: not JSON' show most.json
 refuses 3 'layer 1: entry count' show root.json items.json
+refuses 3 'layer 1: entry 70001: wrong entry' show root.json late.json
 refuses 3 'cannot read missing.json' fsck --blobs missing missing.json
 refuses 3 'cannot read missing' fsck --blobs missing shape.json
 refuses 3 'cannot read missing/' fsck --blobs missing/ root.json
@@ -343,6 +357,8 @@ socket_at socket.json
 alone='dir 0755 0 0 0 - - /\nentries 1\n'
 prints 0 "$alone" show chained.json
 prints 0 "$alone" show ././//link.json
+cp pipes.json ./-
+closes 'entries 101\n' show -
 printf -v long_name '%0256d' 0
 for path in dangling.json round.json socket.json linked root.json/ root.json/x . '' "$long_name" "$(printf './%.0s' {1..2048})" /dev/zero; do
     refuses 3 "cannot read $path" show root.json "$path"
@@ -497,7 +513,7 @@ done
 mkdir restless new && printf abcd > "restless/$abc"
 (while :; do
     for length in 5000000 70000 1 4; do truncate -s "$length" "restless/$abc"; done
-done) &
+done) 2> changes &
 changes=$!
 for workers in 1 2 3 4 5 6 7 8; do
     prints 1 "$unlike" "${parts[@]}" restless --workers "$workers" k.json
@@ -533,13 +549,26 @@ for ((i = 0; i < 129; i++)); do
     layers+=(root.json)
 done
 refuses 3 'layers must be 1 to 128' show "${layers[@]}"
+refuses 3 'layer 127: wrong shape' show "${layers[@]:2}" shape.json
 prints 0 'dir 0755 0 0 0 - - /\nentries 1\n' show "${layers[@]:1}"
 prints 0 "$clean" fsck --blobs none "${layers[@]:1}"
 prints 0 "$clean" "${parts[@]}" none "${layers[@]:1}"
+prints 0 "$clean" "${parts[@]}" none --data-layers 127 "${layers[@]:1}"
 mkdir most.layers
 prints 0 'removed 0 kept 1\n' vacuum --blobs none --out most.layers "${layers[@]:1}"
-for what in deref merge; do
-    prints 0 'entries 1\n' "$what" --blobs none --out most.layers "${layers[@]:1}"
+for what in deref merge 'merge --down-to 1'; do
+    # shellcheck disable=SC2086
+    prints 0 'entries 1\n' $what --blobs none --out most.layers "${layers[@]:1}"
+done
+# (Each layer is where its word is.)
+layers=() found=
+for ((i = 0; i < 128; i++)); do
+    sed "s/k\"/k$i\"/" k.json > "most.layers/$i.json"
+    layers+=("most.layers/$i.json")
+    found+="fault blob-missing $i /k$i\n"
+done
+for workers in 1 4; do
+    prints 1 "${found}faults 128 notes 0\n" fsck --workers "$workers" --blobs none "${layers[@]}"
 done
 rm -r most.layers
 refuses 3 'data layers must leave a layer' show --data-layers 1 root.json
@@ -576,6 +605,7 @@ explains "$wanted<LAYER>..." 'show <LAYER>...' show
 explains "$wanted--blobs <DIR>" 'fsck --blobs <DIR> <LAYER>...' fsck root.json
 explains "$wanted--out <DIR>" 'vacuum --blobs <DIR> --out <DIR> <LAYER>...' vacuum --blobs none root.json
 explains "unrecognized subcommand 'mount'" '<COMMAND>' mount root.json
+explains "unrecognized subcommand '$far_folder'" '<COMMAND>' "$far_folder"
 for what in vacuum deref merge flatten; do
     explains "a value is required for '--out <DIR>' but none was supplied" '' "$what" --blobs blobs --out '' meta.json k.json
     explains "a value is required for '--out <DIR>' but none was supplied" '' "$what" --blobs blobs --out= meta.json k.json
@@ -613,7 +643,13 @@ for what in vacuum deref flatten; do
         rm -f new/layer-0.json
     done
 done
-cp k.json new/layer-0.json
+# (A new file has the usual rights. From then on it has a second name.)
+umask 027
+prints 0 'removed 0 kept 2\n' vacuum --blobs blobs --out new k.json root.json
+stat -c %a new/layer-0.json > rights
+says rights $'640\n' vacuum --out new
+umask 022
+ln new/layer-0.json new/again
 prints 0 'removed /k\nremoved 1 kept 1\n' vacuum --blobs blobs --out new k.json k.json
 gives new root.json
 for length in 65537 1048577 2147483649 17179869185; do
@@ -667,6 +703,11 @@ refuses 5 'result over the limits' flatten "${rewritten[@]}" moved.json deeper.j
 refuses 5 'result over the limits' flatten "${rewritten[@]}" long_named.json long.over.json
 gives new
 
+# (All that is at fault is reported by each of them.)
+ends 1 told fsck --blobs none lost.blobs.json root.json && found=$(sha256sum < printed)
+for what in vacuum deref merge flatten; do
+    ends 1 told "$what" "${rewritten[@]}" lost.blobs.json root.json && sha256sum < printed > digest && says digest "$found"$'\n' "$what"
+done
 prints 1 'fault redirect-lost 0 /m\nfault redirect-open 0 /m\nfaults 2 notes 0\n' fsck --blobs none far.json root.json
 prints 0 'faults 0 notes 0\n' fsck --blobs none moved_deeper.json deeper.json
 if ends 0 told show moved_deeper.json deeper.json; then
@@ -805,9 +846,14 @@ gives new k.json
 
 # The output, and what is reported.
 for way in without_output without_room into_a_broken_pipe; do
-    over=$way refuses 4 'cannot write standard output' show root.json
+    for words in 'show root.json' --help --version 'merge --help'; do
+        # shellcheck disable=SC2086
+        over=$way refuses 4 'cannot write standard output' $words
+    done
 done
-over=without_errors ends 3 told show missing.json && same=$((same + 1))
+for way in without_errors without_room_for_errors; do
+    over=$way ends 3 told show missing.json && same=$((same + 1))
+done
 
 # Help and the version go to standard output.
 for words in --help -h --version 'show --help' 'fsck --help' 'vacuum --help' 'deref --help' 'merge --help' 'flatten --help'; do

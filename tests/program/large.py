@@ -88,7 +88,8 @@ def data_through_layers() -> Sources:
 
 
 def redirected_through_layers() -> Sources:
-    upper = [entry("/f", "file", {METACOPY: "", REDIRECT: "/g"}, size=10), whiteout("/g")]
+    attributes = {METACOPY: "", REDIRECT: "/g"} | {f"user.{n:07d}": "v" for n in range(5_000)}
+    upper = [entry("/f", "file", attributes, size=10), whiteout("/g")]
     return [upper, *[[file(f"/h{n}")] for n in range(126)], [full_file("/g", contents_of(0))]]
 
 
@@ -151,6 +152,10 @@ def side_by_side(kind: Callable[[str], Entry], count: int, layers: str) -> Sourc
     return [many(kind(f"/d/{letter}%07d"), count, [entry("/d")]) for letter in layers]
 
 
+def same_twice(count: int) -> Sources:
+    return [many(file("/f%07d"), count)] * 2
+
+
 def unlike_written() -> Sources:
     long = [entry(("/" + "n" * 199) * n) for n in range(1, 21)]
     attributes = {f"user.{n:02d}": "v" for n in range(40)}
@@ -171,6 +176,7 @@ def large() -> Iterator[Large]:
     yield Large("3,000,000 paths", functools.partial(side_by_side, file, 1_000_000, "fgh"), ())
     yield Large("1,048,575 findings", many_findings, ())
     yield Large("65,537 blobs", functools.partial(many_blobs, 65_537), (), [contents_of(n) for n in range(65_537)])
+    yield Large("70,000 names that change nothing", functools.partial(same_twice, 70_000), ("vacuum",))
     yield Large("70,000 moved directories", functools.partial(many_moved, 70_000))
     yield Large("20 MB that aren't in written form", unlike_written, (), unsorted=True)
     yield Large("attributes of 300,000 bytes, and 5,000 of them", many_attributes)
