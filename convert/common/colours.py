@@ -19,6 +19,8 @@ class Colour(Enum):
     RED = 31
     GREEN = 32
     YELLOW = 33
+    BLUE = 34
+    MAGENTA = 35
     CYAN = 36
 
 
@@ -31,9 +33,9 @@ def choose_colours(when: When) -> None:
     _when = when
 
 
-def painted(text: str, colour: Colour) -> str:
-    """A text for standard output in a colour, if there are any."""
-    return f"\x1b[{colour.value}m{text}\x1b[0m" if _has_colours() else text
+def painted(text: str, colour: Colour | None) -> str:
+    """A text for standard output in a colour, if there are any and it has one."""
+    return f"\x1b[{colour.value}m{text}\x1b[0m" if colour is not None and _has_colours() else text
 
 
 def _has_colours() -> bool:

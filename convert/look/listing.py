@@ -12,7 +12,9 @@ from ..common.colours import Colour, painted
 from ..common.escaping import printable
 from ..common.faults import ReadFault, UsageFault, reading, writing
 from ..common.outputs import passing_folder
-from ..model.entries import BLOCK, CHAR, DIRECTORY, FILE, METACOPY, REDIRECT, SYMLINK, Entry, is_opaque, is_whiteout
+from ..model.entries import (
+    BLOCK, CHAR, DIRECTORY, FIFO, FILE, METACOPY, REDIRECT, SOCKET, SYMLINK, Entry, is_opaque, is_whiteout,
+)
 from ..model.manifests import entries_of
 from ..model.show_report import NONE, ShowLine, escaped_path
 from ..sizes.history import short_command, steps_of
@@ -27,6 +29,11 @@ _MODES = {
     "dir": stat.S_IFDIR, "file": stat.S_IFREG, "symlink": stat.S_IFLNK, "char": stat.S_IFCHR, "block": stat.S_IFBLK,
     "fifo": stat.S_IFIFO, "socket": stat.S_IFSOCK,
 }
+_COLOURS = {
+    DIRECTORY: Colour.BLUE, SYMLINK: Colour.CYAN, CHAR: Colour.YELLOW, BLOCK: Colour.YELLOW, FIFO: Colour.YELLOW,
+    SOCKET: Colour.MAGENTA,
+}
+_EXECUTABLE = 0o111
 _OWNER_WIDTH, _SIZE_WIDTH, _EXACT_WIDTH, _MOST_OF_MAKING = 5, 5, 12, 40
 _CUT = ".."
 
@@ -146,7 +153,7 @@ class _Lister:
         fields = [
             stat.filemode(_MODES[line.kind] | int(line.mode, 8)), line.uid.rjust(_OWNER_WIDTH), line.gid.rjust(_OWNER_WIDTH),
             self._size(line).rjust(_EXACT_WIDTH if options.exact else _SIZE_WIDTH), time_text(line.mtime, options.full_time),
-            self._layer(row.place), name_text(line.path),
+            self._layer(row.place), painted(name_text(line.path), _colour_of(line)),
         ]
         target = f" -> {name_text(line.what)}" if line.kind == SYMLINK else ""
         return f"{' '.join(fields)}{target}{row.marks}{self._hider(row.place)}\n"
@@ -156,7 +163,8 @@ class _Lister:
         if place.hidden_by is None:
             return ""
         making = f" {self._making_texts[place.hidden_by].rstrip()}" if self._options.with_making else ""
-        return f" ({'replaced' if place.is_replaced else 'removed'} by {place.hidden_by}{making})"
+        done = painted("replaced", Colour.YELLOW) if place.is_replaced else painted("removed", Colour.RED)
+        return f" ({done} by {place.hidden_by}{making})"
 
     def _size(self, line: ShowLine) -> str:
         """What `ls` has in the place of the size."""
@@ -197,6 +205,12 @@ def _making(source: Source, shown: Shown) -> list[str | None]:
         return list(source.stack.layers)
     steps = steps_of(shown.configuration or {}, count)[::-1]
     return [step.made_by if step else None for step in steps]
+
+
+def _colour_of(line: ShowLine) -> Colour | None:
+    """The colour of a name, by what it names, as `ls` has them."""
+    is_executable = line.kind == FILE and int(line.mode, 8) & _EXECUTABLE
+    return Colour.GREEN if is_executable else _COLOURS.get(line.kind)
 
 
 def _marks_of(entry: Entry) -> str:

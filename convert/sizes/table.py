@@ -1,5 +1,6 @@
 """The table of `sizes`, as wide as the terminal: layers, then the largest wastes, advice, and the verdict last."""
 
+import itertools
 import os
 import re
 import sys
@@ -8,6 +9,7 @@ from collections.abc import Iterable, Iterator, Sequence
 from dataclasses import dataclass
 
 from ..common.amounts import amount_text, per_cent, size_text
+from ..common.colours import Colour, painted
 from .advice import Advice, worth_listing
 from .layer_sizes import LayerSizes, Sizes
 from .texts import NONE, Origin, cause_text, command_text, layer_text, packed_sum
@@ -28,11 +30,12 @@ _MORE = (("SHOWN", "DELETED", "DUPLICATE"), ("FILES", "ENTRIES"), ("WHITEOUTS", 
 
 @dataclass(frozen=True)
 class _Column:
-    """A head and a field for each row."""
+    """A head and a field for each row, some of which are marked by a colour."""
 
     head: str
     fields: Sequence[str]
     is_text: bool = False
+    marked: Sequence[bool] = ()
 
     def width(self) -> int:
         """The columns that it takes of a line."""
@@ -41,7 +44,9 @@ class _Column:
     def lines(self) -> list[str]:
         """Its lines, numbers to the right."""
         align = str.ljust if self.is_text else str.rjust
-        return [align(text, self.width()) for text in [self.head, *self.fields]]
+        colours = [None, *(Colour.YELLOW if is_marked else None for is_marked in self.marked)]
+        texts = (align(text, self.width()) for text in [self.head, *self.fields])
+        return [painted(text, colour) for text, colour in itertools.zip_longest(texts, colours)]
 
 
 def screen_width() -> int:
@@ -106,13 +111,15 @@ class _Table:
     def _columns(self, rows: Sequence[LayerSizes]) -> list[_Column]:
         """Those of any width; of steps and packed sizes if there are any."""
         packed = [*(origin.packed for origin in self._origins), packed_sum(self._origins)]
+        wasted = self._wasted(rows)
+        is_wasted = list(map(bool, wasted))
         columns = [
             _Column("LAYER", [*map(str, range(len(self._origins))), "sum"]),
             _Column("STEP", [*(str(origin.step) for origin in self._origins), ""]),
             _Column("BYTES", [self._size(own.bytes) for own in rows]),
             _Column("PACKED", list(map(self._size, packed))),
-            _Column("WASTED", [self._size(size) for size in self._wasted(rows)]),
-            _Column("SHARE", [self._share(size, own) for size, own in zip(self._wasted(rows), rows)]),
+            _Column("WASTED", list(map(self._size, wasted)), marked=is_wasted),
+            _Column("SHARE", [self._share(size, own) for size, own in zip(wasted, rows)], marked=is_wasted),
         ]
         left_out = {"STEP": not all(origin.step for origin in self._origins), "PACKED": packed[-1] is None}
         return [column for column in columns if not left_out.get(column.head)]
@@ -196,7 +203,8 @@ class _Table:
         shown = waste.total - waste.bytes
         yield f"\n{self._size(shown)} shown, {self._size(waste.deleted)} deleted but shipped, "
         yield f"{self._size(waste.duplicate)} duplicate; one layer would take {self._size(self._sizes.merged.bytes)}\n"
-        yield f"{verdict(waste, self._origins, self._exact, _VERDICT_LINES * self._width)}\n"
+        text = verdict(waste, self._origins, self._exact, _VERDICT_LINES * self._width)
+        yield f"{painted(text, Colour.YELLOW if waste.bytes else Colour.GREEN)}\n"
 
 
 def _advice_text(advice: Advice, room: int) -> str:

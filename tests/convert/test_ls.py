@@ -222,7 +222,6 @@ class Listed(ImageTest):
         self.assertEqual(self.ls("-R"), _LISTED)
         self.assertEqual(self.ls("--removed"), _REMOVED)
         self.assertEqual(self.ls("--layer", 1), _OF_A_LAYER)
-        self.assertEqual(self.ls("--layer", 1, "--color", "always"), _OF_A_LAYER.replace("- /", "\x1b[31m-\x1b[0m /"))
         for words, lines in (
             (["/etc"], _LISTED.splitlines()[3:7]), (["etc/d/"], _LISTED.splitlines()[5:7]), (["/bin/app"], _LISTED.splitlines()[4:5]),
             (["/bin"], _LISTED.splitlines()[2:3]), (["/bin/"], _LISTED.splitlines()[3:7]), (["--bytes", "--", "/bin"], _BIN), (["/etc", "--no-recursive"], _LISTED.splitlines()[3:6]),

@@ -21,6 +21,7 @@ from convert.sizes.limits import limit_of
 from convert.sizes.waste import waste_of
 
 _ROWS, _COLUMNS = 24, 80
+_COLOUR = re.compile(r"\x1b\[\d+m")
 _STACKS = 60
 _COMMANDS = (
     ("/bin/sh -c #(nop) COPY file:92510215e4 in /opt/data.bin ", "COPY /opt/data.bin"),
@@ -156,7 +157,10 @@ class OfImages(SizesTest):
             layers.append(archive([folder("srv"), member(f"srv/{name}", bytes([step]) * (9_000 + 9 * step))]))
             layers.append(archive([folder("srv"), member(f"srv/.wh.{name}")]))
             commands += [f"/bin/sh -c touch {name}", f"/bin/sh -c rm -rf /srv/{step}"]
-        lines = self.on_terminal("sizes", self.put("image", layers, commands))
+        image = self.put("image", layers, commands)
+        coloured, lines = self.on_terminal("xterm", "sizes", image), self.on_terminal("dumb", "sizes", image)
+        self.assertNotEqual(coloured, lines)
+        self.assertEqual([_COLOUR.sub("", line) for line in coloured], lines)
         self.assertEqual([line for line in lines[:-1] if len(line) > _COLUMNS], [])
         rows = [row for line in lines for row in re.findall(f".{{1,{_COLUMNS}}}", line) or [""]]
         screen = rows[1 - _ROWS:]
@@ -165,14 +169,16 @@ class OfImages(SizesTest):
             self.assertTrue(any(re.fullmatch(line, it) for it in screen[:-1]), (line, screen))
         self.assertRegex("".join(screen[-2:]), r"366 KiB \(100.0 %\) are wasted; 366 KiB by /srv/, by several commands$")
 
-    def on_terminal(self, *words: str) -> list[str]:
-        """The lines that a command leaves on a terminal."""
+    def on_terminal(self, sort: str, *words: str) -> list[str]:
+        """The lines that a command leaves on a terminal of some sort."""
         child, terminal = pty.fork()
         if child == 0:
             status = 70
             try:
                 fcntl.ioctl(1, termios.TIOCSWINSZ, struct.pack("HHHH", _ROWS, _COLUMNS, 0, 0))
-                os.environ.pop("COLUMNS", None)
+                for name in ("COLUMNS", "NO_COLOR"):
+                    os.environ.pop(name, None)
+                os.environ["TERM"] = sort
                 status = command.main(list(words))
             finally:
                 os._exit(status)
