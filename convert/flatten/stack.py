@@ -19,6 +19,7 @@ from ..common.progress import counted, layers_at_work, note_path
 from ..common.stages import Stage
 from ..folder.build import BuildOptions, build
 from ..folder.build_file import SUFFIXES, build_file
+from ..folder.outside import require_outside
 from ..folder.stack_layers import StackOptions, read_stack, require_forms, require_ordinary
 from ..image.compression import Compression
 from ..model import stacks
@@ -133,7 +134,7 @@ def require_place(options: NewLayersOptions) -> None:
         raise UsageFault("--out - takes one file: an archive, or with --form squashfs a squashfs")
     if options.layers > 1 and options.out.endswith(tuple(SUFFIXES)):
         raise UsageFault("with --layers over 1 --out is a folder of layers; --form squashfs makes them squashfs files")
-    _require_outside(options)
+    require_outside({"--out": options.out, "--keep": options.keep}, options.stack.layers)
     if options.form is None and options.out.endswith(_OF_OTHERS):
         raise UsageFault(
             f"--out {options.out}: layers are written as folders, or as a file whose name ends in {' or '.join(SUFFIXES)}; "
@@ -165,28 +166,6 @@ def _bytes_of(layers: Sequence[str], forms: Sequence[Form]) -> int | None:
     if not set(forms) <= {Form.SQUASHFS, Form.ARCHIVE}:
         return None
     return sum(map(os.path.getsize, layers))
-
-
-def _require_outside(options: NewLayersOptions) -> None:
-    """Refuses a place for what is made that is read, or in a folder that is read."""
-    places = {"--out": None if options.is_standard_output() else options.out, "--keep": options.keep}
-    for word, place in places.items():
-        if place is None:
-            continue
-        for layer in options.stack.layers:
-            if os.path.exists(place) and os.path.samefile(place, layer):
-                raise UsageFault(f"{word} {place} is a layer that is read: name another place")
-            if any(os.path.samefile(folder, layer) for folder in _folders_above(place)):
-                raise UsageFault(f"{word} {place} is in the layer {layer}, which is read: name another place")
-
-
-def _folders_above(path: str) -> Iterator[str]:
-    """The folders that a path is in, as far as they are there."""
-    place = os.path.realpath(path)
-    while place != os.path.dirname(place):
-        place = os.path.dirname(place)
-        if os.path.exists(place):
-            yield place
 
 
 class StackRunner(Runner):

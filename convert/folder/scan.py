@@ -20,6 +20,7 @@ from ..model.links import write_layer
 from ..model.workers import give_blobs
 from ..squashfs.layer_files import FileOptions, Form, form_of, scan_file
 from .mounts import note_mounted
+from .outside import require_outside
 from .walks import Found, found_at, state_of, walk
 
 _TRIES = 2  # to look at what changes meanwhile
@@ -44,6 +45,7 @@ def scan(options: ScanOptions) -> None:
     form, losses = form_of(options.layer), ScanLosses()
     if form is Form.MANIFEST:
         raise cannot_read(options.layer, "it is no layer, but perhaps the manifest of one")
+    require_outside({"--out": options.out, "--blobs": options.blobs}, [options.layer])
     if form is Form.FOLDER:
         scan_folder(options, losses)
     else:

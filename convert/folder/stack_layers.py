@@ -17,6 +17,7 @@ from ..model.links import renumber, take_links, write_layer
 from ..model.merged_tree import MergedTree, place_of, write_shown_links
 from ..model.manifests import has_attribute, read_manifest
 from ..squashfs.layer_files import FileOptions, Form, form_of, scan_file
+from .outside import require_outside
 from .scan import ScanOptions, scan_folder
 
 
@@ -55,6 +56,7 @@ def layers_of_mount(word: str) -> tuple[list[str], int] | None:
 def write_stack(options: StackOptions, out: str) -> None:
     """The same into a new folder."""
     require_forms(options)
+    require_outside({"--out": out}, options.layers)
     with new_folder(out) as stage:
         read_stack(options, stage)
 

@@ -20,6 +20,7 @@ from ..model.attributes import require_trusted
 from ..model.entries import REDIRECT, without_paths
 from ..model.manifests import has_attribute
 from ..model.merged_tree import MergedTree, write_shown_links
+from .outside import require_outside
 from .scan import ScanOptions, scan_folder
 
 _DIFF = "diff"
@@ -56,6 +57,7 @@ def store(options: StoreOptions) -> None:
     layers = chain(options.folder)
     if len(layers) > rules.MAX_LAYERS:
         raise cannot_read(options.folder, f"it has {len(layers)} layers, over {rules.MAX_LAYERS}")
+    require_outside({"--out": options.out}, layers)
     losses, below, links = ScanLosses(), MergedTree(), itertools.count(1)
     with new_folder(options.out) as stage:
         for number, layer in reversed(list(enumerate(layers))):

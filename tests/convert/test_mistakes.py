@@ -168,6 +168,20 @@ class Places(FolderTest):
             result = call("flatten", "--stack", self.path("upper"), "--userxattr", "--out", self.path(out))
             self.require_fault(result, 2, "is a layer that is read")
 
+    def test_in_what_is_read(self) -> None:
+        os.makedirs(self.path("upper", "d"))
+        os.symlink("upper/d", self.path("link"))
+        digests, upper = ("--digests-only", "--userxattr"), self.path("upper")
+        for words in (
+            ("scan", upper, "--out", f"{upper}/x.json", *digests), ("scan", upper, "--out", self.path("link", "x.json"), *digests),
+            ("scan", upper, "--out", self.path("x.json"), "--userxattr", "--blobs", f"{upper}/d/new/blobs"),
+            ("unpack", "--stack", upper, "--out", f"{upper}/new", *digests),
+        ):
+            with self.subTest(words):
+                self.require_fault(call(*words), 2, f"is in the layer {upper}, which is read: name another place")
+        self.assertEqual([names for _, *names in os.walk(upper)], [[["d"], []], [[], []]])
+        self.require_done(call("scan", upper, "--out", self.path("upper.json"), *digests))
+
 
 class Mounted(FolderTest):
     """An upper directory that is in use."""

@@ -88,6 +88,12 @@ class Chains(FolderTest):
         self.require_done(self.store())
         self.assertEqual(self.stored(), [["/f2"], ["/part1"], ["/part2"], ["/f1"], ["/f0"], ["/part1"]])
 
+    def test_into_a_layer(self) -> None:
+        for layer in self.layers:
+            out = f"{layer}/diff/new"
+            result = call("store", self.layers[2], "--out", out, "--userxattr", "--digests-only")
+            self.require_fault(result, 2, f"--out {out} is in the layer ")
+
     def test_chains_that_are_not_read(self) -> None:
         layer, lower = self.layers[2], f"{self.layers[2]}/lower"
         os.mkdir(self.path("secret"))
