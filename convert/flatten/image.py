@@ -167,8 +167,8 @@ class ImageRunner(Runner):
 
     def __init__(self, options: FlattenOptions, folder: str, image: str, opened: contextlib.ExitStack) -> None:
         super().__init__(
-            folder, options.keep is not None, sys.stderr if options.out.is_standard_output else sys.stdout,
-            paths_of_image(options.image),
+            folder, options.out.label, options.keep is not None,
+            sys.stderr if options.out.is_standard_output else sys.stdout, paths_of_image(options.image),
         )
         self._options = options
         self.image = image
@@ -331,6 +331,9 @@ class _DryRun:
     def without_excluded(self, layers: Sequence[str]) -> list[str]:
         """See `Plan`: none are."""
         return list(layers)
+
+    def report_links(self, new: Sequence[str]) -> None:
+        """See `Plan`: nobody knows before it is unpacked."""
 
     def compare(self, report: str) -> None:
         """See `Plan`."""

@@ -7,10 +7,10 @@ from collections.abc import Callable, Iterable, Sequence
 from dataclasses import dataclass
 from enum import Enum
 
-from ..common.faults import Fault, UsageFault, reading
+from ..common.faults import UsageFault, reading
 from ..common.open_dirs import place_of
 from ..common.outputs import NEW
-from ..common.progress import counted, note_path
+from ..common.progress import note_path
 from ..model import stacks
 from ..model.links import FirstNames, take_links
 from ..model.manifests import read_manifest
@@ -90,7 +90,7 @@ class _Rewriter(StackRunner):
         new, below = self._rewritten(given), given[self._rewriting.taken():]
         require_same(self, given, [new, *below])
         if self._rewriting.rewriting is not Rewriting.VACUUM:  # which has seen to them
-            self._report_links([new, *below])
+            self.report_links([new, *below])
         self.pack([new], below)
         return new
 
@@ -118,17 +118,3 @@ class _Rewriter(StackRunner):
         self.run(what, what, given, what, () if down_to is None else ("--down-to", str(down_to)))
         # A merge writes a topmost layer with only a root too, which says nothing that the other doesn't.
         return new_layer(what, 1 if self._rewriting.rewriting is Rewriting.MERGE else 0)
-
-    def _report_links(self, new: Sequence[str]) -> None:
-        """Says how many names aren't one file with others any more: they are in the new layer, and the others below."""
-        if not self.has_links():
-            return
-        before, after = self.files_before(), self.files_of(new)
-        if any(not set(file) <= set(before.get(name, ())) for name, file in after.items()):
-            raise Fault("the new layers have names as one file that were several, so nothing is written; please report it")
-        parted = sum(len({after.get(name, (name,)) for name in file}) - 1 for file in set(before.values()))
-        if parted:
-            note_path(self._rewriting.new.out, counted(
-                parted, "hard link between the new layer and those below is a copy now",
-                "hard links between the new layer and those below are copies now",
-            ))

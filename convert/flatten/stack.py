@@ -173,7 +173,7 @@ class StackRunner(Runner):
 
     def __init__(self, options: NewLayersOptions, folder: str, made: str, forms: Sequence[Form]) -> None:
         faults = sys.stderr if options.is_standard_output() else sys.stdout
-        super().__init__(folder, options.keep is not None, faults, options.stack.layers)
+        super().__init__(folder, options.label, options.keep is not None, faults, options.stack.layers)
         self._options = options
         self._made = made
         self.excluded = options.excluded

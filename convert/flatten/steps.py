@@ -58,6 +58,9 @@ class Plan(Protocol):
     def compare(self, report: str) -> None:
         """Goes on only if a report is that of the given image, without the paths that are excluded."""
 
+    def report_links(self, new: Sequence[str]) -> None:
+        """Says how many names aren't one file with others any more: they are in the new layer, and the others below."""
+
     def pack(self, layers: Sequence[str]) -> None:
         """Writes the image, if it shows the same when it is read again."""
 
@@ -75,6 +78,8 @@ def carry_out(plan: Plan, wanted: int, data_layers: int = 0) -> tuple[int, int]:
     is_one = plan.base == 0 and min(count - data_layers, wanted) == 1
     new = plan.without_excluded(_as_one(plan, given) if is_one else _merged_down(plan, given, wanted, data_layers))
     require_same(plan, given, new)
+    if len(new) > 1:
+        plan.report_links(new)
     plan.pack(new)
     return count, len(new)
 
@@ -128,8 +133,9 @@ def new_layer(folder: str, number: int = 0) -> str:
 class Runner:
     """Does the steps, and reports each with its time. How layers come in and go out is of its kinds."""
 
-    def __init__(self, folder: str, is_kept: bool, faults: IO[str], given: Iterable[str]) -> None:
+    def __init__(self, folder: str, label: str, is_kept: bool, faults: IO[str], given: Iterable[str]) -> None:
         self._folder = folder
+        self._label = label  # what is made is called so
         self._is_kept = is_kept
         self._faults = faults
         self._program = require_program(given)
@@ -218,6 +224,24 @@ class Runner:
     def files_of(self, layers: Iterable[str]) -> Files:
         """The same of others, data-only ones of which show none."""
         return shown_files([self.path(layer) for layer in layers if layer not in self.data_layers], self._shown_links())
+
+    def report_links(self, new: Sequence[str]) -> None:
+        """See `Plan`."""
+        if not self.has_links():
+            return
+        before, after = self.files_before(), self.files_of(new)
+        if any(not set(file) <= set(before.get(name, ())) for name, file in after.items()):
+            raise Fault("the new layers have names as one file that were several, so nothing is written; please report it")
+        files = (list(itertools.filterfalse(self._is_excluded, file)) for file in set(before.values()))
+        parted = sum(max(0, len({after.get(name, (name,)) for name in file}) - 1) for file in files)
+        if parted:
+            note_path(self._label, counted(
+                parted, "hard link between the new layer and those below is a copy now",
+                "hard links between the new layer and those below are copies now",
+            ))
+
+    def _is_excluded(self, path: str) -> bool:
+        return any(path == excluded or path.startswith(f"{excluded}/") for excluded in self.excluded)
 
     def _shown_links(self) -> str:
         return self.path(f"{STACK}/{stacks.SHOWN_LINKS}")

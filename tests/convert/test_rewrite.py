@@ -164,6 +164,17 @@ class Rows(RewriteTest):
                 self.assertEqual(self.shown([out, *below], row.words), self.shown(layers, row.words))
                 self.require_nothing_left("in")
 
+    def test_flatten_to_several_layers(self) -> None:
+        """It says what isn't one file any more, but for what is excluded."""
+        layers = self.stack([[folder("./"), folder("e")], _MOVED, _BASE])
+        for number, (excluded, parted) in enumerate((((), 1), (("/h",), 0), (("/n/g",), 0), (("/n/x",), 1))):
+            words = [word for path in excluded for word in ("--exclude", path)]
+            out = self.path("in", f"new-{number}")
+            result = call("flatten", "--stack", *layers, "--layers", 2, "--form", "squashfs", "--out", out, *words)
+            self.require_done(result)
+            note = f"{out}: 1 hard link between the new layer and those below is a copy now\n"
+            self.assertEqual(result[2].count(note), parted, (excluded, result[2]))
+
     def test_times_of_a_squashfs(self) -> None:
         """Those of the new layer are cut, those of the layers below aren't."""
         layers = [[folder("./"), member("n", b"n")], [folder("./"), member("o", b"o")]]
