@@ -13,7 +13,7 @@ from support import COMMAND, PROGRAM, why_no_trusted
 TOOLS = ("dockerd", "docker", "runc", "podman", "skopeo", "busybox", "bash")
 SECONDS = 600  # that anything may take
 _BEGIN = 60
-_LIMITS = ["--ulimit", "nofile=1024:1024", "--ulimit", "nproc=1024:1024"]
+RUN_LIMITS = ["--ulimit", "nofile=1024:1024", "--ulimit", "nproc=1024:1024"]
 
 
 def why_no_engines(folder: str) -> str | None:
@@ -127,4 +127,4 @@ class Builder:
 
 def run_podman(engine: Engine, image: str) -> str:
     """What an image prints that podman runs."""
-    return engine("run", "--rm", "--network", "none", *_LIMITS, image)
+    return engine("run", "--rm", "--network", "none", *RUN_LIMITS, image)

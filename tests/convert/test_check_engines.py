@@ -1,4 +1,4 @@
-"""`check` beside docker: what it calls unfit docker can't run, and what it calls fit runs; keys that are shipped."""
+"""`check` beside docker and podman: what it calls unfit neither can run, and what it calls fit runs; keys that are shipped."""
 
 import json
 import os
@@ -7,7 +7,7 @@ import subprocess
 import tempfile
 import unittest
 
-from engines import Engine, docker, why_no_engines
+from engines import RUN_LIMITS, Engine, docker, podman, why_no_engines
 from support import call
 
 _BASE = """\
@@ -20,7 +20,7 @@ RUN ln -s /opt/bin /usr-local && printf '#!/bin/sh\\nexit 0\\n' > /opt/bin/go &&
 CMD ["true"]
 """
 _SCRIPT = "RUN printf '%s' > /opt/s && chmod %s /opt/s\nCMD [\"/opt/s\"]"
-# Lines over the base, and the code of what makes docker refuse them, or that of a note or a warning, or nothing.
+# Lines over the base, and the code of what makes engines refuse them, or that of a note or a warning, or nothing.
 _IMAGES = (
     ("CMD [\"/usr-local/go\"]", None),
     ("ENV PATH=/nowhere:/usr-local\nCMD [\"go\"]", None),
@@ -50,11 +50,12 @@ RUN rm /root/id_rsa
 """
 
 
-class BesideDocker(unittest.TestCase):
+class BesideEngines(unittest.TestCase):
     """Images that docker builds over one base."""
 
     folder: str
     docker: Engine
+    podman: Engine
 
     @classmethod
     def setUpClass(cls) -> None:
@@ -67,6 +68,7 @@ class BesideDocker(unittest.TestCase):
             cls.docker = cls.enterClassContext(docker(f"{cls.folder}/docker"))
         except RuntimeError as problem:
             raise unittest.SkipTest(f"no docker can be had here: {problem}") from None
+        cls.podman = podman(f"{cls.folder}/podman")
         os.mkdir(f"{cls.folder}/context")
         shutil.copy(str(shutil.which("busybox")), f"{cls.folder}/context/busybox")
         with open(f"{cls.folder}/context/Dockerfile", "w", encoding="utf-8") as file:
@@ -82,10 +84,10 @@ class BesideDocker(unittest.TestCase):
         self.assertEqual(messages, "")
         return status, json.loads(printed)["findings"]
 
-    def runs(self) -> bool:
-        """Whether docker runs it."""
-        words = [*self.docker.words, "run", "--rm", "--network", "none", "made"]
-        return subprocess.run(words, env=self.docker.environment, capture_output=True, check=False).returncode == 0
+    def runs(self, engine: Engine, *words: str) -> bool:
+        """Whether an engine runs it."""
+        command = [*engine.words, "run", "--rm", "--network", "none", *words]
+        return subprocess.run(command, env=engine.environment, capture_output=True, check=False).returncode == 0
 
     def test_what_runs(self) -> None:
         for lines, code in _IMAGES:
@@ -93,7 +95,9 @@ class BesideDocker(unittest.TestCase):
                 status, found = self.checked(lines)
                 codes = [it["code"] for it in found if it["code"] != "waste"]
                 self.assertEqual(codes, [code] if code else [], found)
-                self.assertEqual(status == 0, self.runs(), found)
+                self.assertEqual(status == 0, self.runs(self.docker, "made"), found)
+                name = self.podman("load", "--quiet", "--input", f"{self.folder}/made.tar").split()[-1]
+                self.assertEqual(status == 0, self.runs(self.podman, *RUN_LIMITS, name), found)
 
     def test_keys(self) -> None:
         status, found = self.checked(_KEYS)
