@@ -1,7 +1,8 @@
 #!/usr/bin/env python3
-"""Looks at the words of the documents: turns that are refused, and how long each document may be.
+"""Looks at the words of documents and comments: turns that are refused, and how long each document may be.
 
-A turn is refused in prose: not in code, not in what a script makes, not in a word that is explained. A word counts if it
+A turn is refused in prose and in comments of the crates: not in code, not in what a script makes, not in a word that is
+explained. A word counts if it
 has a letter or a digit; blocks of code, comments and what a script makes don't count.
 
     python3 -B tools/prose.py             # what is refused, and what is too long
@@ -29,7 +30,7 @@ ALL = 30_000
 TURNS = {
     r"tell|tells|told": "report, print, state",
     r"alone": "only, by itself",
-    r"stands? (?!for\b)|stood|standing": "is",
+    r"stands?(?= (?:at|there|in|on|before|after|between|under|among|beside|here)\b)(?! in (?:the way|a library's place))|stood|standing": "is",
     r"(?:only|except|exactly|but|else|even|save) where": "if, when",
     r"(?:^|(?<=[.;:] ))Where (?!.*\?)": "If, When",
     r"so many": "n, as many",
@@ -40,6 +41,8 @@ _TURNS = {re.compile(rf"(?<![-\w])(?:{turn})(?![-\w])", re.MULTILINE): better fo
 _MADE = re.compile(r"<!-- made by .*?<!-- end -->|<!--.*?-->", re.DOTALL)
 _BLOCK = re.compile(r"^```.*?^```$", re.DOTALL | re.MULTILINE)
 _CODE = re.compile(r"`[^`\n]*`|\]\([^)]*\)|\"[^\"\n]*\"")
+# What a line of a crate says beside its code; an example in it is code.
+_COMMENT = re.compile(r"(?://[/!]?|--) ((?!\s|\w+\().*)")
 _EXPLAINED = re.compile(r"^\| [^|]* \|", re.MULTILINE)  # the first cell of a row
 _NOT_OURS = {"out", "try", ".git"}
 
@@ -66,13 +69,22 @@ def words_of(path: Path) -> int:
 
 
 def turns() -> Iterator[str]:
-    """The turns that are refused, each with its place, in documents and manual pages, which are made from the help."""
+    """The turns that are refused, each with its place, in documents, manual pages, and comments of the crates."""
     for path in [*documents(), *sorted((TOP / "man").iterdir())]:
         text = _blank(_EXPLAINED, _blank(_CODE, prose_of(path)))
         for number, line in enumerate(text.splitlines(), 1):
-            for turn, better in _TURNS.items():
-                for found in turn.finditer(line):
-                    yield f"{path.relative_to(TOP)}:{number}: {found[0].strip()!r}: {better}"
+            yield from _refused(path, number, line)
+    for path in sorted(it for kind in ("rt", "antt") for it in (TOP / "crates").rglob(f"*.{kind}")):
+        if not _NOT_OURS & set(path.relative_to(TOP).parts):
+            for number, line in enumerate(path.read_text(encoding="utf-8").splitlines(), 1):
+                if comment := _COMMENT.search(line):
+                    yield from _refused(path, number, _CODE.sub(" ", comment[1]))
+
+
+def _refused(path: Path, number: int, text: str) -> Iterator[str]:
+    for turn, better in _TURNS.items():
+        for found in turn.finditer(text):
+            yield f"{path.relative_to(TOP)}:{number}: {found[0].strip()!r}: {better}"
 
 
 def lengths() -> Iterator[str]:

@@ -13,7 +13,7 @@ from dataclasses import dataclass
 READ = os.O_RDONLY | os.O_NOFOLLOW | os.O_NONBLOCK | os.O_CLOEXEC
 READ_WHERE_IT_LEADS = os.O_RDONLY | os.O_NONBLOCK | os.O_CLOEXEC
 CREATE = os.O_RDWR | os.O_CREAT | os.O_EXCL | os.O_NOFOLLOW | os.O_CLOEXEC
-FOLDER_MODE = 0o700  # of new folders: what is in them is of this user alone
+FOLDER_MODE = 0o700  # of new folders: what is in them is only this user's
 _FOLDER = os.O_RDONLY | os.O_DIRECTORY | os.O_NOFOLLOW | os.O_CLOEXEC
 _WAY = os.O_PATH | os.O_DIRECTORY | os.O_CLOEXEC  # no right is needed but to pass through
 _NO_REPLACE = 1  # RENAME_NOREPLACE of linux/fs.h

@@ -25,7 +25,7 @@ class NewLayers:
     """Reads plain layers from the files of a new image, each once.
 
     So a layer is named by what the disk has, and it isn't read once more when the image is: see `KeptLayers`.
-    Something may begin once the last of so many layers is written.
+    Something may begin once the last of all layers is written.
     """
 
     def __init__(self, folder: str, out: str, layers: int, begin_at_last: Callable[[], None]) -> None:

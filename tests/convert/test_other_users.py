@@ -69,7 +69,7 @@ class OthersTest(FolderTest):
     def commands(self) -> Iterator[tuple[str, list[str], frozenset[str]]]:
         """Commands that write folders and files, each with the ending of what it writes, and which moments it is tried at.
 
-        What lies in a stage is of the run alone, so of those that work long in one only moves are taken.
+        What lies in a stage is only the run's, so of those that work long in one only moves are taken.
         """
         config = ["--config", self.path("stack", "config.json")]
         yield "", ["unpack", self.path("image")], WRITES

@@ -20,7 +20,7 @@ pub times_none : (p : Piece) (ps : List Piece) → (In p ps → ⊥) → times p
 times_none p [] h = refl
 times_none p (q ∷ ps) h = elim (mark_cases p q) [ inl m ↦ absurd (h (inl m.1)) | inr m ↦ omega (arith, times-cons p q ps, m, times_none p ps (λ i. h (inr i))) ]
 
--- a piece stands in a list, or it doesn't
+-- a piece is in a list, or it doesn't
 pub In-or : (p : Piece) (ps : List Piece) → In p ps ⊎ (In p ps → ⊥)
 In-or p ps = elim (cases_lt 0 (times p ps)) [ inl some ↦ inl (times-In p ps (omega arith)) | inr none ↦ inr (λ i. absurd (omega (arith, In-times p ps i))) ]
 
@@ -50,7 +50,7 @@ module _ {S : Type 0} (root : Piece) (views : List (ParcelView S)) (lawful : All
   balance_at : (p : Piece) → times p (pieces_of views) ≡ mark p root + times p (kids_in views)
   balance_at p = omega (arith, balanced p, times-cons p root (kids_in views), times-append p (pieces_of views) [])
 
-  -- a piece stands among kids no more often than the piece above it has parcels
+  -- a piece is among kids no more often than the piece above it has parcels
   kids_of_parent : (p d : Piece) → IsOneBelow d p → (vs : List (ParcelView S)) → Every (λ (v : ParcelView S). AreLawfulKids v.piece v.kids) vs → times p (kids_in vs) ≤ times d (pieces_of vs)
   kids_of_parent p d below [] law = omega arith
   kids_of_parent p d below (v ∷ vs) law =

@@ -118,7 +118,7 @@ module _ {X Y : Type 0} (f : X → List Y) where
       Rises-append R (f x) (flat_map f xs) (e x (inl refl)) (Rises-flat_map R xs (λ y h. e y (inr h)) r.1)
       (λ y z p q. let c = In-flat_map-cases z xs q in r.0 c.0 c.1 y z p c.2)
 
--- each element and the next one stand in a relation that goes on: so do each and every later one
+-- each element and the next one are in a relation that goes on: so do each and every later one
 module _ {X : Type 0} (R : X → X → Type 0) (trans : (x y z : X) → R x y → R y z → R x z) where
   pub Rises-from_adjacent : (xs : List X) → AllAdjacentBelow R xs (length xs) → Rises R xs
   Rises-from_adjacent [] a = tt

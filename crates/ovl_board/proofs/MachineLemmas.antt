@@ -18,7 +18,7 @@ use Rattle.ovl_board.proofs.LawsOfMembers.{In, Every, All-Every, Every-All, get_
 use Rattle.ovl_board.proofs.LawsOfCounts.{mark, times-cons}
 use Rattle.ovl_board.proofs.CountLemmas.{times-append}
 
--- a full hand stands beside an empty outbox
+-- a full hand is beside an empty outbox
 abbrev pub IsFree : DeskView → Type 0
 IsFree desk = (p : Piece) → desk.hand ≡ Some p → desk.outbox ≡ []
 

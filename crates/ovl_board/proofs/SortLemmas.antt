@@ -20,7 +20,7 @@ use Rattle.ovl_board.proofs.LawsOfMembers.{In, Rises, Rises-from_adjacent, Rises
 use Rattle.ovl_board.proofs.LawsOfPieces.{IsAtMost, Rises-sorted, at_most, before_trans, before_unless_same, less_differs, piece_cmp_total, same_itself, same_piece}
 use Rattle.ovl_board.proofs.LawsOfCounts.{In-times, mark_itself, times-cons}
 
--- a piece that stands at the end of an ascending front and again right behind it is the least double
+-- a piece that is at the end of an ascending front and again right after it is the least double
 pub double_least : (front back : List Piece) (p : Piece) → Rises IsAtMost (front ++ p ∷ back) → Rises IsBefore front → In p front → IsLeast (λ q. 2 ≤ times q (front ++ p ∷ back)) p
 double_least front back p up once h =
     let parts = Rises-parts IsAtMost front (p ∷ back) up in (
@@ -70,7 +70,7 @@ module _ (ps : List Piece) (p : Piece) (up : IsSorted piece_cmp ps) where
       greater_differs : (q r : Piece) → piece_cmp q r ≡ Greater → q ≡ r → ⊥
       greater_differs q r g e = let no : Greater ≡ Equal = sym g ∙ ap (piece_cmp q) (sym e) ∙ same_itself q in absurd (cc)
 
--- what stands before the place at which a search first fails isn't absent
+-- what is before the place at which a search first fails isn't absent
 pub before_absent : (ps among : List Piece) (i : ℕ) (p : Piece) → IsSorted piece_cmp ps → ((d : Piece) (k : ℕ) → k < i → Contains among (get_or ps k d)) → p ≡ get_or ps i p
     → (q : Piece) → IsAbsent ps among q → IsBefore q p → ⊥
 before_absent ps among i p up passed here q absent before =

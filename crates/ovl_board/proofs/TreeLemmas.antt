@@ -234,7 +234,7 @@ module _ (paths : List PathNames) (first : slice_get paths 0 ≡ Some []) (each 
   }
 
 module _ (paths : List PathNames) (shape : HasTreeShape paths) where
-  -- the parent of a path stands before it
+  -- the parent of a path is before it
   parent_before : (k : ℕ) (d : PathNames) → suc k < length paths → (y : PathNames) (n : PathName) → get_or paths (suc k) d ≡ y ++ n ∷ [] → Contains paths y → (y ≡ get_or paths k d) ⊎ IsLess y (get_or paths k d)
   parent_before k d h y n e c = elim (cases_lt c.0 k) [
     | inl lt ↦ inr (subst (λ x. IsLess x (get_or paths k d)) (here d) (shape.ascend c.0 k d lt (omega arith)))

@@ -6,7 +6,7 @@ use Rattle.ovl_board.specs.declared.pieces.Piece.{Piece}
 use Rattle.ovl_board.specs.Pieces.{piece_cmp, AreLawfulKids}
 use Rattle.ovl_board.specs.Parcels.{ParcelView, pieces_of}
 
--- how often a piece stands in a list
+-- how often a piece is in a list
 abbrev pub is_same : Piece → Piece → Bool
 is_same p q = is_eq (piece_cmp p q)
 

@@ -61,7 +61,7 @@ BalancedHaveNoFault =
     → IsBalanced root views [] →
     NoPiece (IsDouble views) × NoPiece (IsStranger root views) × NoPiece (IsMissing root views)
 
--- parcels in order have no fault, so that one answer alone fits
+-- parcels in order have no fault, so that only one answer fits
 abbrev pub InOrderHaveNoFault : Type 0 → Type 0
 InOrderHaveNoFault O =
     (root : Piece) (parcels assembled : List (Parcel O)) → IsInOrder root parcels assembled →

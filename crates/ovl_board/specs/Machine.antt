@@ -92,7 +92,7 @@ open_pieces desks = flat_map desk_pieces desks
 abbrev pub IsIdle : List DeskView → Type 0
 IsIdle desks = All (λ desk. desk ≡ empty_desk) desks
 
--- a full hand stands beside an empty outbox, and the root with all kids are the pieces of the
+-- a full hand is beside an empty outbox, and the root with all kids are the pieces of the
 -- parcels with the open ones
 pub record IsCoreState {S : Type 0} (root : Piece) (s : CoreState S) : Type 0 where
   pub free : All (λ desk. (p : Piece) → desk.hand ≡ Some p → desk.outbox ≡ []) s.desks

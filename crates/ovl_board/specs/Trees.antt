@@ -29,7 +29,7 @@ tree_kids paths p = if p.space == 0 then map (piece_at 0) (children paths p.dir)
 abbrev pub deepest_path : List PathNames → ℕ
 deepest_path paths = fold (λ most path. max most (length path)) 0 paths
 
--- a path that may stand right behind another one: it comes after it, and its parent is that one or
+-- a path that may stand right after another one: it comes after it, and its parent is that one or
 -- lies above it
 abbrev pub is_next : PathNames → PathNames → Bool
 is_next before path = is_lt (path_cmp before path) && starts_with name_eq before (parent_path path)

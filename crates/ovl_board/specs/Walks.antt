@@ -34,7 +34,7 @@ IsReachedByNames kids root p =
     × ((names : PathNames)
     × ((p.dir ≡ root.dir ++ names) × StepsToKids kids root names))
 
--- a piece and, `depth` times at most, the kids of what stands before: what one call of the walk
+-- a piece and, `depth` times at most, the kids of what is before: what one call of the walk
 -- appends
 abbrev pub preorder : (Piece → List Piece) → ℕ → Piece → List Piece
 preorder kids zero p = p ∷ []

@@ -171,7 +171,7 @@ fn expected_pieces<T>(
     Ok(expected)
 }
 
-// The least piece that stands twice in a sorted list.
+// The least piece that is twice in a sorted list.
 fn first_double(pieces: &[Piece]) -> Option<&Piece>
     requires { IsSorted piece_cmp pieces.now }
     ensures { MatchOption result

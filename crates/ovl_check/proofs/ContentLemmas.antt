@@ -1,4 +1,4 @@
--- The findings of a stack and its blobs are those by what is told of the blobs' contents.
+-- The findings of a stack and its blobs are those by what is reported of the blobs' contents.
 use Rattle.std.proofs.Common.{◌≡◌, ℕ, ◌+◌, Bool, true, false, not, Option, Some, None, List, [], ◌∷◌, ◌++◌, refl, sym, ap, ◌∙◌, map, filter, cond, All}
 use Rattle.std.specs.Prelude.{⊤, ◌&&◌, MatchOption, ◌==◌, length, is_none}
 use Rattle.std.specs.List.{flat_map}

@@ -254,7 +254,7 @@ module _ (work : CheckView) (i : ℕ) (path : PathNames) (facts : Facts) (are : 
       ap (λ r. mark_says_nothing r inode mark) are.root
       ∙ ap (λ m. opaque_is_ignored path inode || redirect_is_ignored path inode m || metacopy_is_ignored inode m || whiteout_is_ignored inode) (sym are.mark)
 
-  -- the codes that the facts tell are those whose conditions hold
+  -- the codes that the facts give are those whose conditions hold
   pub codes-told : filter (λ code. sought_in work.stack i code && tells facts code) all_codes ≡ filter (holds_alone work i (path, inode)) all_codes
   codes-told = λ j. filter (λ code. (ap (λ b. sought_in work.stack i code && b) (told code) ∙ turned (sought_in work.stack i code) (not (is_double code)) (holds work.contents layer lower (path, inode) code)) j) all_codes
     where

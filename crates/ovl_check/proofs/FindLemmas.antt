@@ -44,7 +44,7 @@ among names name up (Err spot) r bound position is = (
       absurd (cc)),
 )
 
--- what tells whether a name is among them tells whether its blob's bytes are wrong
+-- what says whether a name is among them says whether its blob's bytes are wrong
 pub wrong-told : (blobs : List BlobView) → are_in_order blobs ≡ true → (blob : BlobView) → In blob blobs → (r : Bool) → IsTrue r ↔ Contains (wrong_names blobs) blob.name → r ≡ is_wrong blob
 wrong-told blobs up blob here r told = by r (is_wrong blob) refl told
   where
@@ -57,7 +57,7 @@ pub wrong-among : (blobs : List BlobView) (name : List ℕ) (blob : BlobView) (r
 wrong-among blobs name blob r up is told =
     wrong-told blobs up blob (find-there (λ (b : BlobView). b.name) blobs name blob is) r told ∙ sym (ap (has_blob is_wrong) is)
 
--- what is told of one more blob
+-- what is reported of one more blob
 pub contents-more : (blobs : List Blob) (i : ℕ) (blob : Blob) → i < length blobs → blob ≡ get_or blobs i blob
     → contents_of (blob_views (take (i + 1) blobs)) ≡ contents_of (blob_views (take i blobs)) ++ content_of (blob_view blob) ∷ []
 contents-more blobs i blob inside is =

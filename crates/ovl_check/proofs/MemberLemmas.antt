@@ -42,7 +42,7 @@ use Rattle.ovl_check.proofs.BlobLemmas.{any-In}
 use Rattle.ovl_check.proofs.LayerFacts.{kid-directory, layer-ascends}
 use Rattle.ovl_check.proofs.DoubleLemmas.{ViewBefore, doubles-cases, doubles-In}
 
--- ---- entries and what stands at their paths
+-- ---- entries and what is at their paths
 
 entry-In : (layer : Entries) (path : PathNames) (inode : Inode) → entry_at layer path ≡ Some inode → In (path, inode) layer
 entry-In [] path inode here = let bad : None ≡ Some inode = here in cc
@@ -128,7 +128,7 @@ module _ (work : CheckView) (each : All IsLayer (all_layers work.stack)) (i : �
   abbrev found_here : List Finding
   found_here = findings_in sought work.contents i layer (layers_below work.stack i)
 
-  -- doubles are sought in layers alone that aren't data-only
+  -- doubles are sought only in layers that aren't data-only
   double-sought : sought RedirectDouble ≡ true → ordinary ≡ true
   double-sought = by ordinary
     where

@@ -17,7 +17,7 @@ Findings = List Finding
 same : {xs ys zs ws : Findings} → xs ≡ ys → ws ≡ zs → IsPermutation ys zs → IsPermutation xs ws
 same {xs} {ys} {zs} {ws} one other is = subst (λ (l : Findings). IsPermutation l ws) (sym one) (subst (λ (l : Findings). IsPermutation ys l) (sym other) is)
 
--- two parts in the other order, behind a third
+-- two parts in the other order, after a third
 swapped : (xs ys zs : Findings) → IsPermutation (xs ++ (ys ++ zs)) ((xs ++ zs) ++ ys)
 swapped xs ys zs = same refl (append_assoc xs zs ys) (IsPermutation-append_right xs (ys ++ zs) (zs ++ ys) (IsPermutation-append_comm ys zs))
 

@@ -39,7 +39,7 @@ less-first (x ∷ one) (y ∷ other) less = by (nat_cmp x y) (ranked x y (nat_cm
     by Equal same h = omega (arith, same)
     by Greater above h = absurd (cc)
 
--- what stands between two places of a list
+-- what is between two places of a list
 abbrev pub part : {X : Type 0} → List X → ℕ → ℕ → List X
 part xs start end = take (end - start) (drop start xs)
 

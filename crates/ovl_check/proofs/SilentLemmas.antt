@@ -1,4 +1,4 @@
--- Entries of which little can be told.
+-- Entries of which little can be said.
 use Rattle.std.proofs.Common.{◌≡◌, ◌∙◌, ℕ, Bool, true, false, cond, Option, List, [], ◌∷◌, length, refl, sym, ap, arith, eqb-true}
 use Rattle.std.specs.Prelude.{◌&&◌, ◌==◌, not, codes, filter, Some}
 use Rattle.std.proofs.Math.Bool.{and-false}
@@ -86,7 +86,7 @@ module _ (facts : Facts) (bare : is_bare facts ≡ true) where
   kind : facts.kind ≡ Other
   kind = other-kind facts.kind two.1
 
-  -- of its kind nothing can be told
+  -- of its kind nothing can be said
   other-untold : (code : Code) → is_blob_fault code ≡ false → tells facts code ≡ false
   other-untold code e = ap (λ k. tells (record facts { kind = k }) code) kind ∙ untold-of code e
     where
@@ -110,7 +110,7 @@ module _ (facts : Facts) (bare : is_bare facts ≡ true) where
     untold : (code : Code) → tells facts code ≡ false → (sought code && tells facts code) ≡ false
     untold code e = ap (λ b. sought code && b) e ∙ and-false (sought code)
 
-    -- the codes on blobs are all that can be told
+    -- the codes on blobs are all that can be said
     pub blob_codes-enough : filter (λ code. sought code && tells facts code) all_codes ≡ filter (λ code. sought code && tells facts code) blob_codes
     blob_codes-enough = filter-only Told is_blob_fault all_codes (λ code e. untold code (other-untold code e))
 

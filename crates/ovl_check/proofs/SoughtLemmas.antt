@@ -1,4 +1,4 @@
--- The doubles among directories are those by the places of moved ones alone.
+-- The doubles among directories are only those by the places of moved ones.
 use Rattle.std.proofs.Common.{◌≡◌, inl, inr, Bool, true, false, cond, Option, Some, None, List, [], ◌∷◌, ◌++◌, refl, sym, ap, ◌∙◌, subst}
 use Rattle.std.specs.Prelude.{◌&&◌, ◌||◌}
 use Rattle.std.proofs.Math.Bool.{or-true}
@@ -58,7 +58,7 @@ module _ (wanted : List PathNames) where
         λ there. with-old q places (Some p) ((agree q h).1 there),
       )
 
-  -- a place that counts is among the one exactly where it is among the other
+  -- a place that counts is among the one exactly if it is among the other
   among-same : (places kept : List PathNames) → Agree places kept → (q : PathNames) → In q wanted → is_among places q ≡ is_among kept q
   among-same places kept agree q h = by (is_among places q) refl (is_among kept q) refl
     where

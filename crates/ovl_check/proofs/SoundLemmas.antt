@@ -1,4 +1,4 @@
--- Which stacks are sound, told by their findings.
+-- Which stacks are sound, by their findings.
 use Rattle.std.proofs.Common.{◌≡◌, ℕ, ◌+◌, Bool, true, false, ◌&&◌, ◌||◌, not, List, [], ◌∷◌, refl, sym, ap, ◌∙◌, map, filter, if◌then◌else◌}
 use Rattle.std.specs.List.{list_any, list_all, flat_map}
 use Rattle.std.proofs.lemmas.List.Folds.{list_any-append}
@@ -77,7 +77,7 @@ module _ (blobs : List BlobView) (layer : Entries) (below : StackView) (entry : 
   at_entry : (i : ℕ) → list_any tells (findings_at any_code blobs i layer below entry) ≡ is_faulty layer below entry
   at_entry i = by_codes (holds blobs layer below entry) i entry.0 ∙ conditions
 
--- findings of entries, where those of each tell whether it is faulty
+-- findings of entries, where those of each say whether it is faulty
 over_entries : (found : Entry → List Finding) (faulty : Entry → Bool) → ((entry : Entry) → list_any tells (found entry) ≡ faulty entry) → (entries : Entries) →
     list_all (λ entry. not (faulty entry)) entries ≡ not (list_any tells (flat_map found entries))
 over_entries found faulty one [] = refl
@@ -89,7 +89,7 @@ over_entries found faulty one (entry ∷ entries) =
     ∙ ap (λ b. not (faulty entry) && b) (sym (over_entries found faulty one entries))
     )
 
--- findings of blobs tell nothing
+-- findings of blobs say nothing of it
 silent : (found : Entry → List Finding) → ((entry : Entry) → list_any tells (found entry) ≡ false) → (entries : Entries) → list_any tells (flat_map found entries) ≡ false
 silent found one [] = refl
 silent found one (entry ∷ entries) = list_any-append tells (found entry) (flat_map found entries) ∙ (λ j. one entry j || silent found one entries j)

@@ -1,4 +1,4 @@
--- A layer without marks, and the layer of what a stack shows: what is found in it alone.
+-- A layer without marks, and the layer of what a stack shows: what is found in it as a stack of its own.
 use Rattle.std.proofs.Common.{◌≡◌, ◌<◌, ℕ, zero, suc, ◌+◌, Bool, true, false, cond, Option, Some, None, List, [], ◌∷◌, length, get_or, map, filter, refl, sym, ap, ◌∙◌, arith}
 use Rattle.std.specs.Prelude.{◌||◌, ◌&&◌, not, is_some}
 use Rattle.std.specs.List.{All, list_any, list_all, flat_map}
@@ -34,7 +34,7 @@ use Rattle.ovl_check.proofs.SoundLemmas.{any-filter, findings-tell}
 
 -- ---- tests of all findings of a layer
 
--- findings of codes that pass alone, where no other holds
+-- only findings of codes that pass, if no other holds
 mapped : (test : Code → Bool) (i : ℕ) (path : PathNames) (h : Code → Bool) → ((code : Code) → test code ≡ false → h code ≡ false) → (all : List Code)
     → list_all (λ (one : Finding). test one.code) (map (finding i path) (filter (λ code. any_code code && h code) all)) ≡ true
 mapped test i path h none [] = refl
@@ -56,7 +56,7 @@ gathered {X} test f (x ∷ xs) all =
 abbrev below : StackView
 below = record { layers = []; data_only = [] }
 
--- all that is found in a layer alone is of codes that pass, where no other holds at an entry
+-- all that is found in a layer by itself is of codes that pass, where no other holds at an entry
 all-pass : (test : Code → Bool) (blobs : List BlobView) (layer : Entries) → IsLayer layer
     → ((path : PathNames) (inode : Inode) → entry_at layer path ≡ Some inode → (code : Code) → test code ≡ false → holds blobs layer below (path, inode) code ≡ false)
     → list_all (λ (one : Finding). test one.code) (findings blobs (alone layer)) ≡ true
@@ -122,7 +122,7 @@ unmarked-quiet layer is bare blobs = all-pass is_blob_fault blobs layer is (quie
 abbrev is_right : List BlobView → Inode → Bool
 is_right blobs inode = not (blob_is_missing blobs inode || blob_is_of_other_size blobs inode || blob_is_wrong blobs inode)
 
--- its kind alone says so
+-- its kind says so by itself
 right-kind : (blobs : List BlobView) (one other : Inode) → one.kind ≡ other.kind → is_right blobs one ≡ is_right blobs other
 right-kind blobs one other same = ap (λ (kind : Kind). is_right blobs (record one { kind = kind })) same
 

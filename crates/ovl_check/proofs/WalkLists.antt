@@ -10,7 +10,7 @@ more : (work : CheckView) (i n : ℕ) (lists : List (List View)) (views : List V
 more work i n [] views walks is plain = (subst (λ (k : ℕ). IsPlain (check_kids work) (check_out work) (space_root k) views) (omega (arith, is)) plain, tt)
 more work i n (first ∷ lists) views walks is plain = (walks.0, more work (i + 1) n lists views walks.1 (omega (arith, is)) plain)
 
--- the walk of the next layer behind those of the layers before it
+-- the walk of the next layer after those of the layers before it
 pub layer_walks-more : {X : Type 0} (seen : X → List View) (work : CheckView) (xs : List X) (x : X) (n : ℕ) → AreLayerWalks work 0 (map seen xs) → length xs ≡ n → IsPlain (check_kids work) (check_out work) (space_root n) (seen x) → AreLayerWalks work 0 (map seen (xs ++ x ∷ []))
 layer_walks-more {X} seen work xs x n walks count plain =
     subst (AreLayerWalks work 0) (sym (map-append seen xs (x ∷ [])))

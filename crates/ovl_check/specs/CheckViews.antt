@@ -8,7 +8,7 @@ use Rattle.ovl_check.specs.Blobs.{blob_views}
 use Rattle.ovl_check.specs.Contents.{contents_of}
 use Rattle.ovl_check.specs.Checks.{CheckView}
 
--- the contents of blobs that are held, or that are told
+-- the contents of blobs that are held, or that are reported
 abbrev pub told_contents : ToldBlobs → List Content
 told_contents (Held held) = contents_of (blob_views held.blobs.elements.now)
 told_contents (Told told) = told.elements.now

@@ -1,4 +1,4 @@
--- What is told of blobs whose bytes aren't held, and the findings by that.
+-- What is reported of blobs whose bytes aren't held, and the findings by that.
 use Rattle.std.specs.Prelude.{◌≡◌, ⊤, All, MatchOption, ℕ, ◌+◌, Bool, false, ◌&&◌, ◌==◌, not, Option, Some, None, List, [], ◌∷◌, ◌++◌, length, map, filter, is_none}
 use Rattle.std.specs.List.{find, flat_map}
 use Rattle.ovl_inode.specs.declared.inodes.Inode.{Inode}
@@ -17,7 +17,7 @@ use Rattle.ovl_names.specs.Order.{ascends}
 use Rattle.ovl_check.specs.Conditions.{holds}
 use Rattle.ovl_check.specs.Findings.{finding, any_code}
 
--- what is told of a blob: its name, its length, and whether its bytes have that SHA-256 digest
+-- what is reported of a blob: its name, its length, and whether its bytes have that SHA-256 digest
 abbrev pub content_of : BlobView → Content
 content_of blob = record {
   name = blob.name;
@@ -41,7 +41,7 @@ contents_ascend contents = ascends content_cmp contents
 abbrev pub find_content : List Content → List ℕ → Option Content
 find_content contents name = find (λ content. bytes_eq content.name name) contents
 
--- the inode names a blob of which no content is told
+-- the inode names a blob of which no content is reported
 abbrev pub content_is_missing : List Content → Inode → Bool
 content_is_missing contents inode =
     elim (blob_of inode) [ Some name ↦ is_none (find_content contents name) | None ↦ false ]
@@ -105,14 +105,14 @@ findings_of_contents_from contents stack i (layer ∷ layers) =
     findings_of_contents_in any_code contents i layer (record stack { layers = layers })
     ++ findings_of_contents_from contents stack (i + 1) layers
 
--- the findings of a stack and of the contents that are told of its blobs, by layer, then by path,
+-- the findings of a stack and of the contents that are reported of its blobs, by layer, then by path,
 -- then by code
 abbrev pub findings_of_contents : List Content → StackView → List Finding
 findings_of_contents contents stack = findings_of_contents_from contents stack 0 stack.layers
 
 -- ---- what the layers name
 
--- contents tell of the blob that an inode names what other contents do
+-- contents report of the blob that an inode names what other contents do
 abbrev pub TellsOfNamed : List Content → List Content → Inode → Type 0
 TellsOfNamed contents others inode =
     MatchOption (blob_of inode) ⊤ (λ name. find_content contents name ≡ find_content others name)

@@ -60,7 +60,7 @@ held_in layer directory =
 abbrev pub child_seen : Child → PathName × Inode
 child_seen child = (child.name.now, child.inode.now)
 
--- what stands at a path, under its last name
+-- what is at a path, under its last name
 abbrev pub seen_at : Entries → PathNames → List (PathName × Inode)
 seen_at layer path =
     elim (last_name path) [ Some name ↦ held name (entry_at layer path) | None ↦ [] ]
@@ -282,7 +282,7 @@ tells facts WhiteoutUnmarked = is_unmarked facts.kind facts.inode.now
 tells facts ImpureMissing = impure_is_missing facts.inode.now facts.holds_origin
 tells facts MarkIgnored = mark_says_nothing facts.is_root facts.inode.now facts.mark.now
 
--- ---- an entry of which little can be told
+-- ---- an entry of which little can be said
 
 -- a mark that entries without attributes have
 abbrev pub is_quiet_mark : Mark → Bool

@@ -20,7 +20,7 @@ FindingsTellSoundness = (blobs : List BlobView) (stack : StackView) →
     is_sound_stack stack
     ≡ not (list_any (λ found. is_layer_fault found.code) (findings blobs stack))
 
--- what is found needs no more of blobs than their contents tell, whatever the order of their names
+-- what is found needs no more of blobs than their contents give, whatever the order of their names
 abbrev pub FindingsNeedContents : Type 0
 FindingsNeedContents = (blobs : List BlobView) (stack : StackView) →
     findings blobs stack ≡ findings_of_contents (contents_of blobs) stack
@@ -32,14 +32,14 @@ FindingsNeedNamed =
     → TellsOfLayers contents others (all_layers stack) →
     findings_of_contents contents stack ≡ findings_of_contents others stack
 
--- in a layer without marks, alone, nothing is found but what is wrong with blobs
+-- in a layer without marks, by itself, nothing is found but what is wrong with blobs
 abbrev pub UnmarkedLayersAreQuiet : Type 0
 UnmarkedLayersAreQuiet =
     (layer : Entries) → IsLayer layer → HasNoMarks layer → (blobs : List BlobView) →
     list_all (λ found. is_blob_fault found.code) (findings blobs (alone layer)) ≡ true
 
 -- where nothing is at fault in a stack and its blobs, nothing at all is found in the layer of what
--- it shows, alone
+-- it shows, by itself
 abbrev pub ShownLayersAreClean : Type 0
 ShownLayersAreClean = (blobs : List BlobView) (stack : StackView) → All IsLayer stack.layers →
     list_any (λ found. is_fault found.code) (findings blobs stack) ≡ false →

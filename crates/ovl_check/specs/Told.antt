@@ -1,4 +1,4 @@
--- What is told of bytes that were read in parts.
+-- What is reported of bytes that were read in parts.
 use Rattle.std.specs.Prelude.{◌≡◌, ℕ, List, length}
 use Rattle.sha2.specs.Sha256.{sha256}
 use Rattle.sha2.specs.Hashers.{Holds256}

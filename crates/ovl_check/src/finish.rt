@@ -69,7 +69,7 @@ fn found_in(
 }
 
 // Adds the outputs of all directories. Where these are in the order of a walk, what is found in a
-// directory stands among what is found below it, in path order.
+// directory is among what is found below it, in path order.
 fn push_outputs(
     alloc: Global,
     parcels: Vec<Parcel<CheckOut<'_>>>,

@@ -33,7 +33,7 @@ name_of Flatten = codes "flatten"
 abbrev pub NamesCommand : Text → Type 0
 NamesCommand name = (what : Command) × (name ≡ name_of what)
 
--- so many layers can be left by a command's merges
+-- this many layers can be left by a command's merges
 abbrev pub IsLeft : Command → ℕ → Type 0
 IsLeft what left = (what ≡ Merge) × ((0 < left) × (left < layer_limit))
 
@@ -114,7 +114,7 @@ IsFaultOfKind kind (Help text) = AsksForText kind
 IsFaultOfKind kind (Usage text) = (¬ AsksForText kind) × (kind ≢ OutOfMemory)
 IsFaultOfKind kind Memory = ⊤
 
--- what comes of words: a line only where nothing refuses them, and a fault by what does
+-- what comes of words: a line only if nothing refuses them, and a fault by what does
 abbrev pub IsRead : List Text → Result Line LineFault → Type 0
 IsRead words (Ok line) = (fault_of tool_app words ≡ []) × IsLineOf words line
 IsRead words (Err fault) = IsFaultBy (fault_of tool_app words) fault

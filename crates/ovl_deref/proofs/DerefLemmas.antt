@@ -351,7 +351,7 @@ module _ (top : Entries) (below : StackView) (is : IsLayer top) (each : All IsLa
           holds : is_directory_at layer b.directory ≡ true
           holds = ap directory_found (directory-free b.directory free_here b.holds) ∙ b.holds
 
-          -- the walk in the layer, by what stands there
+          -- the walk in the layer, by what is there
           walked : (found : Option Inode) → entry_at layer next ≡ found → directory_found found ≡ false → walk layer path ≡ walk_beyond found (turn top b.directory) (is_shut top b.directory) b.name b.rest
           walked found here file =
               ap (walk layer) (sym b.whole)
@@ -454,7 +454,7 @@ module _ (top : Entries) (below : StackView) (is : IsLayer top) (each : All IsLa
         made (child_path path own)
         ∙ ap (λ b. cond b (inode_shown (look (over top below) (child_path path own))) (option_map (dereferenced_inode top below (child_path path own)) (entry_at top (child_path path own)))) within
 
-    -- an inode that stands there is one that is shown
+    -- an inode that is there is one that is shown
     shown-there : (path : PathNames) (inode : Inode) → inode_shown (look (over top below) path) ≡ Some inode → look (over top below) path ≡ Shown inode
     shown-there path inode some = inode-whole (over top below) each_over sound path inode some
 
@@ -524,7 +524,7 @@ module _ (top : Entries) (below : StackView) (is : IsLayer top) (each : All IsLa
             turned : PathNames
             turned = turn layer (child_path directory name ++ b.middle)
 
-            -- the walk in the layer, by what stands there
+            -- the walk in the layer, by what is there
             walked : (found : Option Inode) → entry_at layer path ≡ found → walk layer (child_path directory name ++ rest) ≡ walk_beyond found turned true b.name b.tail
             walked found here =
                 ap (walk layer) (sym whole ∙ append_assoc (child_path directory name ++ b.middle) (b.name ∷ []) b.tail)

@@ -97,10 +97,10 @@ module _ (stack : StackView) (each : All IsLayer stack.layers) (some : 0 < lengt
       by None e is = let bad : false ≡ true = is in cc
       by (Some inode) e is = new-limited path inode e
 
-  -- its names tell the new layer
+  -- its names give the new layer
   pub told : AreNamesOf (new_at stack) (names_in stack) (deref_depth stack)
   told = record { in_order = names_in-ascend; named = new-named; closed = new-parent; shallow = directory-limited }
 
-  -- visits tell it
+  -- visits give it
   pub tells : TellsLayer (new_at stack) (deref_kids stack) (deref_out stack)
   tells = layer-told (new_at stack) (names_in stack) (deref_depth stack) told

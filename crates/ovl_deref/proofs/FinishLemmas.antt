@@ -32,7 +32,7 @@ module _ (stack : StackView) (each : All IsLayer stack.layers) (some : 0 < lengt
       by false e = ap (λ b. Some (cond b (filled inode (look (over (top_layer stack) (lower_layers stack)) [])) inode)) e
       by true e = let bad : false ≡ true = sym (metacopy-file inode e).0 ∙ directory in cc
 
-  -- the plain walk tells the new layer
+  -- the plain walk gives the new layer
   pub walk-tells : (root : Inode) (views : List InodesParcel) → entry_at (top_layer stack) [] ≡ Some root → IsDerefWalk stack views → IsToldWithin (new_at stack) root views
   walk-tells root views here walk = record { names = names_in stack; deepest = deref_depth stack; told = told stack each some; rooted = root-stays root here; walk = walk }
 

@@ -33,7 +33,7 @@ use Rattle.ovl_deref.proofs.DirectoryLemmas.{new-moved, new-own}
 
 -- ---- the attributes of a full file, one after another
 
--- an attribute that is kept is put behind those kept before it
+-- an attribute that is kept is put after those kept before it
 pub full-put : (attrs full rest : Attributes) (attr : List ℕ × List ℕ) → are_attributes attrs ≡ true → full ++ attr ∷ full_attributes rest ≡ full_attributes attrs → with_attribute full attr.0 attr.1 ≡ full ++ attr ∷ []
 full-put attrs full rest attr are whole =
     let up : ascends attribute_cmp (full_attributes attrs) ≡ true = ascends-filter attribute_cmp (λ other. not (name_eq other.0 metacopy_name || name_eq other.0 redirect_name)) attrs (both {a = list_all is_attribute attrs} {b = ascends attribute_cmp attrs} are).1 in
@@ -108,7 +108,7 @@ each-kid top dir (kid ∷ kids) [] same k d inside = absurd (omega (arith, ap le
 each-kid top dir (kid ∷ kids) (name ∷ names) same zero d inside = (name, ap (λ (ps : List PathNames). get_or ps 0 []) same)
 each-kid top dir (kid ∷ kids) (name ∷ names) same (suc k) d inside = each-kid top dir kids names (ap (drop 1) same) k d (omega (arith, inside))
 
--- the path of a kid's row ends with its name, and its entry stands there
+-- the path of a kid's row ends with its name, and its entry is there
 pub row-entry : (sheet top : Entries) → sheet ≡ top → (dir : PathNames) (number : ℕ) → IsKid dir (path_at top number) → (name : PathName) (inode : Inode) → Some name ≡ last_name (path_at sheet number) → entry_at sheet (path_at sheet number) ≡ Some inode
     → (Some name ≡ last_name (path_at top number)) × (path_at top number ≡ child_path dir name) × (entry_at top (child_path dir name) ≡ Some inode)
 row-entry sheet top same dir number kid name inode told there =

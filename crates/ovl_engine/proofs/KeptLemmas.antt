@@ -40,7 +40,7 @@ use Rattle.ovl_engine.specs.MergesDown.{KeepsTreeDown, count_in}
 
 -- ---- a stack without faults is sound
 
--- no finding of a clean check is a fault, or what faults alone are
+-- no finding of a clean check is a fault, or what only faults are
 no_fault : (test : Finding → Bool) → ((one : Finding) → test one ≡ true → is_fault one.code ≡ true) → (found : List Finding) → list_all (λ one. cond (is_fault one.code) 1 0 == 0) found ≡ true → list_any test found ≡ false
 no_fault test faulty [] none = refl
 no_fault test faulty (one ∷ found) none = by (no_fault test faulty found parts.1) (test one) refl
@@ -114,7 +114,7 @@ of_new k (text ∷ texts) (layer ∷ new) others rest reads below =
     let more : map read_layer texts ≡ map stated_as new = cc in
     in_front k text (texts ++ others) layer (new ++ rest) one (of_new (suc k) texts new others rest more below)
 
--- layers over data-only ones, and a stack with new layers in place of so many of the topmost, and of as many
+-- layers over data-only ones, and a stack with new layers in place of this many of the topmost, and of as many
 abbrev under : List Entries → List Entries → StackView
 under data_only layers = record { layers = layers; data_only = data_only }
 

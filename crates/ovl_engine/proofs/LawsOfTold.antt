@@ -1,4 +1,4 @@
--- What comes of a command over contents that are told.
+-- What comes of a command over contents that are reported.
 use Rattle.std.proofs.Common.{◌≡◌, ℕ, Bool, true, false, Option, Result, Ok, Err, List, [], inr, refl, subst, sym, ap, ◌∙◌}
 use Rattle.std.proofs.lemmas.List.Elements.{All-nil}
 use Rattle.ovl_names.specs.Order.{ascends}
@@ -22,7 +22,7 @@ use Rattle.ovl_engine.specs.Told.{AreTold, IsOutcomeTold, IsRunTold, MayRefuseTo
 use Rattle.ovl_engine.specs.MergesDown.{IsAcceptedDown, IsOutcomeDownTold, IsRunDown, IsRunDownTold}
 
 module _ (may_be : List ℕ → Option (List ℕ) → Type 0) where
-  -- of no names nothing is told
+  -- of no names nothing is reported
   pub nothing_told : AreTold may_be [] []
   nothing_told = record {
     blobs = [];
@@ -32,7 +32,7 @@ module _ (may_be : List ℕ → Option (List ℕ) → Type 0) where
     each = λ name inside. absurd (In-Contains name [] inside);
   }
 
-  -- where the names that are asked for are told, what comes with blobs of these contents comes over what may be there
+  -- where the names that are asked for are reported, what comes with blobs of these contents comes over what may be there
   pub run_told : (command : Command) (stack : StackView) (may_refuse : Piece → Type 0) (names : List (List ℕ)) (told : List Content) (result : Result Answer EngineFault)
       → AreAsked command stack names → AreTold may_be names told
       → ((blobs : List BlobView) → contents_of blobs ≡ told → IsRun command stack (findings blobs stack) (MayRefuseTold command stack may_refuse) result)
@@ -55,7 +55,7 @@ module _ (may_be : List ℕ → Option (List ℕ) → Type 0) where
       by (Ok answer) run = (accepted, run)
       by (Err fault) run = inr (accepted, run)
 
-  -- and of its merges until so many layers are left
+  -- and of its merges until this many layers are left
   pub outcome_down_told : (left : ℕ) (request : Request) (question : Question) (may_refuse : Piece → Type 0) (told : List Content) (result : Result Answer EngineFault)
       → request.what ≡ Merge → IsAcceptedDown left request → IsQuestionOf request question → AreTold may_be question.names.items told
       → ((blobs : List BlobView) → contents_of blobs ≡ told → IsRunDown left blobs question.stack (λ one. MayRefuseTold Merge one may_refuse) result)

@@ -27,7 +27,7 @@ under_over : (top : Entries) (layers : List Entries) (read : Result (List Entrie
 under_over top layers (Ok rest) = refl
 under_over top layers (Err fault) = refl
 
--- manifests behind others that are read
+-- manifests after others that are read
 behind : (k : ℕ) (read more : List (List ℕ)) (layers : List Entries) → layers_from k read ≡ Ok layers → layers_from k (read ++ more) ≡ over layers (layers_from (k + length read) more)
 behind k [] more layers all =
     let none : [] ≡ layers = cc in
@@ -72,11 +72,11 @@ before k (first ∷ read) more fault fails = by (before (suc k) read more) (read
 one_more : (k : ℕ) (read : List (List ℕ)) (layers : List Entries) (manifest : List ℕ) (layer : Entries) → layers_from k read ≡ Ok layers → read_layer manifest ≡ Ok layer → layers_from k (read ++ manifest ∷ []) ≡ Ok (layers ++ layer ∷ [])
 one_more k read layers manifest layer all one = behind k read (manifest ∷ []) layers all ∙ rw (one, layers_from) refl
 
--- a manifest that isn't read, behind others that are
+-- a manifest that isn't read, after others that are
 unread : (k : ℕ) (read : List (List ℕ)) (layers : List Entries) (manifest : List ℕ) (more : List (List ℕ)) (fault : LayerFault) → layers_from k read ≡ Ok layers → read_layer manifest ≡ Err fault → layers_from k (read ++ manifest ∷ more) ≡ Err (Layer (k + length read) fault)
 unread k read layers manifest more fault all is = behind k read (manifest ∷ more) layers all ∙ rw (is, layers_from) refl
 
--- what is told of a layer that isn't read
+-- what is reported of a layer that isn't read
 pub told : (index : ℕ) (one : Result Entries LayerFault) (all : Result (List Entries) EngineFault) → ((fault : LayerFault) → one ≡ Err fault → all ≡ Err (Layer index fault)) → (fault : LayerFault) → IsFaultOf one fault → IsUnreadLayer all (unread_layer index fault)
 told index one all fails NotJson is = fails NotJson is
 told index one all fails Shape is = fails Shape is
@@ -116,7 +116,7 @@ pub taken : {X Z : Type 0} (s : IntoIter X Z) (read : List X) (t : IntoIter X Z)
 taken s [] t yields = ap into_iter_items yields
 taken s (x ∷ read) t yields = yields.1.0 ∙ ap (λ rest. x ∷ rest) (taken yields.0 read t yields.2)
 
--- things that have bytes, and one more behind them
+-- things that have bytes, and one more after them
 module _ {X : Type 0} (k : ℕ) (bytes : X → List ℕ) (read : List X) (x : X) (layers : List Entries) (so_far : layers_from k (map bytes read) ≡ Ok layers) where
   pub further : (layer : Entries) → read_layer (bytes x) ≡ Ok layer → layers_from k (map bytes (read ++ x ∷ [])) ≡ Ok (layers ++ layer ∷ [])
   further layer one = ap (layers_from k) (map-append bytes read (x ∷ [])) ∙ one_more k (map bytes read) layers (bytes x) layer so_far one
@@ -127,7 +127,7 @@ module _ {X : Type 0} (k : ℕ) (bytes : X → List ℕ) (read : List X) (x : X)
       ∙ (unread k (map bytes read) layers (bytes x) (map bytes more) fault so_far one
       ∙ ap (λ (m : ℕ). Err (Layer (k + m) fault)) (sym (number ∙ counted k (map bytes read) layers so_far)))
 
--- what is told of some manifests is told of all, where their fault is that of all
+-- what is reported of some manifests is reported of all, where their fault is that of all
 told_of_all : (read all : Result (List Entries) EngineFault) → ((fault : EngineFault) → read ≡ Err fault → all ≡ Err fault) → (fault : EngineFault) → IsUnreadLayer read fault → IsUnreadLayer all fault
 told_of_all read all fails (Layer index fault) is = fails (Layer index fault) is
 told_of_all read all fails Memory is = tt

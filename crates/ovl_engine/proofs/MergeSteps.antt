@@ -120,7 +120,7 @@ module _ (may_refuse : Piece → Type 0) where
       unwalked (MayRefuseTold Merge stack may_refuse) Merge stack found fault
       (walk-part (MayRefuseLayers stack may_refuse) (MayRefuseTold Merge stack may_refuse) (λ refused. inl (refl, refused)) fault is)
 
-  -- what may be refused of contents that are told may be of blobs that are held
+  -- what may be refused of contents that are reported may be of blobs that are held
   pub run-held : (left : ℕ) (blobs : List BlobView) (stack : StackView) (result : Result Answer EngineFault)
       → IsRunDown left blobs stack (λ one. MayRefuseTold Merge one may_refuse) result → IsRunDown left blobs stack (λ one. MayRefuse Merge one blobs may_refuse) result
   run-held left blobs stack result run = record {

@@ -1,4 +1,4 @@
--- What a run that fails is told as, and numbers within their limits.
+-- What a run that fails is reported as, and numbers within their limits.
 use Rattle.std.proofs.Common.{◌≡◌, ◌≢◌, ◌⊎◌, inl, inr, ℕ, ◌+◌, ◌-◌, ◌<◌, ◌≤◌, true, Result, Ok, Err, List, refl, sym, subst, arith}
 use Rattle.ovl_lookup.specs.Stacks.{StackView}
 use Rattle.ovl_board.specs.declared.assembly.BoardFault.{BoardFault}

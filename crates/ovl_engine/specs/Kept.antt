@@ -76,7 +76,7 @@ FindsNothing before after =
     (blobs : List BlobView) → is_clean (findings blobs before) ≡ true → findings blobs after ≡ []
 
 -- the check is quiet on the stack of the second request: it finds there what is wrong with blobs
--- alone, and nothing with blobs with which it finds no fault in that of the first
+-- by itself, and nothing with blobs with which it finds no fault in that of the first
 pub record IsQuiet (before after : Request) : Type 0 where
   pub blobs_alone : FindsBlobsAlone (stack_of after)
   pub nothing : FindsNothing (stack_of before) (stack_of after)

@@ -1,4 +1,4 @@
--- Merges one after the other, until so many layers are left.
+-- Merges one after the other, until this many layers are left.
 use Rattle.std.specs.Prelude.{◌≡◌, ◌⊎◌, ◌+◌, ◌-◌, ◌<◌, ◌≤◌, ℕ, zero, suc, true, Option, Result, Ok, Err, List, [], ◌∷◌, ◌++◌, drop, length, map, IfOk}
 use Rattle.ovl_names.specs.Paths.{PathNames}
 use Rattle.ovl_layer.specs.Layers.{Entries, IsLayer}
@@ -36,15 +36,15 @@ pub record IsLeftByMerge (stack next : StackView) : Type 0 where
 abbrev pub MergeLeads : List BlobView → StackView → StackView → Type 0
 MergeLeads blobs stack next = (is_clean (findings blobs stack) ≡ true) × IsLeftByMerge stack next
 
--- so many merges lead from a stack to the last, one after the other
+-- this many merges lead from a stack to the last, one after the other
 abbrev pub MergesLead : ℕ → List BlobView → StackView → StackView → Type 0
 MergesLead zero blobs stack last = last ≡ stack
 MergesLead (suc more) blobs stack last =
     (next : StackView) × (MergesLead more blobs stack next × MergeLeads blobs next last)
 
--- what comes of merges of a stack until so many layers are left, where a gate may refuse this of
+-- what comes of merges of a stack until this many layers are left, where a gate may refuse this of
 -- each stack: merges lead to one that has more, and this comes of a merge of that; an answer comes
--- only where it has one more
+-- only if it has one more
 pub record IsRunDown (left : ℕ) (blobs : List BlobView) (stack : StackView)
     (refused : StackView → Type 0) (result : Result Answer EngineFault) : Type 0 where
   pub before : ℕ
@@ -58,7 +58,7 @@ pub record IsRunDown (left : ℕ) (blobs : List BlobView) (stack : StackView)
 abbrev pub count_in : Request → ℕ
 count_in request = length (stack_of request).layers
 
--- nothing refuses to merge until so many layers are left: not the merge, and it is fewer than there
+-- nothing refuses to merge until this many layers are left: not the merge, and it is fewer than there
 -- are, and not none
 abbrev pub IsAcceptedDown : ℕ → Request → Type 0
 IsAcceptedDown left request = IsAccepted request × ((0 < left) × (left < count_in request))
@@ -76,7 +76,7 @@ IsOutcomeOfRun left request run (Ok answer) = IsAcceptedDown left request × run
 IsOutcomeOfRun left request run (Err fault) =
     IsRefusalDown left request fault ⊎ (IsAcceptedDown left request × run)
 
--- what comes of a request's merges until so many layers are left, by a gate that may refuse these
+-- what comes of a request's merges until this many layers are left, by a gate that may refuse these
 -- pieces
 abbrev pub IsOutcomeDown : ℕ → Request → (Piece → Type 0) → Result Answer EngineFault → Type 0
 IsOutcomeDown left request may_refuse result =
@@ -84,7 +84,7 @@ IsOutcomeDown left request may_refuse result =
     (IsRunDown left request.blobs (stack_of request)
     (λ one. MayRefuse Merge one request.blobs may_refuse) result) result
 
--- the same over contents that are told, of a request without blobs
+-- the same over contents that are reported, of a request without blobs
 abbrev pub IsRunDownTold : ℕ → StackView → (List ℕ → Option (List ℕ) → Type 0) → (Piece → Type 0)
     → Result Answer EngineFault → Type 0
 IsRunDownTold left stack may_be may_refuse result =

@@ -61,14 +61,14 @@ pub record IsRewritten (report : List ℕ) (layers : List Entries) (answer : Ans
   pub written : new_manifests answer ≡ map manifest_text layers
   pub clean : answer.clean ≡ true
 
--- the answer of vacuum tells what goes of the topmost layer of this stack and how much is left,
+-- the answer of vacuum states what goes of the topmost layer of this stack and how much is left,
 -- which is the new layer
 abbrev pub IsVacuumed : StackView → Answer → Type 0
 IsVacuumed stack answer =
     IsRewritten (vacuum_report (removed_by_vacuum stack) (length (left_by_vacuum stack)))
     (left_by_vacuum stack ∷ []) answer
 
--- the answer of deref has and tells what the topmost layer of this stack is without redirects and
+-- the answer of deref has and states what the topmost layer of this stack is without redirects and
 -- metacopy files
 pub record IsUnfolded (stack : StackView) (answer : Answer) : Type 0 where
   pub new : Entries
@@ -77,7 +77,7 @@ pub record IsUnfolded (stack : StackView) (answer : Answer) : Type 0 where
   pub within : PassesDerefLimit stack → ⊥
   pub rewritten : IsRewritten (layer_report new) (new ∷ []) answer
 
--- the answer of merge has and tells what the two topmost layers of this stack are as one, under the
+-- the answer of merge has and states what the two topmost layers of this stack are as one, under the
 -- root of the first
 pub record IsMergedInto (stack : StackView) (answer : Answer) : Type 0 where
   pub lower : Entries
@@ -86,7 +86,7 @@ pub record IsMergedInto (stack : StackView) (answer : Answer) : Type 0 where
   pub within : PassesMergeLimit (merge_of stack) → ⊥
   pub rewritten : IsRewritten (layer_report lower) (merged_top (merge_of stack) ∷ lower ∷ []) answer
 
--- the answer of flatten has and tells what this stack shows, as one layer
+-- the answer of flatten has and states what this stack shows, as one layer
 pub record IsFlattenedInto (stack : StackView) (answer : Answer) : Type 0 where
   pub new : Entries
   pub is_layer : IsLayer new
@@ -146,7 +146,7 @@ MayRefuse command stack blobs may_refuse =
     ((checks command ≡ true) × MayRefuseCheck stack blobs may_refuse)
     ⊎ MayRefuseOwn command stack may_refuse
 
--- a run fails by its gate alone, where that may refuse a piece; that memory ran out is told apart
+-- a run fails only by its gate, if that may refuse a piece; that memory ran out is a fault of its own
 abbrev pub IsFailedRun : Type 0 → RunFault → Type 0
 IsFailedRun refused RunWorkers = ⊥
 IsFailedRun refused Gate = refused
@@ -154,7 +154,7 @@ IsFailedRun refused (Board fault) = ⊥
 IsFailedRun refused RunMemory = ⊥
 
 -- a command that makes layers is refused for a fault that is found, and this is the report that
--- tells it
+-- states it
 abbrev pub IsFoundFaulty : Command → List Finding → List ℕ → Type 0
 IsFoundFaulty command found report =
     (makes_layers command ≡ true) × (is_clean found ≡ false) × (report ≡ fsck_report found)

@@ -1,4 +1,4 @@
--- What is asked before contents are told.
+-- What is asked before contents are reported.
 use Rattle.std.specs.Prelude.{◌≡◌, ℕ, true, false, List, []}
 use Rattle.ovl_lookup.specs.Stacks.{StackView}
 use Rattle.ovl_check.specs.Stated.{AreStated}

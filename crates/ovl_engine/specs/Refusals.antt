@@ -85,12 +85,12 @@ first_refusal request =
     else if nat_le (length request.manifests) request.bottom then Some DataLayers
     else elim (input_refusal request) [ Some fault ↦ Some fault | None ↦ lower_refusal request ]
 
--- the fault where the manifest of this index isn't read: out of memory is told as such
+-- the fault where the manifest of this index isn't read: out of memory is reported as such
 abbrev pub unread_layer : ℕ → LayerFault → EngineFault
 unread_layer index UnreadMemory = Memory
 unread_layer index fault = Layer index fault
 
--- the fault where a run gives no walk: out of memory is told as such
+-- the fault where a run gives no walk: out of memory is reported as such
 abbrev pub failed_run : RunFault → EngineFault
 failed_run RunMemory = Memory
 failed_run (Board BoardMemory) = Memory

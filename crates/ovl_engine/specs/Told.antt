@@ -1,4 +1,4 @@
--- What is told of the contents of blobs that needn't be held, and what comes of a command over
+-- What is reported of the contents of blobs that needn't be held, and what comes of a command over
 -- such.
 use Rattle.std.specs.Prelude.{◌≡◌, ◌⊎◌, ℕ, true, Option, Result, Ok, Err, List, All, Contains}
 use Rattle.std.specs.Option.{option_map}
@@ -55,14 +55,14 @@ MayRefuseTold command stack may_refuse =
     ((checks command ≡ true) × MayRefuseLayers stack may_refuse)
     ⊎ MayRefuseOwn command stack may_refuse
 
--- what comes of a command over a stack and contents that are told
+-- what comes of a command over a stack and contents that are reported
 abbrev pub IsRunTold : Command → StackView → (List ℕ → Option (List ℕ) → Type 0) → (Piece → Type 0)
     → Result Answer EngineFault → Type 0
 IsRunTold command stack may_be may_refuse result =
     HoldsOfFound may_be command stack
     (λ found. IsRun command stack found (MayRefuseTold command stack may_refuse) result)
 
--- what comes of a request over contents that are told, which has no blobs; out of memory may come
+-- what comes of a request over contents that are reported, which has no blobs; out of memory may come
 -- at any time
 abbrev pub IsOutcomeTold : Request → (List ℕ → Option (List ℕ) → Type 0) → (Piece → Type 0)
     → Result Answer EngineFault → Type 0
@@ -72,7 +72,7 @@ IsOutcomeTold request may_be may_refuse (Err fault) =
     IsRefusal request fault
     ⊎ (IsAccepted request × IsRunTold request.what (stack_of request) may_be may_refuse (Err fault))
 
--- the same where it may be that they can't be told, for such a fault
+-- the same where it may be that they can't be reported, for such a fault
 abbrev pub IsOutcomeOver : {F : Type 0} → Request → (List ℕ → Option (List ℕ) → Type 0)
     → (F → Type 0) → (Piece → Type 0) → Result Answer (CommandFault F) → Type 0
 IsOutcomeOver request may_be may_fail may_refuse (Ok answer) =

@@ -79,7 +79,7 @@ pub(crate) fn is_clean(found: &[Finding]) -> bool
     count_of_faults(found) == 0
 }
 
-// A directory, with what stands in a report before the names in it. It is kept from line to line,
+// A directory, with what is in a report before the names in it. It is kept from line to line,
 // since what is found in one directory mostly comes together.
 #[derive(Drop)]
 struct Above<'a> {

@@ -59,7 +59,7 @@ pub(crate) fn walked<W: Rewrite + Sync, G: Gate + Sync, R: Threads + Wait + Sync
     Ok(RewriteEnd::of(team.alloc, work, parcels)?)
 }
 
-/// The new layer of such an end. The stack goes first, so that its rows don't stand beside the
+/// The new layer of such an end. The stack goes first, so that its rows aren't beside the
 /// layer.
 pub(crate) fn finished<G, R: Threads + Sync>(
     team: &Team<'_, G, R>,

@@ -29,7 +29,7 @@ pub(crate) fn forty_layer(alloc: Global) -> Result<String, AllocError> {
     format!(in alloc; "root{entries}")
 }
 
-/// What is told of a fault.
+/// What is reported of a fault.
 pub(crate) fn text_of(alloc: Global, fault: Option<EngineFault>) -> Result<String, Fail> {
     match fault {
         Some(fault) => Ok(fault.to_string(alloc)?),
@@ -50,8 +50,8 @@ pub(crate) fn command_of_word(word: &str) -> Result<Command, Fail> {
     }
 }
 
-// A command, how many layers there are, each of a root alone, or `empty` for a manifest of no bytes,
-// how many workers, and blobs; behind ` -> ` what refuses it.
+// A command, how many layers there are, each of only a root, or `empty` for a manifest of no bytes,
+// how many workers, and blobs; after ` -> ` what refuses it.
 const LIMITS: &str = "\
 show 1 0 -> workers must be 1 to 64
 show 1 64 -> none
@@ -72,7 +72,7 @@ merge 129 2 -> layers must be 1 to 128
 merge empty 2 -> layer 0: not JSON
 ";
 
-// So many manifests of a root alone.
+// This many manifests of only a root.
 fn roots(alloc: Global, count: usize) -> Result<Vec<Vec<u8>>, Fail> {
     let mut manifests = Vec::new(alloc);
     for _ in 0..count {
@@ -88,7 +88,7 @@ fn manifests_named(alloc: Global, word: &str) -> Result<Vec<Vec<u8>>, Fail> {
     roots(alloc, word.parse()?)
 }
 
-// How a command of these layers and blobs ends, by so many workers.
+// How a command of these layers and blobs ends, by this many workers.
 fn ended<R: Threads + Wait + Sync>(
     rt: &R,
     alloc: Global,
@@ -127,7 +127,7 @@ fn idle_stack(alloc: Global) -> Result<String, AllocError> {
     format!(in alloc; "{layer} | {layer}")
 }
 
-// What vacuum answers of that by so many workers.
+// What vacuum answers of that by this many workers.
 fn vacuumed<R: Threads + Wait + Sync>(
     rt: &R,
     alloc: Global,
@@ -139,13 +139,13 @@ fn vacuumed<R: Threads + Wait + Sync>(
     Ok(command(rt, alloc, what, manifests, 0, &blobs, workers, &OpenGate)?)
 }
 
-// A failure where an answer doesn't leave a root alone.
+// A failure where an answer doesn't leave only a root.
 fn expect_root_alone(alloc: Global, answer: &Answer) -> Result<(), Fail> {
     expect_so(answer.report.ends_with(b"\nremoved 80 kept 1\n"))?;
     expect_so(answer.layers == roots(alloc, 1)?)
 }
 
-// A failure where so many workers answer something else.
+// A failure where this many workers answer something else.
 fn expect_same<R: Threads + Wait + Sync>(
     rt: &R,
     alloc: Global,

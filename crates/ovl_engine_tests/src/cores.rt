@@ -27,7 +27,7 @@ fn shared(alloc: Global, stack: &Stack, steps: &[Event]) -> Result<String, Fail>
     }
 }
 
-// The pieces of parcels, and behind `=` those of the walk that is assembled from them.
+// The pieces of parcels, and after `=` those of the walk that is assembled from them.
 fn assembled<T: Drop>(alloc: Global, parcels: Vec<Parcel<Vec<(Name, T)>>>) -> Result<String, Fail> {
     if !all_lawful(&parcels) {
         return Err(Fail::new("unlawful kids"));
@@ -60,7 +60,7 @@ fn two_workers_share_the_directories(rt: HostRuntime) -> Result<(), Fail> {
     )
 }
 
-// Whether so many workers are refused.
+// Whether this many workers are refused.
 fn is_refused(alloc: Global, stack: &Stack, workers: usize) -> bool {
     let work = ShowWork::new(stack);
     let core = Core::start(alloc, &work, Piece::root(alloc, 0), workers);

@@ -36,7 +36,7 @@ impl<'a, R: Wait> Asked<'a, R> {
         })
     }
 
-    // Notes that the piece was asked for, and tells how often by now; 0 where it is none of these.
+    // Notes that the piece was asked for, and gives how often by now; 0 if it is none of these.
     fn note(&self, piece: &Piece) -> u64 {
         let mut asked = self.times.lock(self.rt);
         for (known, times) in asked.iter_mut() {
@@ -90,7 +90,7 @@ impl<R: Wait> Gate for Meeting<'_, R> {
     }
 }
 
-// Lets a directory pass but where it is asked for that often.
+// Lets a directory pass unless it is asked for that often.
 #[derive(Drop)]
 struct Refusing<'a, R: Wait> {
     asked: Asked<'a, R>,
@@ -124,7 +124,7 @@ const TWO: &str = "/a /b";
 
 // A command, its stack, and pieces of one of its spaces: a layer, or that of the blobs, where `/ba`
 // and `/fb` are those of `abc` and of `ab`; of layers there are no blobs. The last three lines are of directories of the new
-// layer alone, which no check visits.
+// layer, which no check visits.
 const SHARED: &str = "\
 show of dir /a, dir /b | root -> 0 /a /b
 fsck of dir /a, dir /b | root -> 0 /a /b
@@ -180,7 +180,7 @@ fn two_workers_of_a_command_meet_and_one_is_refused(rt: HostRuntime) -> Result<(
     Ok(())
 }
 
-// As many workers as there are pieces, and behind them a row as above.
+// As many workers as there are pieces, and after them a row as above.
 const CREWS: &str = "\
 4 show of dir /a, dir /b, dir /c, dir /d | root -> 0 /a /b /c /d
 4 fsck of root | dir /a, dir /b, dir /c, dir /d -> 1 /a /b /c /d
@@ -237,7 +237,7 @@ fn a_new_layer_is_made_by_asked_visits_once_the_check_has_found_no_fault(
     Ok(())
 }
 
-// A failure where something else is told of a fault of a run.
+// A failure where something else is reported of a fault of a run.
 fn run_told(alloc: Global, fault: RunFault, wanted: &str) -> Result<(), Fail> {
     let text = text_of(alloc, Some(EngineFault::from(fault)))?;
     same("a fault of a run", text.as_str(), wanted)
@@ -288,7 +288,7 @@ fn directories(alloc: Global, paths: &str) -> Result<String, Fail> {
     Ok(entries)
 }
 
-// Workers and the directories that are to meet, and behind them the parcels, and what is known,
+// Workers and the directories that are to meet, and after them the parcels, and what is known,
 // delivered, taken and left.
 const RUNS: &str = "\
 2 /a /b -> 3: 3 3 3 0

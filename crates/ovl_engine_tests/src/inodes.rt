@@ -11,8 +11,8 @@ use ovl_test_rows::{parts_of, repeated, same};
 use std::alloc::{AllocError, Global};
 use std::test::Fail;
 
-// In a redirect each letter stands for the byte of its number. A mark stands before whether it is
-// told as a whiteout and as a directory.
+// In a redirect each letter stands for the byte of its number. A mark comes before whether it is
+// taken for a whiteout and as a directory.
 const ROWS: &str = "\
 digest: ca978112ca1bbdcafac231b39a23dc4da786eff8147c4e72b9807785afee48bb -> ca978112ca1bbdcafac231b39a23dc4da786eff8147c4e72b9807785afee48bb
 digest: ca978112ca1bbdcafac231b39a23dc4da786eff8147c4e72b9807785afee48b -> the digest has not 64 digits
@@ -58,7 +58,7 @@ mark: bare /a metacopy= redirect=/x -> Meta to /x false false
 mark: bare /a metacopy= redirect=a/b -> MetaBad false false
 ";
 
-// A digest's digits, or what is told of its fault.
+// A digest's digits, or what is reported of its fault.
 fn digest_told(alloc: Global, text: &str) -> Result<String, AllocError> {
     match Digest::parse(text) {
         Ok(digest) => String::from_str(alloc, digest.digits().as_str()),
@@ -167,7 +167,7 @@ fn shown_place(alloc: Global, redirect: &Redirect) -> Result<String, AllocError>
     }
 }
 
-// A path or a name, as reports show it, or what is told of a redirect's fault.
+// A path or a name, as reports show it, or what is reported of a redirect's fault.
 fn redirect_told(alloc: Global, text: &str) -> Result<String, AllocError> {
     let value = bytes_of(alloc, text)?;
     match read_redirect(alloc, &value) {

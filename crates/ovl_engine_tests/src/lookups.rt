@@ -12,9 +12,9 @@ use ovl_test_rows::{parts_of, same};
 use std::alloc::{AllocError, Global};
 use std::test::Fail;
 
-// A line of a stack is of the lines behind it. Of these the words before the colon are a call, of
-// layer 0 or from it on where no other number stands there, a path, and for views names to go down
-// by; behind the colon stands what comes of it.
+// A line of a stack is of the lines after it. Of these the words before the colon are a call, of
+// layer 0 or from it on where no other number is there, a path, and for views names to go down
+// by; after the colon stands what comes of it.
 const ROWS: &str = "
 dir /n opaque=y, dir /n/d redirect=/x, whiteout /x | dir /n, file /n/z, dir /x, file /x/k
 layers /: 2
@@ -140,7 +140,7 @@ fn walked(alloc: Global, stack: &Stack, path: &Path) -> Result<String, Fail>
     )
 }
 
-// What a call tells, where another one tells the same.
+// What a call gives, where another one gives the same.
 fn alike(told: String, other: &str) -> Result<String, Fail> {
     if told.as_str() == other {
         return Ok(told);
@@ -157,7 +157,7 @@ fn joined(alloc: Global, names: &[Name]) -> Result<String, AllocError> {
     Ok(text)
 }
 
-// Adds a word, behind a comma where there is one before it.
+// Adds a word, after a comma where there is one before it.
 fn push_word(text: &mut String, word: &str) -> Result<(), AllocError> {
     if !text.is_empty() {
         text.push_str(", ")?;
@@ -200,7 +200,7 @@ fn names_in(alloc: Global, stack: &Stack, view: &DirView<'_>) -> Result<String, 
     Ok(text)
 }
 
-// What is shown in the directory of a view, by each call that tells it.
+// What is shown in the directory of a view, by each call that gives it.
 fn shown_in(alloc: Global, stack: &Stack, view: &DirView<'_>) -> Result<String, Fail>
     requires { IsViewOver stack.now view.now }
 {
@@ -278,7 +278,7 @@ fn truth(alloc: Global, is: bool) -> Result<String, AllocError> {
     String::from_str(alloc, if is { "true" } else { "false" })
 }
 
-// What comes of a call that tells names or entries.
+// What comes of a call that gives names or entries.
 fn named_told(alloc: Global, stack: &Stack, call: &str, path: &Path) -> Result<String, AllocError>
     requires { 1 < length (all_layers stack.now) }
 {
@@ -307,7 +307,7 @@ fn told(alloc: Global, stack: &Stack, call: &str, path: &Path) -> Result<String,
     }
 }
 
-// What comes of a view, of a path and of the names behind it.
+// What comes of a view, of a path and of the names after it.
 fn view_told(alloc: Global, stack: &Stack, text: &str) -> Result<String, Fail> {
     let (path, names) = text.split_once(' ').unwrap_or((text, ""));
     let (first, second) = names.split_once(' ').unwrap_or((names, ""));
@@ -323,7 +323,7 @@ fn called(alloc: Global, stack: &Stack, line: &str) -> Result<String, Fail> {
     told(alloc, stack, call, &Path::parse(alloc, text)?)
 }
 
-// What the line of a call tells.
+// What the line of a call gives.
 fn line_told(alloc: Global, stack: &Stack, line: &str) -> Result<(), Fail> {
     let (call, wanted) = line.split_once(':').unwrap_or((line, ""));
     same(
@@ -346,7 +346,7 @@ fn stacks_show_what_is_written(rt: HostRuntime) -> Result<(), Fail> {
     Ok(())
 }
 
-// So many layers of a root alone.
+// This many layers of only a root.
 fn roots(alloc: Global, count: usize) -> Result<Vec<Layer>, Fail> {
     let mut layers = Vec::new(alloc);
     for _ in 0..count {
@@ -355,7 +355,7 @@ fn roots(alloc: Global, count: usize) -> Result<Vec<Layer>, Fail> {
     Ok(layers)
 }
 
-// How many layers a stack has, and how many that aren't data-only; or what is told of its fault.
+// How many layers a stack has, and how many that aren't data-only; or the text of its fault.
 fn counted(alloc: Global, made: Result<Stack, StackFault>) -> Result<String, AllocError> {
     match made {
         Ok(stack) => format!(in alloc; "{} {}", stack.layers(), stack.ordinary()),

@@ -59,7 +59,7 @@ fn fault_told(alloc: Global, text: &str, by_layer: bool) -> Result<String, Alloc
     }
 }
 
-// Names, each with `;` behind it.
+// Names, each with `;` after it.
 fn listed(alloc: Global, names: &[Name]) -> Result<String, AllocError> {
     let mut text = String::new(alloc);
     for name in names {
@@ -251,7 +251,7 @@ fn expect_fault(alloc: Global, bytes: &[u8], fault: Option<LayerFault>) -> Resul
     expect_at(bytes.len(), fault_of(alloc, bytes, false) == fault)
 }
 
-// A failure where a manifest of so many bytes is read with fewer than all but its newline.
+// A failure where a manifest of this many bytes is read with fewer than all but its newline.
 fn expect_whole(alloc: Global, manifest: &[u8], length: usize) -> Result<(), Fail> {
     expect_at(manifest.len(), manifest.len() == length)?;
     let whole = manifest.len().saturating_sub(1);

@@ -43,7 +43,7 @@ parent: / -> none
 pushed-and-joined: /a b -> /a/b/a/b
 ";
 
-// A name as reports show it, or what is told of its fault.
+// A name as reports show it, or what is reported of its fault.
 fn name_told(alloc: Global, text: &str) -> Result<String, AllocError> {
     match Name::of(alloc, text) {
         Ok(name) => name.copy(alloc)?.shown(alloc),
@@ -56,7 +56,7 @@ fn shown_with_length(alloc: Global, path: &Path) -> Result<String, AllocError> {
     format!(in alloc; "{} {shown}", path.len())
 }
 
-// How many names a path has, and it as reports show it, or what is told of its fault.
+// How many names a path has, and it as reports show it, or what is reported of its fault.
 fn path_told(alloc: Global, text: &str) -> Result<String, AllocError> {
     match Path::parse(alloc, text) {
         Ok(path) => shown_with_length(alloc, &path),
@@ -64,7 +64,7 @@ fn path_told(alloc: Global, text: &str) -> Result<String, AllocError> {
     }
 }
 
-// How many names a path has, or what is told of its fault.
+// How many names a path has, or what is reported of its fault.
 fn depth_told(alloc: Global, text: &str) -> Result<String, AllocError> {
     match Path::parse(alloc, text) {
         Ok(path) => format!(in alloc; "{} names", path.len()),
@@ -72,7 +72,7 @@ fn depth_told(alloc: Global, text: &str) -> Result<String, AllocError> {
     }
 }
 
-// The same of a path of so many bytes, at most 4,096: each name but the last has 255.
+// The same of a path of this many bytes, at most 4,096: each name but the last has 255.
 fn long_path_told(alloc: Global, bytes: &str) -> Result<String, AllocError> {
     let name = "n".repeat(alloc, 255)?;
     let names = format!(in alloc; "/{name}")?.as_str().repeat(alloc, 16)?;
@@ -101,7 +101,7 @@ fn parent_told(alloc: Global, path: &str) -> Result<String, Fail> {
     }
 }
 
-// A path to which a name was pushed, with its own names behind it.
+// A path to which a name was pushed, with its own names after it.
 fn joined_told(alloc: Global, path: &str, name: &str) -> Result<String, Fail> {
     let mut path = Path::parse(alloc, path)?;
     path.push(&Name::of(alloc, name)?)?;

@@ -94,7 +94,7 @@ fn push_entry(alloc: Global, text: &mut String, entry: &str) -> Result<(), Fail>
     Ok(())
 }
 
-// Adds so many directories, each inside the one before and of its name; the deepest has the
+// Adds this many directories, each inside the one before and of its name; the deepest has the
 // attributes.
 fn push_chain(alloc: Global, text: &mut String, count: usize, first: &str) -> Result<(), Fail> {
     let (path, attributes) = first.split_once(' ').unwrap_or((first, ""));
@@ -111,7 +111,7 @@ fn push_chain(alloc: Global, text: &mut String, count: usize, first: &str) -> Re
     )
 }
 
-// Adds an entry, or a chain of directories where a number and `*` stand before it.
+// Adds an entry, or a chain of directories where a number and `*` are before it.
 fn push_entries_of(alloc: Global, text: &mut String, words: &str) -> Result<(), Fail> {
     match words.split_once("*dir ") {
         Some((count, first)) => push_chain(alloc, text, count.parse()?, first),
@@ -140,7 +140,7 @@ fn stands_for_itself(entries: &str) -> bool {
 }
 
 /// The manifest of these entries, with commas between them, under a root of mode 0755 where none of
-/// them is one, as new layers are written: `root` is such a root alone. An entry is the word of its
+/// them is one, as new layers are written: `root` is only such a root. An entry is the word of its
 /// kind, its path and its attributes, as `dir /d redirect=/x user.k=v`; `3*dir /a` is `/a`, `/a/a`
 /// and `/a/a/a`. A text in brackets stands for itself, and so does none.
 pub(crate) fn manifest_of(alloc: Global, entries: &str) -> Result<Vec<u8>, Fail> {
@@ -199,7 +199,7 @@ fn push_blob(alloc: Global, blobs: &mut Vec<Blob>, word: &str) -> Result<(), All
     Ok(())
 }
 
-/// A blob for each word, in this order: of the bytes of the word, or of those behind `=`, where it
+/// A blob for each word, in this order: of the bytes of the word, or of those after `=`, where it
 /// has the name of those before.
 pub(crate) fn blobs_of(alloc: Global, words: &str) -> Result<Vec<Blob>, AllocError> {
     let mut blobs = Vec::new(alloc);

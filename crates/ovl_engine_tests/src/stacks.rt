@@ -307,7 +307,7 @@ fn in_full(alloc: Global, report: &str) -> Result<String, AllocError> {
     Ok(text)
 }
 
-// What a row wants: a report with the new layers' manifests behind it, or what refuses the command.
+// What a row wants: a report with the new layers' manifests after it, or what refuses the command.
 fn wanted_of(alloc: Global, wanted: &str) -> Result<String, Fail> {
     let (report, layers) = wanted.split_once(" => ").unwrap_or((wanted, ""));
     let mut text = in_full(alloc, report)?;

@@ -31,10 +31,10 @@ module _ (stack : StackView) (each : All IsLayer stack.layers) where
       by None e is = let bad : false ≡ true = is in cc
       by (Some inode) e is = ShowsWithinDepth-holds stack each path (inode-shows (look stack path) inode e)
 
-  -- its names tell the flattened layer
+  -- its names give the flattened layer
   pub told : AreNamesOf (flattened_at stack) (kids_along stack) (flatten_depth stack)
   told = record { in_order = kids-ascend stack; named = named; closed = parent-shown stack each; shallow = directory-limited }
 
-  -- visits tell it
+  -- visits give it
   pub tells : TellsLayer (flattened_at stack) (flatten_kids stack) (flatten_out stack)
   tells = layer-told (flattened_at stack) (kids_along stack) (flatten_depth stack) told

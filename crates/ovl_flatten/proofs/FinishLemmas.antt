@@ -24,6 +24,6 @@ module _ (stack : StackView) (each : All IsLayer stack.layers) (some : 0 < lengt
       let own = directory-entry (top_layer stack) [] (top-layer stack some each).rooted in
       root-shown stack each some own.0 own.1 ∙ (ap (option_map visible) (sym own.1) ∙ is)
 
-  -- the plain walk tells the flattened layer
+  -- the plain walk gives the flattened layer
   pub walk-tells : (root : Inode) (views : List InodesParcel) → option_map visible (entry_at (top_layer stack) []) ≡ Some root → IsFlattenWalk stack views → IsToldWithin (flattened_at stack) root views
   walk-tells root views here walk = record { names = kids_along stack; deepest = flatten_depth stack; told = told stack each; rooted = root-told root here; walk = walk }

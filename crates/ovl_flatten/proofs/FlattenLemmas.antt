@@ -1,4 +1,4 @@
--- What a flattened layer has, that it shows alone what was shown, and that it is sound and has no marks.
+-- What a flattened layer has, that it shows by itself what was shown, and that it is sound and has no marks.
 use Rattle.std.proofs.Common.{◌≡◌, ◌<◌, true, false, Option, Some, None, [], length, refl, sym, ap, ◌∙◌}
 use Rattle.std.specs.Prelude.{nat_le}
 use Rattle.std.specs.List.{list_all, All}

@@ -1,4 +1,4 @@
--- Laws of flatten: what a sound stack shows, as one layer, is a layer; alone it shows the same, and
+-- Laws of flatten: what a sound stack shows, as one layer, is a layer; by itself it shows the same, and
 -- has no marks.
 use Rattle.std.specs.Prelude.{◌≡◌, ◌<◌, length}
 use Rattle.std.specs.List.{All}
@@ -31,7 +31,7 @@ FlattenGivesLayer =
     → All IsLayer stack.data_only →
     IsSoundStack stack → IsLayerWithinLimits (flattened_at stack)
 
--- it is the one layer without marks that shows alone what the stack shows
+-- it is the one layer without marks that shows by itself what the stack shows
 abbrev pub FlattenIsTheOne : Type 0
 FlattenIsTheOne = (stack : StackView) (layer : Entries) → IsLayer layer → HasNoMarks layer →
     ((path : PathNames) → look (alone layer) path ≡ look stack path) → IsFlattened layer stack

@@ -19,19 +19,19 @@ use Rattle.ovl_inode.specs.declared.tables.AttributePlace.{AttributePlace}
 use Rattle.ovl_inode.specs.Attributes.{Attributes}
 use Rattle.ovl_inode.specs.Tables.{bytes_of, attribute_of, attributes_of, name_bytes, value_bytes, IsPart, IsTextPart, IsAttributePlace, ArePlaces, IsFull}
 
--- a part of bytes, with more behind them
+-- a part of bytes, with more after them
 bytes_of-onto : (bytes more : List ℕ) (part : Part) → part.start ≤ part.end → part.end ≤ length bytes → bytes_of (bytes ++ more) part ≡ bytes_of bytes part
 bytes_of-onto bytes more part order inside =
     ap (take (part.end - part.start)) (drop-append-le part.start bytes more (omega (arith, order, inside)))
     ∙ take-append-le (part.end - part.start) (drop part.start bytes) more (omega (arith, order, inside, length-drop part.start bytes))
 
--- the part that is behind bytes
+-- the part that is after bytes
 pub bytes_of-behind : (bytes more : List ℕ) (part : Part) → part.start ≡ length bytes → part.end ≡ length bytes + length more → bytes_of (bytes ++ more) part ≡ more
 bytes_of-behind bytes more part start end =
     rw (start, end) (ap (take (length bytes + length more - length bytes)) (drop-append_seam bytes more)
     ∙ (ap (λ n. take n more) (omega arith) ∙ take-length more))
 
--- where a text may be cut it may be cut with more behind it
+-- where a text may be cut it may be cut with more after it
 boundary-onto : (text more : List ℕ) (i : ℕ) → IsUtf8 more → IsCharBoundary text i → IsCharBoundary (text ++ more) i
 boundary-onto text more i utf8 cut = by (nat_lt i (length text)) refl
   where
@@ -73,7 +73,7 @@ pub attributes_of-grown : (names values name value : List ℕ) (places : List At
 attributes_of-grown names values name value places more_names more_values texts bytes are =
     rw (texts, bytes) (attributes_of-onto names values name value places are)
 
--- the part of a text that is behind it, and that of bytes
+-- the part of a text that is after it, and that of bytes
 pub text_part-behind : (text more : List ℕ) (part : Part) → IsUtf8 more → part.start ≡ length text → part.end ≡ length text + length more → IsTextPart (text ++ more) part
 text_part-behind text more part utf8 start end = record {
   order = omega (arith, start, end);
@@ -96,12 +96,12 @@ map-insert f [] (suc i) x = refl
 map-insert f (own ∷ xs) zero x = refl
 map-insert f (own ∷ xs) (suc i) x = ap (λ rest. f own ∷ rest) (map-insert f xs i x)
 
--- a part that is behind others, and is so long
+-- a part that is after others, and is so long
 pub record IsBehind (bytes more : List ℕ) (part : Part) : Type 0 where
   pub start : part.start ≡ length bytes
   pub end : part.end ≡ length bytes + length more
 
--- an attribute whose name and value are put behind all others
+-- an attribute whose name and value are put after all others
 pub insert-full : (names values name value more_names more_values : List ℕ) (places more_places : List AttributePlace) (i : ℕ) (own : AttributePlace) → IsUtf8 name → IsBehind names name own.name → IsBehind values value own.value
     → more_names ≡ names ++ name → more_values ≡ values ++ value → more_places ≡ insert places i own → IsFull names values places
     → IsFull more_names more_values more_places × (attributes_of more_names more_values more_places ≡ insert (attributes_of names values places) i (name, value))
@@ -141,7 +141,7 @@ set_from number place value (attr ∷ attrs) = (if number == place then (attr.0,
 pub differ : (a b : ℕ) → (a ≡ b → ⊥) → (a == b) ≡ false
 differ a b apart = elim (eqb_tells a b) [ inl same ↦ absurd (apart same.1) | inr other ↦ other.0 ]
 
--- one attribute more is put behind the others
+-- one attribute more is put after the others
 pub set-step : (table more old rest all : Attributes) (place number : ℕ) (value : List ℕ) (attr put : List ℕ × List ℕ) → number ≡ length table → more ≡ insert table number put → old ≡ attr ∷ rest → put ≡ (if number == place then (attr.0, value) else attr)
     → table ++ set_from (length table) place value old ≡ all → more ++ set_from (length more) place value rest ≡ all
 set-step table more old rest all place number value attr put end grown first is kept =

@@ -1,4 +1,4 @@
--- The tests of equality tell it, so that they are equivalences.
+-- The tests of equality decide it, so that they are equivalences.
 use Rattle.std.proofs.Common.{◌≡◌, ℕ, true, false, Option, Some, None, List, refl, sym, ap, ◌∙◌}
 use Rattle.std.specs.Prelude.{◌&&◌, ◌==◌}
 use Rattle.std.specs.Option.{option_eq}

@@ -16,7 +16,7 @@ abbrev pub is_absolute : List ℕ → Bool
 is_absolute [] = false
 is_absolute (byte ∷ bytes) = byte == slash
 
--- the names that a value spells: what stands between its separators, after the first of an absolute
+-- the names that a value spells: what is between its separators, after the first of an absolute
 -- one
 abbrev pub redirect_parts : List ℕ → List (List ℕ)
 redirect_parts value = parts_between (if is_absolute value then drop 1 value else value)

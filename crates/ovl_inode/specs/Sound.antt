@@ -38,7 +38,7 @@ is_target text =
     nat_lt 0 (length text) && nat_le (length text) target_limit
     && not (list_any (λ byte. byte == 0) text) && is_utf8 text
 
--- a file has a blob exactly where its size is over 0 and it has no `metacopy`
+-- a file has a blob exactly if its size is over 0 and it has no `metacopy`
 abbrev pub has_sound_blob : ℕ → Option Digest → Bool → Bool
 has_sound_blob size (Some blob) metacopy = nat_lt 0 size && not metacopy && is_digest blob
 has_sound_blob size None metacopy = not (nat_lt 0 size && not metacopy)

@@ -63,7 +63,7 @@ module _ (entries : Entries) where
   abbrev pub after_of : ℕ → ℕ
   after_of number = suc (number + count_deeper (length (path_at entries number)) (drop (suc number) entries))
 
-  -- the first `after` entries behind `number` are known to be under it
+  -- the first `after` entries after `number` are known to be under it
   pub record IsUnderTo (number after : ℕ) : Type 0 where
     pub count : suc number + count_deeper (length (path_at entries number)) (drop (suc number) entries) ≡ after + count_deeper (length (path_at entries number)) (drop after entries)
     pub later : suc number ≤ after

@@ -20,7 +20,7 @@ use Rattle.ovl_layer.proofs.OpenLemmas.{path_cmp-under}
 use Rattle.ovl_layer.proofs.LayerLemmas.{path_order, path_cmp-same, in_parent, after-some}
 use Rattle.ovl_layer.proofs.EntryLemmas.{entry-taken, counted, one_taken}
 
--- ---- the directory of an entry stands before it
+-- ---- the directory of an entry is before it
 
 child-after : (directory : PathNames) (name : PathName) → is_lt (path_cmp directory (child_path directory name)) ≡ true
 child-after [] name = refl

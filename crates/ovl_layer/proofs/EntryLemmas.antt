@@ -41,7 +41,7 @@ one_more before (Some entry) entries is = by (entry_fault before entry) refl
     by None e = let made : Ok (before ++ entry ∷ []) ≡ Ok entries = rw (e, entry_after) at is in let same : before ++ entry ∷ [] ≡ entries = cc in ap length (sym same) ∙ length-append before (entry ∷ [])
     by (Some fault) e = let bad : Err fault ≡ Ok entries = rw (e, entry_after) at is in cc
 
--- the fault that is stated is told
+-- the fault that is stated is given
 pub is_told : (stated : Result Entries LayerFault) (fault : LayerFault) → stated ≡ Err fault → IsFaultOf stated fault
 is_told stated NotJson is = is
 is_told stated Shape is = is
@@ -144,7 +144,7 @@ well_counted pairs more pair is limit = rw (none, most) refl
     most : nat_lt entry_limit (length pairs) ≡ false
     most = grind (arith, nat_tests)
 
--- where it isn't taken, its fault is one of a first entry, and is told
+-- where it isn't taken, its fault is one of a first entry, and is given
 fails_first : (one : Option Entry) (fault : LayerFault) → entry_after [] one ≡ Err fault → is_of_first fault ≡ true
 fails_first None fault is = let same : WrongEntry 0 ≡ fault = cc in ap is_of_first (sym same)
 fails_first (Some entry) fault is = by (has_escaped_name entry.1.attrs) (is_root entry.0 && is_directory entry.1) is
@@ -206,7 +206,7 @@ told_later first before one (Order n) is = refl
 told_later first before one (NoParent n) is = refl
 told_later first before one Memory is = refl
 
--- what a result tells that has no fault of its count or of its first entry
+-- what a result states that has no fault of its count or of its first entry
 module _ {T : Type 0} (result : Result T LayerFault) (pairs : Entries) (later : (fault : LayerFault) → result ≡ Err fault → is_later fault ≡ true) where
   pub count_later : is_miscounted (length pairs) ≡ false → (result ≡ Err Count) ↔ IsTrue (is_miscounted (length pairs))
   count_later few = (λ is. let bad : false ≡ true = later Count is in cc, λ many. let bad : false ≡ true = sym few ∙ many in cc)

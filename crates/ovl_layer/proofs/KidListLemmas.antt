@@ -183,7 +183,7 @@ counts-fit parents m directory inside =
 
 -- ---- where the kids of each row end
 
--- the ends of the first rows stand there, and the counts of the others
+-- the ends of the first rows are there, and the counts of the others
 pub record AreKidEndsTo (parents : List ℕ) (row : ℕ) (numbers : List ℕ) : Type 0 where
   pub count : length numbers ≡ suc (length parents)
   pub ends : (number : ℕ) → number < row → number ≤ length parents → slice_index numbers number ≡ count_below (drop 1 parents) (suc number)
@@ -238,7 +238,7 @@ ends-all parents ends row all are = record {
 
 -- ---- placing the kids from the last row on
 
--- the kids from this number on stand in their places, and each row's begin where those that are placed begin
+-- the kids from this number on are in their places, and each row's begin where those that are placed begin
 pub record ArePlaced (parents : List ℕ) (number : ℕ) (starts kids : List ℕ) : Type 0 where
   pub count : length starts ≡ suc (length parents)
   pub room : length kids ≡ count_below (drop 1 parents) (suc (length parents))
@@ -264,7 +264,7 @@ module _ (parents : List ℕ) (m : ℕ) (starts kids : List ℕ) (some : 1 ≤ m
   other-grown : (directory : ℕ) → (get_or parents m 0 == directory) ≡ false → kid_numbers m (drop m parents) directory ≡ kid_numbers (suc m) (drop (suc m) parents) directory
   other-grown directory differs = grown directory ∙ ap (λ b. cond b (m ∷ later directory) (later directory)) differs
 
-  -- a row's places lie behind those of the rows before it
+  -- a row's places lie after those of the rows before it
   begins : (directory : ℕ) → directory ≤ length parents → count_below (drop 1 parents) directory ≤ slice_index starts directory
   begins directory few = omega (arith, are.left directory few, count-next 1 (drop 1 parents) directory, kids-from parents (suc m) directory (omega arith))
 

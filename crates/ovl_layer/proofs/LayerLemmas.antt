@@ -29,7 +29,7 @@ path_order = lists_total nat_list_cmp_total
 
 -- ---- an entry after the last
 
--- a path comes after all entries of a list in order exactly where it comes after the last
+-- a path comes after all entries of a list in order exactly if it comes after the last
 later-all : (front : Entries) (last path : PathNames) (inode : Inode) → list_all (λ e. is_lt (entry_cmp e (last, inode))) front ≡ true → is_lt (path_cmp last path) ≡ true → comes_after front path ≡ true
 later-all [] last path inode before after = refl
 later-all (entry ∷ front) last path inode before after =
@@ -188,7 +188,7 @@ IsLayer-more layer path inode is after parent named sound unescaped limited room
   counted = rw (length-append layer ((path, inode) ∷ [])) (le-leb (length layer + 1) entry_limit (omega (arith, room)));
 }
 
--- a root alone
+-- only a root
 pub IsLayer-root : (inode : Inode) → is_directory inode ≡ true → is_sound_inode inode ≡ true → has_escaped_name inode.attrs ≡ false → IsLayer (([], inode) ∷ [])
 IsLayer-root inode directory sound unescaped = record {
   in_order = refl;

@@ -28,7 +28,7 @@ name_eq-same name = (bytes_decides name name).1 refl
 pub name_eq-cmp : (name other : PathName) (o : Ordering) → name_cmp name other ≡ o → name_eq name other ≡ is_eq o
 name_eq-cmp name other o e = sym (is_eq-slice_cmp name other) ∙ ap is_eq e
 
--- what stands under a name, seen from there
+-- what is under a name, seen from there
 pub entries_in-under_same : (name own : PathName) (entries : Entries) → name_eq name own ≡ true → entries_in name (under own entries) ≡ entries
 entries_in-under_same name own [] same = refl
 entries_in-under_same name own (entry ∷ entries) same = rw same (ap (λ rest. entry ∷ rest) (entries_in-under_same name own entries same))
@@ -37,7 +37,7 @@ pub entries_in-under_other : (name own : PathName) (entries : Entries) → name_
 entries_in-under_other name own [] other = refl
 entries_in-under_other name own (entry ∷ entries) other = rw other (entries_in-under_other name own entries other)
 
--- where no node has the name, nothing stands under it
+-- where no node has the name, nothing is under it
 pub entries_in-none : (name : PathName) (nodes : List NodeView) → list_all (λ node. not (name_eq name node.name)) nodes ≡ true → entries_in name (entries_of_nodes nodes) ≡ []
 entries_in-none name [] none = refl
 entries_in-none name (node ∷ nodes) none =
@@ -68,7 +68,7 @@ entries_in-node (first ∷ nodes) (suc place) node up at =
     filter_map-append (entry_in node.name) (under first.name (entries_from first.inode first.below)) (entries_of_nodes nodes)
     ∙ (λ j. entries_in-under_other node.name first.name (entries_from first.inode first.below) other j ++ entries_in-node nodes place node parts.1 at j)
 
--- what stands at a path is what stands at its rest, seen from its first name
+-- what is at a path is what is at its rest, seen from its first name
 pub entry_at-in : (entries : Entries) (name : PathName) (path : PathNames) → entry_at entries (name ∷ path) ≡ entry_at (entries_in name entries) path
 entry_at-in [] name path = refl
 entry_at-in (([], inode) ∷ entries) name path = entry_at-in entries name path
@@ -101,7 +101,7 @@ pub names_below-under : (path : PathNames) (entries : Entries) → names_below e
 names_below-under [] entries = refl
 names_below-under (name ∷ path) entries = names_below-in entries name path ∙ names_below-under path (entries_in name entries)
 
--- below a node nothing lies at the node itself, so its name alone lies directly below its directory
+-- below a node nothing lies at the node itself, so only its name lies directly below its directory
 deeper : (name own : PathName) (entries : Entries) → names_below (under name (under own entries)) [] ≡ []
 deeper name own [] = refl
 deeper name own (entry ∷ entries) = deeper name own entries

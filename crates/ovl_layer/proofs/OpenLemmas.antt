@@ -33,7 +33,7 @@ pub ascends-under : (name : PathName) (entries : Entries) → ascends entry_cmp 
 ascends-under name [] = refl
 ascends-under name (entry ∷ entries) = λ j. list_all-under name entry entries j && ascends-under name entries j
 
--- what is in order behind the root
+-- what is in order after the root
 pub ascends-below : (inode : Inode) (below : Entries) → ascends entry_cmp (entries_from inode below) ≡ true → ascends entry_cmp below ≡ true
 ascends-below inode below up = (both {a = list_all (λ later. is_lt (entry_cmp ([], inode) later)) below} {b = ascends entry_cmp below} up).1
 
@@ -145,7 +145,7 @@ placed-deeper name path (entry ∷ entries) = ap (λ rest. (name ∷ (path ++ en
 under-append : (name : PathName) (one other : Entries) → under name (one ++ other) ≡ under name one ++ under name other
 under-append name one other = map-append (λ (entry : Entry). (name ∷ entry.0, entry.1)) one other
 
--- one more open node, the entries of which stand at the end
+-- one more open node, the entries of which are at the end
 pub opened : (spine : List NodeView) (node : NodeView) → entries_of_open (spine ++ node ∷ []) ≡ entries_of_open spine ++ placed (map (λ n. n.name) spine) (entries_of_open (node ∷ []))
 opened [] node = sym (placed-root (entries_of_open (node ∷ [])))
 opened (first ∷ spine) node =
@@ -155,7 +155,7 @@ opened (first ∷ spine) node =
     ∙ (under-append first.name (entries_from first.inode (first.below ++ entries_of_open spine)) rest
     ∙ ap (λ (below : Entries). under first.name (entries_from first.inode (first.below ++ entries_of_open spine)) ++ below) (placed-deeper first.name (map (λ n. n.name) spine) (entries_of_open (node ∷ []))))
 
--- ---- what stands on the way to the last entry
+-- ---- what is on the way to the last entry
 
 pub inode_on_way-open : (inode : Inode) (spine : List NodeView) (k : ℕ) (d : NodeView) → k < length spine → inode_on_way inode spine (suc k) ≡ (get_or spine k d).inode
 inode_on_way-open inode [] k d inside = absurd (omega arith)

@@ -71,7 +71,7 @@ slice_get-take [] (suc n) k less = refl
 slice_get-take (x ∷ xs) (suc n) zero less = refl
 slice_get-take (x ∷ xs) (suc n) (suc k) less = slice_get-take xs n k (omega (arith, less))
 
--- its entry stands at the end
+-- its entry is at the end
 with-more : (before : Entries) (rows : List SheetRow) (row : SheetRow) → entries_with before (rows ++ row ∷ []) ≡ entries_with before rows ++ (row_path (entries_with before rows) row.parent row.name, row.inode) ∷ []
 with-more before [] row = refl
 with-more before (first ∷ rows) row = with-more (before ++ (row_path before first.parent first.name, first.inode) ∷ []) rows row
@@ -107,7 +107,7 @@ with-inode before (first ∷ rows) (suc i) n row is at =
     let own : Entry = (row_path before first.parent first.name, first.inode) in
     with-inode (before ++ own ∷ []) rows i n row (omega (arith, is, length-append before (own ∷ []))) at
 
--- ---- a root alone
+-- ---- only a root
 
 pub root-draft : (inode : Inode) (next : ℕ) → is_directory inode ≡ true → is_sound_inode inode ≡ true → has_escaped_name inode.attrs ≡ false → AreDrafted ((record { name = None; inode = inode; parent = 0; after = next }) ∷ []) (0 ∷ []) []
 root-draft inode next directory sound unescaped = record {
@@ -229,7 +229,7 @@ module _ (rows : List SheetRow) (way : List ℕ) (last : PathNames) (is : AreDra
         ends = (entries_of_rows rows, inode, entered);
       }
 
-  -- the row of a number behind the root's has the name that the last path has there
+  -- the row of a number after the root's has the name that the last path has there
   pub name-on_way : (depth number : ℕ) → depth < length last → slice_get way (depth + 1) ≡ Some number → (own : SheetRow) → slice_get rows number ≡ Some own → (d : PathName) → own.name ≡ Some (get_or last depth d)
   name-on_way depth number inside at own listed d =
       name-at rows is.made number own listed

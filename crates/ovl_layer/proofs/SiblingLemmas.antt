@@ -233,7 +233,7 @@ names-later (node ∷ front) last name all before =
     let parts = both {a = is_lt (node_cmp node last)} {b = list_all (λ n. is_lt (node_cmp n last)) front} all in
     rw (nat_list_cmp_total.trans node.name last.name name (is_lt-Less (node_cmp node last) parts.0) (is_lt-Less (name_cmp last.name name) before)) (names-later front last name parts.1 before)
 
--- the last of them tells whether a name comes after all
+-- the last of them says whether a name comes after all
 pub last-decides : (front : List NodeView) (last : NodeView) (name : PathName) → ascends node_cmp (front ++ last ∷ []) ≡ true → is_lt (name_cmp last.name name) ≡ comes_after (entries_of_nodes (front ++ last ∷ [])) (name ∷ [])
 last-decides front last name up = by (is_lt (name_cmp last.name name)) refl (comes_after (entries_of_nodes (front ++ last ∷ [])) (name ∷ [])) refl
   where
@@ -264,7 +264,7 @@ pub extent-more : (old kids : Entries) (name : PathName) (inode : Inode) → (le
     × (most_bytes (old ++ under name (entries_from inode kids)) ≡ max (most_bytes old) (1 + length name + most_bytes kids))
 extent-more old kids name inode = (count-more old kids name inode, names-more old kids name inode, bytes-more old kids name inode)
 
--- ---- what holds of entries that stand one after another
+-- ---- what holds of entries that are one after another
 
 pub stand-layer : (root : Inode) (entries : Entries) → IsLayer (entries_from root entries) → CanStand entries
 stand-layer root entries is = record {
@@ -313,7 +313,7 @@ stand-placed (name ∷ path) entries can = stand-placed path entries (stand-belo
 
 -- ---- what no layer has
 
--- the entry can stand after these, whatever lies below it
+-- the entry can be after these, whatever lies below it
 abbrev pub takes_entry : Entries → PathName → Inode → Bool
 takes_entry old name inode = comes_after old (name ∷ []) && is_sound_inode inode && not (has_escaped_name inode.attrs)
 

@@ -58,7 +58,7 @@ module _ (path : PathNames) (ends : List ℕ) (are : AreEnds path ends) (depth l
           ∙ (slice_get-seam (take (depth + 1) ends) len []
           ∙ (ap Some long ∙ sym (ap (λ n. Some (length (slashed (take n child)))) whole ∙ ap (λ (own : PathNames). Some (length (slashed own))) (take-length child))))
 
--- a path of so many names and bytes keeps the limits
+-- a path of this many names and bytes keeps the limits
 pub child_limits : (last : PathNames) (depth : ℕ) (name text : List ℕ) → text ≡ slashed (child_path (take depth last) name) → depth < depth_limit → length text ≤ text_limit → is_within_limits (child_path (take depth last) name) ≡ true
 child_limits last depth name text is shallow short =
     let path : PathNames = child_path (take depth last) name in

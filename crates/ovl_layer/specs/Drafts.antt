@@ -21,7 +21,7 @@ draft_entries draft =
     entries_from draft.inode
     (entries_of_nodes draft.children.items ++ entries_of_open draft.spine.items)
 
--- the inode of the directory on the way to the last entry that has so many names
+-- the inode of the directory on the way to the last entry that has this many names
 abbrev pub inode_on_way : Inode → List NodeView → ℕ → Inode
 inode_on_way inode spine zero = inode
 inode_on_way inode [] (suc depth) = inode
@@ -34,7 +34,7 @@ pub record IsDraft (draft : Draft) : Type 0 where
   pub ends : (front : Entries) × (inode : Inode)
       × (draft_entries draft ≡ front ++ (draft.last, inode) ∷ [])
 
--- the entry can stand after those of the draft
+-- the entry can be after those of the draft
 pub record CanTake (draft : Draft) (path : PathNames) (inode : Inode) : Type 0 where
   pub after : comes_after (draft_entries draft) path ≡ true
   pub parent : is_directory_at (draft_entries draft) (parent_path path) ≡ true

@@ -81,7 +81,7 @@ is_of_first (Escaped n) = n == 0
 is_of_first Root = true
 is_of_first _ = false
 
--- the fault that was told is the one that is stated; out of memory may come at any time
+-- the fault that was given is the one that is stated; out of memory may come at any time
 abbrev pub IsFaultOf : Result Entries LayerFault → LayerFault → Type 0
 IsFaultOf stated Memory = ⊤
 IsFaultOf stated fault = stated ≡ Err fault

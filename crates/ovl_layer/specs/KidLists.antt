@@ -10,7 +10,7 @@ parts_of (start ∷ []) numbers = []
 parts_of (start ∷ end ∷ starts) numbers =
     take (end - start) (drop start numbers) ∷ parts_of (end ∷ starts) numbers
 
--- no start lies behind the next one, and none past the end of a list of so many
+-- no start lies after the next one, and none past the end of a list of this many
 pub record AreKidStarts (starts : List ℕ) (count : ℕ) : Type 0 where
   pub rise : (number : ℕ) → suc number < length starts
       → slice_index starts number ≤ slice_index starts (suc number)

@@ -27,7 +27,7 @@ entry_cmp one other = path_cmp one.0 other.0
 abbrev pub entry_at : Entries → PathNames → Option Inode
 entry_at layer path = lookup (path_eq path) layer
 
--- a directory stands at the path
+-- a directory is at the path
 abbrev pub is_directory_at : Entries → PathNames → Bool
 is_directory_at layer path =
     elim (entry_at layer path) [ Some inode ↦ is_directory inode | None ↦ false ]

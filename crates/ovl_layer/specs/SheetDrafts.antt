@@ -33,7 +33,7 @@ pub record AreDrafted (rows : List SheetRow) (way : List ℕ) (last : PathNames)
 abbrev pub IsSheetDraft : SheetDraft → Type 0
 IsSheetDraft draft = AreDrafted draft.rows.items draft.way.items (last_path draft)
 
--- the entry `name` can stand after those of the draft, in the directory of the first `depth` names
+-- the entry `name` can be after those of the draft, in the directory of the first `depth` names
 -- of the last path
 pub record CanEnter (draft : SheetDraft) (depth : ℕ) (name : PathName)
     (inode : Inode) : Type 0 where

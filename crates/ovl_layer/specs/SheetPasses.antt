@@ -35,7 +35,7 @@ placed_by before [] (entry ∷ entries) = before
 placed_by before (parent ∷ parents) (entry ∷ entries) =
     placed_by (before ++ (row_path before parent (last_name entry.0), entry.1) ∷ []) parents entries
 
--- the parents' numbers place the entries under the directory of that number, after so many other
+-- the parents' numbers place the entries under the directory of that number, after this many other
 -- entries
 abbrev pub PlacesUnder : ℕ → ℕ → List ℕ → Entries → Type 0
 PlacesUnder directory number parents entries =

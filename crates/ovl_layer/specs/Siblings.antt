@@ -11,11 +11,11 @@ use Rattle.ovl_layer.specs.LayerTrees.{entries_from}
 use Rattle.ovl_layer.specs.TextPaths.{slashed}
 use Rattle.ovl_layer.specs.declared.siblings.Extent.{Extent}
 
--- a root over these entries is a layer, where it is one alone
+-- a root over these entries is a layer, if it is one by itself
 abbrev pub AreBelow : Entries → Type 0
 AreBelow below = (root : Inode) → IsLayer (entries_from root []) → IsLayer (entries_from root below)
 
--- what holds of entries that stand one after another behind the root of a layer, also where their
+-- what holds of entries that are one after another after the root of a layer, also where their
 -- paths are counted from a directory
 pub record CanStand (entries : Entries) : Type 0 where
   pub in_order : ascends entry_cmp entries ≡ true
@@ -39,7 +39,7 @@ pub record IsExtent (entries : Entries) (extent : Extent) : Type 0 where
   pub names : extent.names ≡ most_names entries
   pub bytes : extent.bytes ≡ most_bytes entries
 
--- a layer can have as much behind its root
+-- a layer can have as much after its root
 pub record Fits (extent : Extent) : Type 0 where
   pub few : extent.count < entry_limit
   pub shallow : extent.names ≤ depth_limit

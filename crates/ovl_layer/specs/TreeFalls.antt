@@ -6,7 +6,7 @@ use Rattle.ovl_names.specs.Names.{PathName}
 use Rattle.ovl_layer.specs.Layers.{Entries}
 use Rattle.ovl_layer.specs.LayerTrees.{NodeView, entries_from, entries_of_nodes, under}
 
--- as many entries stand under a name
+-- as many entries are under a name
 pub length-under : (name : PathName) (entries : Entries)
     → length (under name entries) ≡ length entries
 length-under name [] = refl

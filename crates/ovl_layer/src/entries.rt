@@ -21,9 +21,9 @@ use std::alloc::Global;
 pub const ENTRY_LIMIT: usize = 1_048_576;
 
 /// The layer of these entries. It is refused with `Count`, or with the first fault of the first
-/// entry that has one, in the order of tests that `docs/FORMATS.md` tells; `Memory` can come in
+/// entry that has one, in the order of tests that `docs/FORMATS.md` has; `Memory` can come in
 /// place of a layer or of a later entry's fault, but `Count` and the faults of the first entry need
-/// none. `Entry` is told of a path past the limits of its names or its text, and of an inode that
+/// none. `Entry` is of a path past the limits of its names or its text, and of an inode that
 /// isn't sound.
 pub fn from_entries(alloc: Global, entries: Vec<(Path, Inode)>) -> Result<Layer, LayerFault>
     ensures value { MatchResult result
@@ -69,7 +69,7 @@ pub fn start_draft(alloc: Global, entry: Option<(Path, Inode)>) -> Result<Draft,
     Ok(Draft::start(alloc, inode))
 }
 
-/// The draft of a root alone.
+/// The draft of only a root.
 pub fn start_root(alloc: Global, root: Inode) -> Result<Draft, LayerFault>
     ensures { MatchResult result
         (λ draft. (entry_after [] (stated_pair ([], root)) ≡ Ok (draft_entries draft))

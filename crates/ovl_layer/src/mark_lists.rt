@@ -9,7 +9,7 @@ use std::alloc::{AllocError, Global};
 use std::marker::Model;
 
 /// The marks of rows, seen as their list. Of each row the number of its mark is kept: the marks
-/// without a redirect are shared, and stand at the head of the list of different ones.
+/// without a redirect are shared, and are at the head of the list of different ones.
 #[derive(Drop)]
 pub(crate) struct MarkList {
     numbers: Vec<u32>,

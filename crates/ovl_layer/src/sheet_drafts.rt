@@ -22,7 +22,7 @@ pub struct SheetDraft {
 }
 
 impl SheetDraft {
-    /// The layer of a root alone, with room for so many entries.
+    /// The layer of only a root, with room for this many entries.
     pub fn start(alloc: Global, inode: Inode, room: usize) -> Result<SheetDraft, AllocError>
         requires directory { IsTrue (is_directory inode) }
         requires sound { IsTrue (is_sound_inode inode) }

@@ -94,7 +94,7 @@ impl Siblings {
         Ok(())
     }
 
-    // Whether this entry can stand after all, whatever lies below it.
+    // Whether this entry can be after all, whatever lies below it.
     fn takes(&self, name: &Name, inode: &Inode) -> bool
         ensures { result
             ≡ comes_after self.now (name.now ∷ []) && is_sound_inode inode.now

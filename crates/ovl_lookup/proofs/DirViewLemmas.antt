@@ -31,7 +31,7 @@ use Rattle.ovl_lookup.proofs.LawsOfWalks.{is_shut-entered, mark_at-child, turn-e
 same_some : {X : Type 0} (one other : X) → Some one ≡ Some other → one ≡ other
 same_some one other e = ap (λ o. unwrap_or o one) e
 
--- what stands at a name in a place, by the place's layer
+-- what is at a name in a place, by the place's layer
 pub entry-here : (stack : StackView) (name : PathName) (place : DirPlace) (layer : Entries) → slice_get stack.layers place.layer ≡ Some layer → entry_in stack.layers name (place_in stack place) ≡ entry_at layer (child_path (path_at layer place.row) name)
 entry-here stack name place layer at = λ j. elim (at j) as (λ _. Option Inode) [ Some own ↦ entry_at own (child_path (elim (at j) as (λ _. PathNames) [ Some entries ↦ path_at entries place.row | None ↦ [] ]) name) | None ↦ None ]
 
@@ -243,7 +243,7 @@ pub child-places : (stack : StackView) (from : ℕ) (path : PathNames) (name : P
 child-places stack from path name none places items each empty below adds =
     adds ∙ ((λ j. places_in stack (empty j) ++ reached_below stack.layers name (below j)) ∙ sym (views-go_on stack each from path name))
 
--- a view has a place exactly where a directory is shown
+-- a view has a place exactly if a directory is shown
 pub no-places : (stack : StackView) (places : List DirPlace) (more : List ReachedDirectory) → places_in stack places ≡ more → length places ≡ 0 → is_reached more ≡ false
 no-places stack [] more same none = ap is_reached (sym same)
 no-places stack (place ∷ places) more same none = absurd (omega (arith, none))

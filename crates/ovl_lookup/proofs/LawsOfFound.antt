@@ -156,7 +156,7 @@ starts_directory (inode ∷ inodes) = is_directory inode
 abbrev pub found_of : Step → (PathNames → List Inode) → List Inode
 found_of step rest = cons_option step.found (cond step.closed [] (rest step.next))
 
--- the layers below find something with one more name only where they do without it
+-- the layers below find something with one more name only if they do without it
 below-child : (outer inner : Step) (name : PathName) (rest : PathNames → List Inode) (own : PathNames → List PathName) → Below outer inner name
     → ((path : PathNames) → any_found (rest (child_path path name)) ≡ true → (starts_directory (rest path) ≡ true) × (list_any (name_eq name) (own path) ≡ true))
     → any_found (found_of inner rest) ≡ true

@@ -210,7 +210,7 @@ are-kids stack each path names is = record {
   same = λ name. ap (list_any (name_eq name)) is ∙ kids-same stack each path name;
 }
 
--- ---- what stands at a path
+-- ---- what is at a path
 
 abbrev or_else : Option Look → Option Look → Option Look
 or_else None other = other
@@ -317,7 +317,7 @@ looks-ascend (suc depth) stack path =
     (λ j. root-flat (look stack path) (kids_along stack path) (λ name. looks_from depth stack (child_path path name)) j
     && ascends-flat (kids_along stack path) (λ name. looks_from depth stack (child_path path name)) (kids-ascend stack path) (λ name. looks-ascend depth stack (child_path path name)) j)
 
--- ---- what stands at each path under one
+-- ---- what is at each path under one
 
 abbrev at_shown : Look → Option Look
 at_shown Nothing = None

@@ -194,7 +194,7 @@ lower-sound : (layer : Entries) (below : StackView) (layers : List Entries) → 
 lower-sound layer below [] = refl
 lower-sound layer below (lower ∷ layers) = ap (λ b. list_all (λ entry. not (is_faulty lower (record below { layers = layers }) entry)) lower && b) (lower-sound layer below layers)
 
--- a stack is sound exactly where its first layer's entries are faultless over the others, and these are sound
+-- a stack is sound exactly if its first layer's entries are faultless over the others, and these are sound
 module _ (layer : Entries) (below : StackView) where
   pub sound-first : IsSoundStack (over layer below) → (path : PathNames) (inode : Inode) → entry_at layer path ≡ Some inode → Faultless layer below path inode
   sound-first sound path inode here =
@@ -465,7 +465,7 @@ entry-found layer layers path inode is here thing =
     things_found-step layer layers path
     ∙ ap (λ o. cons_option o (cond (walk layer path).closed [] (things_found layers (walk layer path).next))) (entry-walked layer path inode is here thing)
 
--- a directory is shown as it stands there
+-- a directory is shown as it is there
 pub entry-directory_shown : (layer : Entries) (below : StackView) (path : PathNames) (inode : Inode) → IsLayer layer → entry_at layer path ≡ Some inode → is_directory inode ≡ true → look (over layer below) path ≡ Shown (visible inode)
 entry-directory_shown layer below path inode is here directory =
     ap (shown_of below.data_only) (entry-found layer below.layers path inode is here (directory-no_whiteout inode directory))

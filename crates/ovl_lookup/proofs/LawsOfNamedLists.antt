@@ -45,7 +45,7 @@ module _ {X : Type 0} where
       let first = both {a = is_lt (name_cmp one.0 own.0)} {b = is_before one.0 names} before in
       (ap (λ b. cond b (Some one.1) (at own.0 whole)) (name_eq-cmp own.0 one.0 Greater (reversed nat_list_cmp_total one.0 own.0 first.0)) ∙ all.0, own-later one whole names first.1 all.1)
 
-  -- in order, each is what stands at its name
+  -- in order, each is what is at its name
   pub each-own : (names : List (PathName × X)) → AreInOrder names → AllByRecursion (λ own. at own.0 names ≡ Some own.1) names
   each-own [] up = tt
   each-own (one ∷ names) up =
@@ -96,7 +96,7 @@ module _ {X : Type 0} (joined : X → X → X) where
             sym (ap (λ (o : Option Z). option_or o (part new.1)) none)
         front before false e = sym (or-none (part_at (own ∷ names)))
 
-        -- it stands there
+        -- it is there
         there : name_eq new.0 own.0 ≡ true → (b : Bool) → name_eq q own.0 ≡ b → if_at b (joined own.1 new.1) (at q names) ≡ option_or (if_at b own.1 (at q names)) (if_at (name_eq q new.0) new.1 None)
         there same b e = (λ j. if_at b (joined own.1 new.1) (at q names)) ∙ by-own b ∙ ap (λ (c : Bool). option_or (if_at b own.1 (at q names)) (if_at c new.1 None)) (sym (ap (name_eq q) ((bytes_decides new.0 own.0).0 same) ∙ e))
           where

@@ -161,7 +161,7 @@ any-entry test layer path inode here holds = by (list_any test layer) refl
         let not_here : not (test (path, inode)) ≡ true = lookup-all (λ entry. not (test entry)) path layer inode (none layer e) here in
         let bad : false ≡ true = ap not (sym holds) ∙ not_here in cc
 
--- two paths of which each is found where the other stands first are one
+-- two paths of which each is found where the other is first are one
 first-least : (first : Entry) (layer : Entries) (path : PathNames) (inode : Inode) → list_all (λ later. is_lt (entry_cmp first later)) layer ≡ true → entry_at (first ∷ layer) path ≡ Some inode → (path_eq path first.0 ≡ true) ⊎ (is_lt (path_cmp first.0 path) ≡ true)
 first-least first layer path inode before here = by (path_eq path first.0) refl here
   where
@@ -169,7 +169,7 @@ first-least first layer path inode before here = by (path_eq path first.0) refl 
     by true e h = inl e
     by false e h = inr (lookup-all (λ later. is_lt (entry_cmp first later)) path layer inode before h)
 
--- an entry stands before none of those that come after it
+-- an entry is before none of those that come after it
 not_both : (one other : PathNames) → is_lt (path_cmp one other) ≡ true → is_lt (path_cmp other one) ≡ true → false ≡ true
 not_both one other before after =
     sym (ap is_lt (path_order.antisymm other one ∙ ap ordering_reverse (is_lt-Less (path_cmp one other) before))) ∙ after
@@ -222,7 +222,7 @@ entries-unique (entry ∷ one) (first ∷ other) up above same =
     by (inr e) (inl f) later = whole (sym ((pointwise_decides bytes_decides first.0 entry.0).0 f)) later
     by (inr e) (inr f) later = let bad : false ≡ true = not_both first.0 entry.0 e f in cc
 
--- trails are equal exactly where their paths are
+-- trails are equal exactly if their paths are
 pub trail_eq-path : (one other : PathNames) → trail_eq one other ≡ path_eq one other
 trail_eq-path one other = by (trail_eq one other) refl (path_eq one other) refl
   where

@@ -1,4 +1,4 @@
--- Laws of a layer without marks: alone it shows what it has, and is sound.
+-- Laws of a layer without marks: by itself it shows what it has, and is sound.
 use Rattle.std.proofs.Common.{◌≡◌, Bool, true, false, cond, Option, Some, None, List, [], ◌∷◌, refl, sym, ap, ◌∙◌, subst, inl, inr, ◌⊎◌}
 use Rattle.std.specs.List.{cons_option}
 use Rattle.ovl_names.specs.Names.{PathName}

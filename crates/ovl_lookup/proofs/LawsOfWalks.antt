@@ -115,7 +115,7 @@ module _ (layer : Entries) (path : PathNames) (name : PathName) (is : IsLayer la
       walk-stop layer path name [] is holds (ap (λ (o : Option Inode). elim o as (λ _. Bool) [ Some inode ↦ is_directory inode | None ↦ false ]) none)
       ∙ ap (λ (o : Option Inode). walk_beyond o (turn layer path) (is_shut layer path) name []) none
 
--- ---- an entry's name stands among the names below its directory
+-- ---- an entry's name is among the names below its directory
 
 pub name_below-child : (path : PathNames) (name : PathName) → name_below path (child_path path name) ≡ Some name
 name_below-child [] name = refl
@@ -154,7 +154,7 @@ directory-limited layer path is holds = by (entry_at layer path) refl holds
 prefix-child : (front back path : PathNames) (name : PathName) → front ++ back ≡ path → front ++ child_path back name ≡ child_path path name
 prefix-child front back path name e = sym (append_assoc front back (name ∷ [])) ∙ ap (λ (p : PathNames). child_path p name) e
 
--- ---- the turn and the flag of a path with one more name, whatever stands there
+-- ---- the turn and the flag of a path with one more name, whatever is there
 
 turn-next : (layer : Entries) (path : PathNames) (name : PathName) → turn layer (child_path path name) ≡ unwrap_or (origin_path (mark_at layer (child_path path name))) (child_path (turn layer path) (name_in_lower (mark_at layer (child_path path name)) name))
 turn-next layer path name = by (origin_path (mark_at layer (child_path path name))) refl
@@ -287,7 +287,7 @@ same-walk one other path is_one is_other same = by (walk-end one path is_one)
         ∙ (sym (walk-stop other b.directory b.name b.rest is_other (ap directory_found (sym here) ∙ b.holds) (ap directory_found (sym there) ∙ b.stops))
         ∙ ap (walk other) b.whole))
 
--- an entry stands in a directory of its layer
+-- an entry is in a directory of its layer
 pub parent-directory : (layer : Entries) (path : PathNames) (name : PathName) → has_parent layer (child_path path name) ≡ true → is_directory_at layer path ≡ true
 parent-directory layer path name has =
     ap (is_directory_at layer) (sym (parent_path-child path name))
@@ -308,7 +308,7 @@ entry-above layer path name (other ∷ rest) inode is here =
     directory-parent layer path name is
     (entry-above layer (child_path path name) other rest inode is (ap (entry_at layer) (append_assoc path (name ∷ []) (other ∷ rest)) ∙ here))
 
--- below no directory nothing stands
+-- below no directory nothing is
 pub nothing-below : (layer : Entries) (path : PathNames) (name : PathName) (rest : PathNames) → IsLayer layer → is_directory_at layer path ≡ false → entry_at layer (path ++ name ∷ rest) ≡ None
 nothing-below layer path name rest is none = by (entry_at layer (path ++ name ∷ rest)) refl
   where
@@ -432,7 +432,7 @@ mark-file layer path inode is here file = by (last-name path)
     by (inl e) = let bad : false ≡ true = sym file ∙ (ap directory_found (sym here) ∙ (ap (is_directory_at layer) e ∙ is.rooted)) in cc
     by (inr (directory, name, e)) = ap (mark_at layer) e ∙ mark-child layer directory name (Some inode) (ap (entry_at layer) (sym e) ∙ here)
 
--- an entry stands at the path of each row
+-- an entry is at the path of each row
 pub entry-of_row : (layer : Entries) (number : ℕ) → IsLayer layer → number < length layer → (inode : Inode) × (entry_at layer (path_at layer number) ≡ Some inode)
 entry-of_row layer number is inside = by (slice_get layer number) refl
   where
@@ -440,7 +440,7 @@ entry-of_row layer number is inside = by (slice_get layer number) refl
     by None e = absurd (omega (arith, none-past layer number e, inside))
     by (Some entry) e = (entry.1, ap (λ o. entry_at layer (path_of o)) e ∙ entry_at-number layer number entry is.in_order e)
 
--- ---- what stands at one more name says by its mark alone where the walk goes on
+-- ---- what is at one more name says only by its mark where the walk goes on
 
 pub marked-whiteout : (inode : Inode) → is_whiteout inode ≡ true → mark_of inode ≡ Whiteout
 marked-whiteout inode white =
@@ -506,7 +506,7 @@ walk-child layer path name is inode here = by (is_directory inode) refl
         walk-child_directory layer path name is inode here d ∙ (λ j. record { found = cond (sym (directory-no_whiteout inode d) j) None (Some inode); next = on.0 j; closed = on.1 j })
     by false d = walk-child_end layer path name is (Some inode) (entry-parent layer path name inode is here) here d [] ∙ white d (is_whiteout inode) refl
 
--- what stands at a path and isn't found is a whiteout, which closes the walk
+-- what is at a path and isn't found is a whiteout, which closes the walk
 unfound-closed : (layer : Entries) (path : PathNames) (inode : Inode) → IsLayer layer → entry_at layer path ≡ Some inode → (walk layer path).found ≡ None → (walk layer path).closed ≡ true
 unfound-closed layer path inode is here none = by (last-name path)
   where
@@ -523,7 +523,7 @@ unfound-closed layer path inode is here none = by (last-name path)
         white true w = ap (λ (s : Step). s.closed) step ∙ ap (λ (m : Mark). closed_on m name (walk layer directory).closed) (marked-whiteout inode w)
         white false w = let bad : Some inode ≡ None = ap (λ (b : Bool). cond b None (Some inode)) (sym w) ∙ (ap (λ (s : Step). s.found) (sym step) ∙ none) in cc
 
--- the layers below are hidden alike by what stands at a path and by what its walk finds there
+-- the layers below are hidden alike by what is at a path and by what its walk finds there
 pub hides-alike : (layer : Entries) (path : PathNames) → IsLayer layer → (is_some (entry_at layer path) || (walk layer path).closed) ≡ (is_some (walk layer path).found || (walk layer path).closed)
 hides-alike layer path is = by (entry_at layer path) refl (walk layer path).found refl
   where

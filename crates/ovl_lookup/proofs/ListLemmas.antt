@@ -12,7 +12,7 @@ use Rattle.ovl_lookup.specs.Passes.{kids_along, looks_under, looks_placed, looks
 abbrev pub Looks : Type 0
 Looks = List (PathNames × Look)
 
--- ---- what stands at a path
+-- ---- what is at a path
 
 -- the list itself
 abbrev pub flat : List PathName → (PathName → Looks) → Looks

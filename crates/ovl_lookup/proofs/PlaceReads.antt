@@ -1,4 +1,4 @@
--- What is found from a place on, by what stands at a name there; the place is read from a list by its number.
+-- What is found from a place on, by what is at a name there; the place is read from a list by its number.
 use Rattle.std.proofs.Common.{◌≡◌, ◌∙◌, ℕ, ◌+◌, ◌<◌, length, true, false, Some, None, List, [], drop}
 use Rattle.std.specs.Prelude.{slice_get}
 use Rattle.ovl_names.specs.Names.{PathName}
@@ -33,14 +33,14 @@ module _ (stack : StackView) (name : PathName) (places : List DirPlace) (k : ℕ
   abbrev reached_from : ℕ → List ReachedDirectory
   reached_from n = reached_below stack.layers name (drop n (places_in stack places))
 
-  -- nothing stands there
+  -- nothing is there
   pub none-found : entry_in stack.layers name (place_in stack own) ≡ None → found_from k ≡ found_from (k + 1)
   none-found none = found-none stack.layers name (places_in stack places) k (place_in stack own) at none
 
   pub none-reached : entry_in stack.layers name (place_in stack own) ≡ None → reached_from k ≡ reached_from (k + 1)
   none-reached none = below-none stack.layers name (places_in stack places) k (place_in stack own) at none
 
-  -- this entry stands there
+  -- this entry is there
   module _ (entry : PlaceEntry) (is : IsEntryIn stack name own entry) where
     pub file-reached : is_directory entry.inode.now ≡ false → reached_from k ≡ []
     file-reached file = below-file stack.layers name (places_in stack places) k (place_in stack own) at entry.inode.now is.inode file

@@ -10,7 +10,7 @@ use Rattle.ovl_lookup.proofs.Notation.{directory, opaque, moved, opaque_moved, f
 abbrev pub stack_of : List Entries → StackView
 stack_of layers = record { layers = layers; data_only = [] }
 
--- a root alone
+-- only a root
 abbrev pub root_alone : StackView
 root_alone = stack_of (layer_of [] ∷ [])
 
@@ -97,7 +97,7 @@ metacopies_over lowest = stack_of (layer_of ((path (codes "/f"), metacopy 1) ∷
     ∷ layer_of ((path (codes "/f"), lowest) ∷ [])
     ∷ [])
 
--- a metacopy file that says where its data is, over a root alone, and a file there in a data-only layer
+-- a metacopy file that says where its data is, over only a root, and a file there in a data-only layer
 abbrev pub told_below : List ℕ → StackView
 told_below place = record {
   layers = layer_of ((path (codes "/f"), metacopy_moved 1 place) ∷ []) ∷ layer_of [] ∷ [];
@@ -114,7 +114,7 @@ told_past_whiteout other = record {
   data_only = layer_of ((path (codes "/z"), file_a) ∷ []) ∷ [];
 }
 
--- these layers under a metacopy file of that kind and a root alone, the last of them data-only, or all but the first
+-- these layers under a metacopy file of that kind and only a root, the last of them data-only, or all but the first
 abbrev pub told_over : List Entries → List Entries → StackView
 told_over more data_only = record {
   layers = layer_of ((path (codes "/f"), metacopy_moved 1 (codes "/z")) ∷ []) ∷ layer_of [] ∷ more;

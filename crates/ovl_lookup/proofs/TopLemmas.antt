@@ -133,7 +133,7 @@ no-tops layers i = record { in_order = refl; each = λ name. refl }
 abbrev pub names_in : List Entries → ReachedDirectory → List PathName
 names_in layers place = elim (slice_get layers place.layer) as (λ _. List PathName) [ Some layer ↦ names_below layer place.path | None ↦ [] ]
 
--- what stands at a name has it among the names
+-- what is at a name has it among the names
 pub entry-named : (layers : List Entries) (name : PathName) (place : ReachedDirectory) (inode : Inode) → entry_in layers name place ≡ Some inode → list_any (name_eq name) (names_in layers place) ≡ true
 entry-named layers name place inode here = by (slice_get layers place.layer) here
   where
@@ -184,12 +184,12 @@ module _ (layers : List Entries) (i : ℕ) (place : ReachedDirectory) where
     each = λ name. named-here name tops all ∙ (ap (λ ns. cond (list_any (name_eq name) ns) (first_here name) None) names ∙ named-or-none name (list_any (name_eq name) (names_in layers place)) refl);
   }
 
-  -- one more that stands there
+  -- one more that is there
   pub stand-more : (tops : List (PathName × First)) (name : PathName) (inode : Inode) → StandHere tops → entry_in layers name place ≡ Some inode → StandHere (tops ++ (name, record { place = i; inode = inode }) ∷ [])
   stand-more [] name inode all here = (ap (first_by layers i [] name) here, tt)
   stand-more (top ∷ tops) name inode all here = (all.0, stand-more tops name inode all.1 here)
 
-  -- the names in the directory, with what stands there
+  -- the names in the directory, with what is there
   abbrev with_first : PathName → Option First → List (PathName × First) → List (PathName × First)
   with_first name None tops = tops
   with_first name (Some first) tops = (name, first) ∷ tops

@@ -11,7 +11,7 @@ part-next parts k part inside is =
     ap names_of_parts (drop_more parts k part inside)
     ∙ ap (λ (own : PathNames). own ++ names_of_parts (drop (k + 1) parts)) (sym is)
 
--- what stands after the names of a part
+-- what is after the names of a part
 pub drop-past : (names more : PathNames) (left : ℕ) → length names ≤ left → drop left (names ++ more) ≡ drop (left - length names) more
 drop-past names more left past =
     let whole : left ≡ length names + (left - length names) = omega (arith, past) in

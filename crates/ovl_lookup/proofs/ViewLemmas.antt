@@ -54,7 +54,7 @@ module _ {X : Type 0} (f : PathNames → List X) (h : PathName → List ReachedD
 
 -- ---- a view, and what is found, layer by layer
 
--- a view from a layer on, by what stands at the path there and how its walk goes on
+-- a view from a layer on, by what is at the path there and how its walk goes on
 abbrev pub reached_by : List Entries → ℕ → PathNames → Option Inode → Step → List ReachedDirectory
 reached_by layers i path entry step =
     cond (directory_found entry) (record { layer = i; path = path; next = step.next; closed = step.closed } ∷ cond step.closed [] (reached layers (suc i) step.next))
@@ -76,7 +76,7 @@ reached-past layer layers i path next hidden past =
     by true on = refl
     by false on = ap (reached layers (suc i)) (sym (on refl))
 
--- a view with one more name, and what is found, by what stands at the name in the first place
+-- a view with one more name, and what is found, by what is at the name in the first place
 abbrev pub reached_below_by : List Entries → PathName → ReachedDirectory → List ReachedDirectory → Option Inode → List ReachedDirectory
 reached_below_by all name place rest found =
     elim found as (λ _. List ReachedDirectory) [
@@ -216,7 +216,7 @@ found-child all (layer ∷ layers) i path name whole each = by (λ p n. found-ch
         let past = past-beyond layer path is b in
         found-past all layer layers i path name is (layer-here all i layer layers whole).0 (layer-here all i layer layers whole).1 later past.0 past.1 past.2
 
--- ---- a directory is shown exactly where some layer has one
+-- ---- a directory is shown exactly if some layer has one
 
 first-shown : (data_only : List Entries) (inode : Inode) (below : List Inode) → is_shown_directory (shown_of data_only (inode ∷ below)) ≡ is_directory inode
 first-shown data_only inode below = by (is_directory inode) refl

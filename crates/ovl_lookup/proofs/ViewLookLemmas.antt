@@ -163,7 +163,7 @@ module _ (stack : StackView) (place : DirPlace) (layer : Entries) (at : slice_ge
       let own = kid-path layer (path_at layer place.row) kids paths j (get_or kids j 0) (kid-at kids j inside) in
       (own.0, ap last_name own.2 ∙ last_name-child (path_at layer place.row) own.0)
 
-  -- and its inode stands at that in the place
+  -- and its inode is at that in the place
   pub kid-stands : (j : ℕ) → j < length kids → (name : PathName) → Some name ≡ last_name (path_at layer (get_or kids j 0)) → (inode : Inode) → entry_at layer (path_at layer (get_or kids j 0)) ≡ Some inode
       → (slice_get names j ≡ Some name) × (entry_in stack.layers name (place_in stack place) ≡ Some inode)
   kid-stands j inside name named inode stands =

@@ -32,7 +32,7 @@ root-own layer is row inside here =
     let step = walk-whole layer [] is.rooted in
     record { inside = inside; here = here; directory = is.rooted; next = sym (ap (λ (s : Step). s.next) step); closed = sym (ap (λ (s : Step). s.closed) step) }
 
--- what stands at a name in a directory, by its row, and how the walk goes on there by its mark
+-- what is at a name in a directory, by its row, and how the walk goes on there by its mark
 pub entry-entered : (layer : Entries) (path : PathNames) (name : PathName) → IsLayer layer → (own : OwnDirectory) → IsOwnDirectory layer path own
     → (number : ℕ) → number < length layer → path_at layer number ≡ child_path path name → (mark : Mark) → option_map mark_of (entry_at layer (path_at layer number)) ≡ Some mark
     → (turned : Option PathNames) (closed : Bool) → unwrap_or turned (child_path path name) ≡ next_on mark (unwrap_or own.turned path) name → closed ≡ closed_on mark name own.closed
@@ -64,7 +64,7 @@ plain-entered layer path name is row closed stands number inside at marked =
       closed = entered.closed;
     }
 
--- what stands at a name in a directory, by the number of its row
+-- what is at a name in a directory, by the number of its row
 pub sought : (layer : Entries) (above : PathNames) (name : PathName) (row : ℕ) → path_at layer row ≡ above → (number : Option ℕ)
     → MatchOption number (entries_under (child_path (path_at layer row) name) layer ≡ []) (λ child. (child < length layer) × (path_at layer child ≡ child_path (path_at layer row) name))
     → IsNumberAt layer (child_path above name) number
@@ -79,7 +79,7 @@ length-seam (own ∷ above) name rest = let later = length-seam above name rest 
 
 -- ---- a descent
 
--- what stands at the path of a number
+-- what is at the path of a number
 number-found : (layer : Entries) (path : PathNames) → IsLayer layer → (number : Option ℕ) → IsNumberAt layer path number → is_some number ≡ is_some (entry_at layer path)
 number-found layer path is None none = sym (ap is_some none)
 number-found layer path is (Some number) at = let found = entry-of_row layer number is at.0 in sym (ap is_some (sym (ap (entry_at layer) at.1) ∙ found.1))

@@ -68,7 +68,7 @@ pub record AddsPlaces (stack : StackView) (old new : List DirPlace)
   pub places : places_in stack new ≡ places_in stack old ++ more
   pub over : All (IsPlaceOver stack) old → All (IsPlaceOver stack) new
 
--- what stands at a name in a place: the number of its row, its inode and its mark
+-- what is at a name in a place: the number of its row, its inode and its mark
 pub record IsEntryIn (stack : StackView) (name : PathName) (place : DirPlace)
     (entry : PlaceEntry) : Type 0 where
   pub inode : entry_in stack.layers name (place_in stack place) ≡ Some entry.inode.now

@@ -1,4 +1,4 @@
--- The test of equality tells it, so that it is an equivalence.
+-- The test of equality decides it, so that it is an equivalence.
 use Rattle.std.proofs.Common.{◌≡◌, true, false, refl, sym, ap, ◌∙◌}
 use Rattle.std.specs.Cmp.{IsEquivalence, decided}
 use Rattle.ovl_inode.specs.declared.inodes.Inode.{Inode}

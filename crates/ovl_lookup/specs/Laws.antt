@@ -21,7 +21,7 @@ abbrev pub ShowsWithinDepth : Type 0
 ShowsWithinDepth = (stack : StackView) → All IsLayer stack.layers → (path : PathNames) →
     shows stack path ≡ true → length path ≤ depth_limit * length stack.layers
 
--- a directory is shown exactly where its view isn't empty
+-- a directory is shown exactly if its view isn't empty
 abbrev pub ViewsShow : Type 0
 ViewsShow = (stack : StackView) → All IsLayer stack.layers → (from : ℕ) (path : PathNames) →
     shows_directory (from_layer from stack) path

@@ -49,11 +49,11 @@ data_at_place data_only (Some place) = full_file_in data_only place
 abbrev pub last_place : List Inode → Option PathNames
 last_place found = elim (last_of found) [ Some inode ↦ place_of_data (mark_of inode) | None ↦ None ]
 
--- the same where they are metacopy files alone
+-- the same if they are only metacopy files
 abbrev pub place_told : List Inode → Option PathNames
 place_told found = if list_all is_metacopy found then last_place found else None
 
--- the data of the things found: where they are metacopy files alone, what data-only layers have
+-- the data of the things found: if they are only metacopy files, what data-only layers have
 -- where the last one says; else the last hit, where that is a regular file without `metacopy`;
 -- overlayfs.rst, "Metadata only copy up" and "Data-only lower layers"
 abbrev pub data_of : List Entries → List Inode → Option Inode
@@ -104,7 +104,7 @@ pub record AreKids (stack : StackView) (path : PathNames) (names : List PathName
   pub in_order : ascends name_cmp names ≡ true
   pub same : (name : PathName) → list_any (name_eq name) names ≡ shows stack (child_path path name)
 
--- what stands at a path of a list of looks
+-- what is at a path of a list of looks
 abbrev pub look_cmp : PathNames × Look → PathNames × Look → Ordering
 look_cmp one other = path_cmp one.0 other.0
 

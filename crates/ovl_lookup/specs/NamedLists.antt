@@ -11,7 +11,7 @@ names_of names = map (λ name. name.0) names
 abbrev pub AreInOrder : {X : Type 0} → List (PathName × X) → Type 0
 AreInOrder names = ascends name_cmp (names_of names) ≡ true
 
--- a name put at its place among others; where it stands there, what belongs to both is joined
+-- a name put at its place among others; where it is there, what belongs to both is joined
 abbrev pub put_joined : {X : Type 0} → (X → X → X) → List (PathName × X) → PathName × X
     → List (PathName × X)
 put_joined joined [] new = new ∷ []

@@ -31,7 +31,7 @@ abbrev pub closed_on : Mark → PathName → Bool → Bool
 closed_on mark name closed =
     if is_some (path_on mark) then false else if is_none (name_on mark name) then true else closed
 
--- the same as the program tells it
+-- the same as the program gives it
 abbrev pub path_told : Onward → Option PathNames
 path_told (At path) = Some path.now
 path_told _ = None

@@ -30,7 +30,7 @@ abbrev pub IsNumberAt : Entries → PathNames → Option ℕ → Type 0
 IsNumberAt layer path None = entry_at layer path ≡ None
 IsNumberAt layer path (Some number) = (number < length layer) × (path_at layer number ≡ path)
 
--- a directory of a layer at a path, and how its walk goes on: by another path only where marks turn
+-- a directory of a layer at a path, and how its walk goes on: by another path only if marks turn
 -- its own
 pub record IsOwnDirectory (layer : Entries) (path : PathNames) (own : OwnDirectory) : Type 0 where
   pub inside : own.row < length layer

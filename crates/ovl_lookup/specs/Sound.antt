@@ -124,7 +124,7 @@ are_sound stack (layer ∷ layers) =
     list_all (λ entry. not (is_faulty layer (record stack { layers = layers }) entry)) layer
     && are_sound stack layers
 
--- no entry of any layer is faulty; of a data-only layer the contents alone count, so none of its
+-- no entry of any layer is faulty; of a data-only layer only the contents count, so none of its
 -- entries is
 abbrev pub is_sound_stack : StackView → Bool
 is_sound_stack stack = are_sound stack stack.layers

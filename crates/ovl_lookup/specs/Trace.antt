@@ -21,7 +21,7 @@ walks (layer ∷ layers) path =
 abbrev pub things_found : List Entries → PathNames → List Inode
 things_found layers path = filter_map (λ step. step.found) (walks layers path)
 
--- the longest prefix of these things that is directories alone; overlayfs.rst, "Directories"
+-- the longest prefix of these things that has only directories; overlayfs.rst, "Directories"
 abbrev pub leading_directories : List Inode → List Inode
 leading_directories [] = []
 leading_directories (inode ∷ inodes) =
@@ -36,7 +36,7 @@ leading_files (inode ∷ inodes) =
     else if is_metacopy inode then inode ∷ leading_files inodes
     else inode ∷ []
 
--- the hits among the things found: the longest prefix that is directories alone, or metacopy files
+-- the hits among the things found: the longest prefix that has only directories, or metacopy files
 -- with at most one other non-directory after them
 abbrev pub hits_of : List Inode → List Inode
 hits_of [] = []

@@ -7,7 +7,7 @@ use Rattle.ovl_inode.specs.Marks.{is_whiteout}
 use Rattle.ovl_layer.specs.Layers.{Entries, entry_at}
 use Rattle.ovl_lookup.specs.Stacks.{StackView}
 
--- the stack of this layer alone
+-- the stack of only this layer
 abbrev pub alone : Entries → StackView
 alone layer = record { layers = layer ∷ []; data_only = [] }
 

@@ -53,7 +53,7 @@ abbrev pub EndsWhereClosed : List ReachedDirectory → Type 0
 EndsWhereClosed [] = ⊤
 EndsWhereClosed (place ∷ rest) = (place.closed ≡ true → rest ≡ []) × EndsWhereClosed rest
 
--- what stands at a name in a directory that is reached, by all layers of the stack
+-- what is at a name in a directory that is reached, by all layers of the stack
 abbrev pub entry_in : List Entries → PathName → ReachedDirectory → Option Inode
 entry_in layers name place =
     elim (slice_get layers place.layer)

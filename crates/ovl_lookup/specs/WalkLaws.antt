@@ -21,7 +21,7 @@ WalksEnter =
       closed = entered_closed (mark_of inode) (walk layer path).closed;
     }
 
--- a walk ends at the first name in a directory that is no directory, by what stands there
+-- a walk ends at the first name in a directory that is no directory, by what is there
 abbrev pub WalksEnd : Type 0
 WalksEnd =
     (layer : Entries) (path : PathNames) (name : PathName) → IsLayer layer → (rest : PathNames) →
@@ -30,8 +30,8 @@ WalksEnd =
     ≡ walk_beyond (entry_at layer (child_path path name)) (walk layer path).next
     (walk layer path).closed name rest
 
--- past such a name nothing is found: all names are kept behind the directory's next path, and what
--- stands at it hides the layers below
+-- past such a name nothing is found: all names are kept after the directory's next path, and what
+-- is at it hides the layers below
 abbrev pub WalksPass : Type 0
 WalksPass =
     (layer : Entries) (path : PathNames) (name other : PathName) → IsLayer layer
@@ -64,7 +64,7 @@ FilesClose = (layer : Entries) (path : PathNames) (inode : Inode) → IsLayer la
     (walk layer path).found ≡ Some inode → is_directory inode ≡ false → is_metacopy inode ≡ false
     → (walk layer path).closed ≡ true
 
--- where the walk of a path goes on, there are names alone, and not the root unless it is the root's
+-- where the walk of a path goes on, there are only names, and not the root unless it is the root's
 -- walk
 abbrev pub WalksKeepNames : Type 0
 WalksKeepNames =

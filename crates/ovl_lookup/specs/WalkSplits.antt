@@ -12,7 +12,7 @@ use Rattle.ovl_lookup.specs.declared.steps.Step.{Step}
 use Rattle.ovl_lookup.specs.Walk.{walk, walk_beyond, mark_at}
 use Rattle.ovl_lookup.specs.Onwards.{next_on, closed_on}
 
--- what stands at one more name says by its mark alone where the walk goes on from where that of its
+-- what is at one more name says only by its mark where the walk goes on from where that of its
 -- directory does
 abbrev pub WalksStep : Type 0
 WalksStep =
@@ -42,7 +42,7 @@ walk_below layer above next closed (name ∷ rest) =
     ]
 
 -- a walk splits at a directory: from there on it depends on the path and the flag with which it
--- came alone
+-- came by itself
 abbrev pub WalksSplit : Type 0
 WalksSplit =
     (layer : Entries) → IsLayer layer → (above names : PathNames)

@@ -75,7 +75,7 @@ pub fn walks_stay_below_root()
     ensures { WalksStayBelowRoot }
 {}
 
-/// What stands at one more name says by its mark where the walk goes on.
+/// What is at one more name says by its mark where the walk goes on.
 pub fn walks_step()
     ensures { WalksStep }
 {}

@@ -14,7 +14,7 @@ pub trait HasName: Copy {
 
     ghost told: { Self → PathName × Own };
 
-    /// What belongs to a name that stands in two lists.
+    /// What belongs to a name that is in two lists.
     ghost joined_of: { Own → Own → Own };
 
     /// The name.

@@ -197,7 +197,7 @@ pub struct OwnDirectory<'a> {
 }
 
 impl<'a> OwnDirectory<'a> {
-    // A walk that finds what stands here.
+    // A walk that finds what is here.
     fn step(self, sheet: &'a Sheet) -> OwnStep<'a>
         requires { self.row < length sheet.now }
         ensures value { (path : PathNames) → own_step_of path result ≡ record {
@@ -238,7 +238,7 @@ impl<'a> OwnDirectory<'a> {
         })
     }
 
-    // What stands at a name in this directory, which lies so deep, by the number of its row: a
+    // What is at a name in this directory, which lies so deep, by the number of its row: a
     // directory or something else.
     fn enter(
         self,

@@ -29,7 +29,7 @@ pub(crate) struct DirPlace {
     pub(crate) row: u32,
 }
 
-/// What stands at a name in a place.
+/// What is at a name in a place.
 #[derive(Drop)]
 pub(crate) struct PlaceEntry<'a> {
     pub(crate) row: u32,
@@ -38,7 +38,7 @@ pub(crate) struct PlaceEntry<'a> {
 }
 
 impl DirPlace {
-    /// What stands at a name there, if something does.
+    /// What is at a name there, if something does.
     pub(crate) fn entry<'a>(&self, stack: &'a Stack, name: &Name) -> Option<PlaceEntry<'a>>
         requires { IsPlaceOver stack.now self.now }
         ensures { MatchOption result

@@ -237,7 +237,7 @@ members-attributes before (attr ∷ attrs) =
     ap (λ (t : List ℕ). comma_if before ++ (quoted attr.0 ++ 58 ∷ (quoted (encode_lower attr.1) ++ t))) (members-attributes true attrs)
     ∙ simp append_assoc
 
--- one attribute more, behind others
+-- one attribute more, after others
 attributes-more : (attrs : Attributes) (attr : List ℕ × List ℕ) → 0 < length attrs → attributes_text false (attrs ++ attr ∷ []) ≡ attributes_text false attrs ++ 44 ∷ attribute_text attr
 attributes-more [] attr some = absurd (omega (arith, some))
 attributes-more (first ∷ attrs) attr some = ap (λ (t : List ℕ). attribute_text first ++ t) (behind attrs) ∙ sym (append_assoc (attribute_text first) (attributes_text true attrs) (44 ∷ attribute_text attr))
@@ -281,7 +281,7 @@ items-entries before (entry ∷ entries) =
     ap (λ (t : List ℕ). comma_if before ++ (compact_text (entry_value entry) ++ t)) (items-entries true entries)
     ∙ sym (append_assoc (comma_if before) (compact_text (entry_value entry) ++ entries_text true entries) (93 ∷ []) ∙ ap (λ (t : List ℕ). comma_if before ++ t) (append_assoc (compact_text (entry_value entry)) (entries_text true entries) (93 ∷ [])))
 
--- one entry more, behind others
+-- one entry more, after others
 entries-more : (entries : Entries) (entry : Entry) → 0 < length entries → entries_text false (entries ++ entry ∷ []) ≡ entries_text false entries ++ 44 ∷ compact_text (entry_value entry)
 entries-more [] entry some = absurd (omega (arith, some))
 entries-more (first ∷ entries) entry some = ap (λ (t : List ℕ). compact_text (entry_value first) ++ t) (behind entries) ∙ sym (append_assoc (compact_text (entry_value first)) (entries_text true entries) (44 ∷ compact_text (entry_value entry)))
@@ -290,7 +290,7 @@ entries-more (first ∷ entries) entry some = ap (λ (t : List ℕ). compact_tex
     behind [] = ap (λ (t : List ℕ). 44 ∷ t) (append-nil (compact_text (entry_value entry)))
     behind (next ∷ entries) = ap (λ (t : List ℕ). 44 ∷ (compact_text (entry_value next) ++ t)) (behind entries) ∙ ap (λ (t : List ℕ). 44 ∷ t) (sym (append_assoc (compact_text (entry_value next)) (entries_text true entries) (44 ∷ compact_text (entry_value entry))))
 
--- entries behind others, all of them behind commas
+-- entries after others, all of them after commas
 pub entries-append : (entries more : Entries) → entries_text true (entries ++ more) ≡ entries_text true entries ++ entries_text true more
 entries-append [] more = refl
 entries-append (entry ∷ entries) more =

@@ -29,7 +29,7 @@ no-values version values none = miscounted (stated version values) (inl (stated-
 pub many-values : (version : Version) (values : List Value) → entry_limit < length values → layer_of_entries (stated version values) ≡ Err Count
 many-values version values many = miscounted (stated version values) (inr (omega (arith, stated-count version values, many)))
 
--- what stands behind entries whose next has a fault
+-- what is after entries whose next has a fault
 refused-next : (before : Entries) (one : Option Entry) (more : List (Option Entry)) (fault : LayerFault) → IsFaultOf (entry_after before one) fault → IsFaultOf (entries_after before (one ∷ more)) fault
 refused-next before one more Memory is = tt
 refused-next before one more NotJson is = rw (is, entries_after) refl
@@ -57,7 +57,7 @@ module _ (version : Version) (values others : List Value) (root : Value) (is : v
   first-refused entry fault own told =
       subst (λ r. IsFaultOf r fault) (sym begins) (refused-next [] (entry_of version (view root)) (stated version others) fault (subst (λ (e : Option Entry). IsFaultOf (entry_after [] e) fault) own told))
 
--- the value at a place among others, and those behind it
+-- the value at a place among others, and those after it
 module _ (version : Version) (others : List Value) (i : ℕ) (value : Value) (inside : i < length others) (is : value ≡ get_or others i value) (before : Entries) (entry : Option Entry) (own : entry ≡ entry_of version (view value)) where
   goes-on : entries_after before (stated version (drop i others)) ≡ entries_after before (entry ∷ stated version (drop (i + 1) others))
   goes-on =

@@ -40,7 +40,7 @@ no-parent : read_layer (codes "{\"entries\":[{\"gid\":0,\"kind\":\"dir\",\"mode\
 unfolding serde_json_on_literals inode_on_literals
 no-parent = refl
 
--- a root alone in the version that is written, and each cut of it
+-- only a root in the version that is written, and each cut of it
 abbrev second : List ℕ
 second = codes "{\"entries\":[{\"gid\":0,\"kind\":\"dir\",\"mode\":493,\"mtime\":0,\"mtime-nsec\":0,\"path\":\"/\",\"uid\":0,\"xattrs\":{}}],\"overlay-layer\":2}"
 
@@ -119,7 +119,7 @@ too-deep-in-first-version = refl
 
 -- ---- what is written
 
--- a root alone: a line of 122 bytes
+-- only a root: a line of 122 bytes
 alone : manifest_text (([], dir) ∷ []) ≡ codes "{\"entries\":[{\"gid\":0,\"kind\":\"dir\",\"mode\":493,\"mtime\":0,\"mtime-nsec\":0,\"path\":\"/\",\"uid\":0,\"xattrs\":{}}],\"overlay-layer\":2}\n"
 unfolding serde_json_on_literals inode_on_literals digits encode_with
 alone = refl

@@ -61,7 +61,7 @@ plain-on bytes i n before here = λ k inside. by k inside (nat_lt k i) refl
 pub plain-block : (bytes : List ℕ) (i n : ℕ) → i + n ≤ length bytes → IsPlain bytes i → mask_l (map is_stop (chunk i n bytes)) ≡ 0 → IsPlain bytes (i + n)
 plain-block bytes i n inside plain empty = plain-on bytes i n plain (none_from_empty_mask is_stop bytes i n 0 inside empty)
 
--- a block in which a string stops is plain before its end alone
+-- a block in which a string stops is plain only before its end
 some-stops : (v : List ℕ) → 0 < mask_l (map is_stop v) → prefix_len (λ x. not (is_stop x)) v < length v
 some-stops [] some = absurd (omega arith)
 some-stops (x ∷ xs) some = by (is_stop x) some (some-stops xs)

@@ -66,7 +66,7 @@ put-back k d (member l e ms) own others = by (slice_cmp nat_cmp k l) (put-back k
     by Equal later = (own, others.1)
     by Greater later = (others.0, later)
 
--- members put one after another behind others
+-- members put one after another after others
 abbrev put_all : Members → Members → Members
 put_all no_members found = found
 put_all (member k d ms) found = put_all ms (put k d found)
@@ -93,7 +93,7 @@ all-behind : {X : Type 0} (test : X → Bool) (done : List X) (x : X) (left : Li
 all-behind test [] x left all = (both {a = test x} {b = list_all test left} all).0
 all-behind test (first ∷ done) x left all = all-behind test done x left (both {a = test first} {b = list_all test (done ++ x ∷ left)} all).1
 
--- an attribute behind others is put behind them
+-- an attribute after others is put after them
 put-behind : (done : Attributes) (attr : List ℕ × List ℕ) (left : Attributes) → ascends attribute_cmp (done ++ attr ∷ left) ≡ true
     → put attr.0 (hexadecimal attr.1) (attributes_in_turn done) ≡ attributes_in_turn (done ++ attr ∷ [])
 put-behind [] attr left up = refl
@@ -169,7 +169,7 @@ kind-back (File size None) metacopy ms sound others = size-back size None metaco
 kind-back (File size (Some blob)) metacopy ms sound others =
     put-back (codes "blob") (hexadecimal blob) (put (codes "size") (whole size) ms) (refl, tt) (size-back size (Some blob) metacopy ms sound others)
 
--- the members of an entry stand in the order in which they are read
+-- the members of an entry are in the order in which they are read
 in_order : (path : PathNames) (inode : Inode) (kind : Kind)
     → put_all (with_kind kind (common_members (path, record inode { kind = kind }))) no_members ≡ with_kind kind (common_members (path, record inode { kind = kind }))
 in_order path inode Dir = refl

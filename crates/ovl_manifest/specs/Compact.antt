@@ -64,7 +64,7 @@ device_of_kind (Char major minor) = Some (major, minor)
 device_of_kind (Block major minor) = Some (major, minor)
 device_of_kind _ = None
 
--- the text of a word, and the numbers that stand behind it
+-- the text of a word, and the numbers that are after it
 abbrev pub word_name : Word → List ℕ
 word_name word.Dir = codes "dir"
 word_name word.File = codes "file"
@@ -109,7 +109,7 @@ before_path front path =
     ++ word_text front.word (decimal front.mode
     ++ time_text front.mtime front.nsec (codes ",\"path\":" ++ path))
 
--- what an entry has behind its path and its contents, and what follows it
+-- what an entry has after its path and its contents, and what follows it
 abbrev pub back_text : ℕ → Attributes → List ℕ → List ℕ
 back_text uid attrs rest =
     codes ",\"uid\":" ++ (decimal uid ++ (codes ",\"xattrs\":"
@@ -129,7 +129,7 @@ pub record IsKindOf (word : Word) (blob : Option Digest) (kind : Kind) : Type 0 
   pub same_word : word_of_kind kind ≡ word
   pub same_blob : blob_of_kind kind ≡ blob
 
--- an attribute, and attributes one after another, the first behind a comma if others come `before`
+-- an attribute, and attributes one after another, the first after a comma if others come `before`
 abbrev pub attribute_text : List ℕ × List ℕ → List ℕ
 attribute_text attr = quoted attr.0 ++ 58 ∷ quoted (encode_lower attr.1)
 
@@ -138,7 +138,7 @@ attributes_text before [] = []
 attributes_text before (attr ∷ attrs) =
     comma_if before ++ (attribute_text attr ++ attributes_text true attrs)
 
--- the text begins with an attribute, which is put behind the others
+-- the text begins with an attribute, which is put after the others
 pub record TakesAttribute (text : List ℕ) (attrs : Attributes) (rest : List ℕ)
     (more : Attributes) : Type 0 where
   pub attr : List ℕ × List ℕ

@@ -69,7 +69,7 @@ pub(crate) fn read_entry<'a>(
     }
 }
 
-// What stands before the path of the entry that comes next.
+// What is before the path of the entry that comes next.
 fn read_front(rest: &mut Rest<'_>) -> Option<Front>
     ensures { IfSome result (λ front. rest.old ≡ before_path front rest.new) }
 {

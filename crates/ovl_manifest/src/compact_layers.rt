@@ -113,7 +113,7 @@ fn start(alloc: Global, text: &str, inode: Inode, room: usize) -> Option<SheetDr
 }
 
 // Puts the entry of a sound inode, whose path a text spells, into the draft, whose last path has
-// the text `last`; where in that the paths on the way there end stands beside it, and the text of
+// the text `last`; where in that the paths on the way there end is beside it, and the text of
 // the root is empty here. Gives none of a path or an inode that no layer has there, and when out of
 // memory.
 fn add_beside(

@@ -36,7 +36,7 @@ fn plain_tail(bytes: &[u8], from: usize) -> usize
     place
 }
 
-/// How many bytes come before the first that can't stand in a string unescaped, or that ends it.
+/// How many bytes come before the first that can't be in a string unescaped, or that ends it.
 pub(crate) fn plain_length(bytes: &[u8]) -> usize
     ensures within { result ≤ length bytes.now }
     ensures run { (k : ℕ) → k < result → is_stop (slice_index bytes.now k) ≡ false }

@@ -7,7 +7,7 @@ use std::marker::Model;
 // More than the numbers and the names of an entry's members take.
 const ROOM: usize = 224;
 
-/// A text of at most 224 bytes, seen as its bytes. They stand at the end of the room, so that a
+/// A text of at most 224 bytes, seen as its bytes. They are at the end of the room, so that a
 /// number's digits come where they stay.
 #[derive(Drop)]
 pub(crate) struct ShortText {

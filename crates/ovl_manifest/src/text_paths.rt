@@ -6,7 +6,7 @@ ghost use Rattle.ovl_layer.specs.TextPaths.{slashed, AreEnds};
 
 use std::alloc::AllocError;
 
-/// Where the path of a text stands beside the last path, whose text is given, and where in it those
+/// Where the path of a text is beside the last path, whose text is given, and where in it those
 /// of the paths on the way there end: how many names lead to the directory of the path, and what is
 /// after that directory. The text of the root is empty here. Gives none where no directory is on
 /// the way to the last path.

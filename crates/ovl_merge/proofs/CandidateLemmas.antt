@@ -168,7 +168,7 @@ module _ (m : Merge) (directory : Directory) where
 
   -- ---- names with their rows
 
-  -- those of the upper layer alone
+  -- only those of the upper layer
   pub upper-candidates : IsLayer m.upper → upper_onward m directory.path ≡ None → (names : Rowed) → AreRowsOf Upper m.upper directory.path names
       → AreCandidates m directory (put_names [] (own_names_along (two_layers m).layers directory.path)) names
   upper-candidates upper none names are = record {

@@ -91,7 +91,7 @@ redirected-goes : (directory : Bool) (inode : Inode) (found : Option Inode) (pla
     → IfSome above (λ a. (step.closed ≡ false) × (step.next ≡ a)) → IsRedirected directory found (mark_of (redirected_from above own inode place)) step own place
 redirected-goes directory inode found place own step above takes named below goes = by above goes
   where
-    -- by the redirect that stands there
+    -- by the redirect that is there
     anywhere : (d : Bool) → IsRedirected d found (moved_mark d (To place)) step own place
     anywhere true = ((refl, refl), refl)
     anywhere false = ((refl, refl), refl)

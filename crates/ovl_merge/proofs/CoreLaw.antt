@@ -1,4 +1,4 @@
--- The core in the words of the walks alone.
+-- The core in the words of only the walks.
 use Rattle.std.proofs.Common.{◌≡◌, Bool, true, false, cond, Option, Some, None, is_some, List, [], ◌∷◌, refl, sym, ap, ◌∙◌, inl, inr, ◌⊎◌}
 use Rattle.std.specs.Prelude.{not, ◌&&◌, is_none}
 use Rattle.std.specs.List.{cons_option, All}

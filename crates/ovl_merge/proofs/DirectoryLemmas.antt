@@ -62,10 +62,10 @@ module _ (m : Merge) (each : All IsLayer (whole m).layers) where
       ShowsWithinDepth-holds (two_layers m) (two m (upper m each) (lower m each)) path
       (own-shown m each path (sym (entry-directory m (upper m each) (lower m each) path) ∙ holds))
 
-  -- its names tell the new lower layer
+  -- its names give the new lower layer
   pub told : AreNamesOf (merged_entry m) (candidate_names m) merge_depth
   told = record { in_order = candidates-ascend; named = candidate; closed = new-parent; shallow = directory-limited }
 
--- the visits of a stack's merge tell it
+-- the visits of a stack's merge give it
 pub tells : (stack : StackView) → All IsLayer (whole (merge_of stack)).layers → TellsLayer (merged_entry (merge_of stack)) (merge_kids stack) (merge_out stack)
 tells stack each = layer-told (merged_entry (merge_of stack)) (candidate_names (merge_of stack)) merge_depth (told (merge_of stack) each)

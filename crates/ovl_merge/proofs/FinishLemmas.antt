@@ -68,7 +68,7 @@ module _ (m : Merge) (each : All IsLayer (whole m).layers) where
   abbrev out : Piece → List NamedInode
   out piece = entries_in m piece.dir
 
-  -- the plain walk tells the new lower layer
+  -- the plain walk gives the new lower layer
   pub walk-tells : (root : Inode) (views : List InodesParcel) → option_map visible (entry_at m.upper []) ≡ Some root → IsWalkWithin kids out views → IsToldWithin (merged_entry m) root views
   walk-tells root views is walk =
       let own = directory-entry m.upper [] (upper m each).rooted in

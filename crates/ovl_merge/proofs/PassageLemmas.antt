@@ -1,4 +1,4 @@
--- What the walks of a name in a directory tell of it.
+-- What the walks of a name in a directory report of it.
 use Rattle.std.proofs.Common.{◌≡◌, ℕ, ◌<◌, length, Bool, true, false, cond, Option, Some, None, [], is_some, refl, sym, ap, ◌∙◌, subst}
 use Rattle.std.specs.Prelude.{◌&&◌, not, is_none, IfSome}
 use Rattle.std.specs.Option.{option_and_then, option_or}

@@ -90,7 +90,7 @@ moved_twice : new_entries both_move ≡ layer_of ((path (codes "/b"), moved (cod
 unfolding inode_on_literals
 moved_twice = refl
 
--- its reach, its natural place, and a name under it, which the rest alone has
+-- its reach, its natural place, and a name under it, which only the rest has
 moved_twice-reach : reach both_move (path (codes "/b")) ≡ Some (path (codes "/x"))
 unfolding inode_on_literals
 moved_twice-reach = refl
@@ -112,7 +112,7 @@ data_only_elsewhere : new_entries (merge_of (told_below (codes "/g"))) ≡ layer
 unfolding inode_on_literals
 data_only_elsewhere = refl
 
--- but where the rest has a file there, it becomes a full one
+-- unless the rest has a file there, it becomes a full one
 data_only_hidden : new_entries (merge_of (told_past_whiteout file_a)) ≡ layer_of ((path (codes "/f"), file_a) ∷ (path (codes "/z"), new_whiteout) ∷ [])
 unfolding inode_on_literals
 data_only_hidden = refl

@@ -1,4 +1,4 @@
--- What the kept walks of a directory's path tell of it: whether the two layers show it, and where it goes on.
+-- What the kept walks of a directory's path report of it: whether the two layers show it, and where it goes on.
 use Rattle.std.proofs.Common.{◌≡◌, ℕ, Bool, true, false, cond, Option, Some, None, [], ◌∷◌, refl, sym, ap, ◌∙◌, subst}
 use Rattle.std.specs.Prelude.{◌&&◌, ◌||◌, not, is_some, is_none}
 use Rattle.ovl_names.specs.Paths.{PathNames, is_root}

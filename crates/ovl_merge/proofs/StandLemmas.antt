@@ -1,4 +1,4 @@
--- Where the walk of a directory stands in a layer, and how those of the names in it end.
+-- Where the walk of a directory is in a layer, and how those of the names in it end.
 use Rattle.std.proofs.Common.{◌≡◌, ℕ, ◌<◌, Bool, true, false, cond, Option, Some, None, [], length, refl, sym, ap, ◌∙◌, subst}
 use Rattle.std.specs.Prelude.{◌||◌, is_some, is_none, slice_get, unwrap_or, IfSome, MatchOption}
 use Rattle.std.specs.Option.{option_map}

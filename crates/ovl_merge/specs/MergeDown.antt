@@ -101,6 +101,6 @@ merged_entry m path = merged_entry_of m path (first_hit m path)
 abbrev pub IsMergedDown : Merge → Entries → Type 0
 IsMergedDown m layer = (path : PathNames) → entry_at layer path ≡ merged_entry m path
 
--- the new upper layer: the visible root of the upper layer alone
+-- the new upper layer: only the visible root of the upper layer
 abbrev pub merged_top : Merge → Entries
 merged_top m = cons_option (option_map (λ inode. ([], visible inode)) (entry_at m.upper [])) []

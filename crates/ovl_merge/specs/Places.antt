@@ -20,7 +20,7 @@ pub record Merge : Type 0 where
   pub lower : Entries
   pub rest : StackView
 
--- the whole stack, and the upper and the lower layer alone
+-- the whole stack, and the upper and the lower layer by themselves
 abbrev pub whole : Merge → StackView
 whole m = over m.upper (over m.lower m.rest)
 

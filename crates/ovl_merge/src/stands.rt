@@ -10,7 +10,7 @@ use ovl_lookup::{Arrival, Found, Onward, Trail};
 use ovl_names::Name;
 use std::alloc::{AllocError, Global};
 
-/// Where the walk of a directory's path stands in a layer.
+/// Where the walk of a directory's path is in a layer.
 #[derive(Drop)]
 pub(crate) struct Stand<'a> {
     // The number of its row, if the layer has the directory; else nothing is found at any name in

@@ -22,7 +22,7 @@ use Rattle.ovl_names.proofs.PathTexts.{text_names-some, parts-across, empty_is_n
 
 -- ---- bytes
 
--- the last bytes of a text are some of them, and those behind
+-- the last bytes of a text are some of them, and those after
 end-more : (xs : List ℕ) (k n : ℕ) → k + n ≤ length xs → drop (length xs - (k + n)) xs ≡ drop (length xs - k - n) (take (length xs - k) xs) ++ drop (length xs - k) xs
 end-more xs k n fits =
     let at : length xs - (k + n) ≡ length xs - k - n = omega (arith, fits) in
@@ -163,7 +163,7 @@ text_names-cut text front rest apart named = by front rest split (rw split at na
 cut : (xs : List ℕ) (count : ℕ) → 0 < count → count ≤ length xs → get_or xs (length xs - count) 0 ≡ slash → drop (length xs - count) xs ≡ slash ∷ drop (suc (length xs - count)) xs
 cut xs count some fits at = drop-cons xs (length xs - count) 0 (omega arith) ∙ ap (λ byte. byte ∷ drop (suc (length xs - count)) xs) at
 
--- where the last bytes in common begin with a separator, the names behind it are taken from both texts
+-- where the last bytes in common begin with a separator, the names after it are taken from both texts
 pub names-cut : (xs ys : List ℕ) (count : ℕ) → has_names (text_names xs) ≡ true → has_names (text_names ys) ≡ true → IsCommonNames xs ys count → LosesEnd (text_names xs) (text_names ys) (text_names (take (length xs - count) xs)) (text_names (take (length ys - count) ys))
 names-cut xs ys zero named other-named is = ([], whole xs, whole ys)
   where

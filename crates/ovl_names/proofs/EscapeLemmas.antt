@@ -3,7 +3,7 @@ use Rattle.std.proofs.Common.{◌≡◌, ℕ, List, [], ◌∷◌, Bool, true, f
 use Rattle.std.specs.List.{list_all}
 use Rattle.ovl_names.specs.Escapes.{is_plain, escaped}
 
--- a text of plain bytes alone is written as it is
+-- a text of only plain bytes is written as it is
 pub escaped-plain : (bytes : List ℕ) → list_all is_plain bytes ≡ true → escaped bytes ≡ bytes
 escaped-plain [] plain = refl
 escaped-plain (byte ∷ bytes) plain = by (escaped-plain bytes) (is_plain byte) refl

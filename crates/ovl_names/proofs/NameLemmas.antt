@@ -36,7 +36,7 @@ path_fault-relative depth (byte ∷ bytes) bare = by (nat_eq 47 byte) refl
     by true e = absurd (bare bytes (ap (λ first. first ∷ bytes) (sym (eqb-true 47 byte e)) ∙ ap (λ front. front ++ bytes) (sym (encode_ascii 47 (lit< tt)))))
     by false e = rw e refl
 
--- the parts of `/` and a text behind it
+-- the parts of `/` and a text after it
 pub text_parts-rest : (rest : List ℕ) → 0 < length rest → text_parts (slash ∷ rest) ≡ parts_between rest
 text_parts-rest [] some = absurd (omega arith)
 text_parts-rest (byte ∷ bytes) some = refl

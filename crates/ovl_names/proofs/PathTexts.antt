@@ -122,7 +122,7 @@ no_slash false false false false null none = refl
 pub slash_free : (name : List ℕ) → is_name name ≡ true → list_any (λ byte. byte == slash) name ≡ false
 slash_free name is = no_slash (length name == 0) (nat_lt name_limit (length name)) (name_eq name dot || name_eq name dot_dot) (list_any (λ byte. byte == slash) name) (list_any (λ byte. byte == 0) name) (both {a = is_none (name_fault name)} {b = is_utf8 name} is).0
 
--- a text that is a name has that name alone
+-- a text that is a name has only that name
 pub text_names-name : (name : List ℕ) → is_name name ≡ true → text_names name ≡ name ∷ []
 text_names-name [] is = let bad : is_name [] ≡ true = is in cc (empty_is_none)
 text_names-name (byte ∷ bytes) is = one_part (byte ∷ bytes) (slash_free (byte ∷ bytes) is)
@@ -355,7 +355,7 @@ text_cmp-end n xs ys end = by (drop n xs) (drop n ys) (length-drop n xs) (length
     by (x ∷ own) [] a b = nat_cmp_is (length xs) (length ys) Greater (omega arith)
     by (x ∷ own) (y ∷ others) a b = absurd (omega arith)
 
--- ---- texts one behind the other
+-- ---- texts one after the other
 
 -- the text of a path, as that of its names
 pub path_text-names : (text : List ℕ) → path_text (text_names text) ≡ slash ∷ text

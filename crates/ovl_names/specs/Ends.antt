@@ -9,7 +9,7 @@ use Rattle.ovl_names.specs.Names.{slash}
 use Rattle.ovl_names.specs.Paths.{PathNames, path_cmp, text_names}
 
 -- two lists of names are so to each other name by name from the last one on as `order` says first,
--- and what is left of them then, whatever stands before them
+-- and what is left of them then, whatever is before them
 abbrev pub OrdersEnds : PathNames → PathNames → PathNames → PathNames → Ordering → Type 0
 OrdersEnds own other own_left other_left order =
     (above other_above : PathNames)
@@ -37,13 +37,13 @@ IsEnds own other (Left text other_text) =
     LosesEnd own other (text_names text.now) (text_names other_text.now)
     × ((text_names text.now ≡ []) ⊎ (text_names other_text.now ≡ []))
 
--- two texts have so many bytes, and the last so many of them are the same
+-- two texts have this many bytes, and their last this many are the same
 pub record HasCommonEnd (count : ℕ) (own other : List ℕ) : Type 0 where
   pub own_fits : count ≤ length own
   pub other_fits : count ≤ length other
   pub same : drop (length own - count) own ≡ drop (length other - count) other
 
--- the last so many bytes of two texts are the most that are the same in both and begin with a
+-- the last this many bytes of two texts are the most that are the same in both and begin with a
 -- separator; 0 where none do
 pub record IsCommonNames (own other : List ℕ) (count : ℕ) : Type 0 where
   pub common : HasCommonEnd count own other

@@ -52,7 +52,7 @@ abbrev pub path_text : PathNames → List ℕ
 path_text [] = slash ∷ []
 path_text (name ∷ names) = flat_map (λ own. slash ∷ own) (name ∷ names)
 
--- what stands between the separators of a text
+-- what is between the separators of a text
 abbrev pub parts_between : List ℕ → List (List ℕ)
 parts_between text = slice_split (λ byte. byte == slash) text
 
@@ -61,12 +61,12 @@ abbrev pub text_names : List ℕ → PathNames
 text_names [] = []
 text_names (byte ∷ bytes) = parts_between (byte ∷ bytes)
 
--- the text of the names of two texts, one behind the other
+-- the text of the names of two texts, one after the other
 abbrev pub joined_text : List ℕ → List ℕ → List ℕ
 joined_text [] below = below
 joined_text (byte ∷ bytes) below = byte ∷ bytes ++ slash ∷ below
 
--- the parts of a path's text: none at `/`, else what stands between the separators after the first
+-- the parts of a path's text: none at `/`, else what is between the separators after the first
 abbrev pub text_parts : List ℕ → List (List ℕ)
 text_parts text = if bytes_eq text (slash ∷ []) then [] else parts_between (drop 1 text)
 

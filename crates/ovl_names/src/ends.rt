@@ -16,7 +16,7 @@ const FIRST_RUN: usize = 16;
 pub(crate) enum Ends<'a, 'b> {
     /// The first two that differ are so to each other.
     Apart(Ordering),
-    /// One text ends with all names of the other; this stands before them in each.
+    /// One text ends with all names of the other; this is before them in each.
     Left(&'a str, &'b str),
 }
 

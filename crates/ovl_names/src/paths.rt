@@ -31,7 +31,7 @@ pub enum PathFault {
     /// It does not begin with `/`.
     #[error("the path does not begin with `/`")]
     NotAbsolute,
-    /// Nothing stands between two separators, or after the last.
+    /// Nothing is between two separators, or after the last.
     #[error("the path has an empty part")]
     EmptyPart,
     /// A part is no name, see [`NameFault`](crate::NameFault).
@@ -313,7 +313,7 @@ fn parts_fault(rest: &str) -> Option<PathFault>
     }
 }
 
-/// Whether nothing stands before, after or between separators `/` of a text; the empty text has
+/// Whether nothing is before, after or between separators `/` of a text; the empty text has
 /// such a part.
 pub fn has_empty_part(text: &str) -> bool
     ensures { result ≡ list_any (λ part. length part == 0) (parts_between text.now) }

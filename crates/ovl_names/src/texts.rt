@@ -6,7 +6,7 @@ use arrayvec::ArrayString;
 use std::alloc::{AllocError, Global};
 use std::fmt::{self, Write};
 
-/// The most bytes of a text that stands in its value; a longer one is allocated.
+/// The most bytes of a text that is in its value; a longer one is allocated.
 const SHORT_LIMIT: usize = 24;
 
 /// A text that takes no memory of its own where it is short, as most names of files are.

@@ -69,7 +69,7 @@ pub balanced : {O : Type 0} (root : Piece) (parcels : List (Parcel O)) (count : 
     → IsBalanced root (bare parcels) []
 balanced root parcels count left counted same as_many balance = subst (IsBalanced root (bare parcels)) (none_of left (omega (arith, counted.1, counted.2, counted.3, as_many))) balance
 
--- so of all faults of the board out of memory alone is left
+-- so of all faults of the board only out of memory is left
 pub only_memory : (root : Piece) (views : List (ParcelView (Unit {0}))) → BalancedHaveNoFault → AllLawful views → IsBalanced root views [] → (fault : BoardFault) → IsBoardFault root views fault → fault ≡ Memory
 only_memory root views law lawful balance (Double p) is = absurd ((law root views lawful balance).0 p is.0)
 only_memory root views law lawful balance (Stranger p) is = absurd ((law root views lawful balance).1 p is.1.0)

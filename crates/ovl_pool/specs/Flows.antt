@@ -1,5 +1,5 @@
 -- What goes through lanes, however pieces are weighed: a weight of 1 for each piece counts them,
--- one of 1 for a single piece tells how often that one comes.
+-- one of 1 for a single piece says how often that one comes.
 use Rattle.std.specs.Prelude.{◌≡◌, ℕ, ◌+◌, ◌≤◌, List, length, Option, Some, None, if◌then◌else◌}
 use Rattle.std.specs.List.{sum_by}
 use Rattle.ovl_board.specs.declared.pieces.Piece.{Piece}

@@ -32,7 +32,7 @@ IsEndFault count fault =
     ((fault ≡ Memory) × (count.known ≢ count.delivered))
     ⊎ ((fault ≡ Board BoardMemory) × (count.known ≡ count.delivered))
 
--- a run that gave no walk: that the gate refused a piece goes before want of memory of a worker,
+-- a run that gave no walk: that the gate refused a piece goes before a lack of memory of a worker,
 -- and that before all else
 pub record IsRunFault (refused : Option Piece) (starved : Bool) (count : RunCount)
     (fault : RunFault) : Type 0 where
@@ -40,6 +40,6 @@ pub record IsRunFault (refused : Option Piece) (starved : Bool) (count : RunCoun
   pub memory : is_some refused ≡ false → starved ≡ true → fault ≡ Memory
   pub end : is_some refused ≡ false → starved ≡ false → IsEndFault count fault
 
--- so many pieces were known, delivered and taken, and none is left
+-- this many pieces were known, delivered and taken, and none is left
 abbrev pub CountsAll : ℕ → RunCount → Type 0
 CountsAll n count = (count.known ≡ n) × (count.delivered ≡ n) × (count.taken ≡ n) × (count.left ≡ 0)

@@ -170,7 +170,7 @@ fn assembly_puts_parcels_in_order_or_tells_the_first_fault(rt: HostRuntime) -> R
     Ok(())
 }
 
-// Whether so many workers are refused.
+// Whether this many workers are refused.
 fn is_refused(alloc: Global, small: &Tree, workers: usize) -> Result<bool, Fail> {
     let core = Core::start(alloc, small, piece(alloc, "/")?, workers);
     Ok(core.err() == Some(CoreFault::NotPossible))

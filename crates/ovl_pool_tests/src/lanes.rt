@@ -9,7 +9,7 @@ use ovl_test_rows::{expect_at, same};
 use std::alloc::{AllocError, Global};
 use std::test::Fail;
 
-/// The seat of one lane alone.
+/// The seat of only one lane.
 pub(crate) fn seat(alloc: Global) -> Result<Seat, Fail>
     ensures { IfOk result IsNew }
 {
@@ -27,7 +27,7 @@ fn steal_once(seat: &mut Seat) -> Option<Piece>
     piece
 }
 
-// Whether so many lanes are refused.
+// Whether this many lanes are refused.
 fn is_refused(alloc: Global, number: usize) -> bool {
     lanes(alloc, number).err() == Some(LaneFault::Count)
 }

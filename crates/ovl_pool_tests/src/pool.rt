@@ -28,7 +28,7 @@ const YIELDS: u32 = 50_000;
 // And how often where that one wasn't refused yet.
 const YIELDS_BEFORE: u32 = 10_000_000;
 
-// What a tally answers where pieces with so many kids are delivered one after another by one
+// What a tally answers where pieces with this many kids are delivered one after another by one
 // worker, and how many pieces are known and delivered then.
 fn deliver_by<K: Ledger, D: Ledger>(
     alloc: Global,
@@ -72,8 +72,8 @@ fn a_tally_notes_each_known_piece_once_and_no_more_than_it_can_count(
     )
 }
 
-// Workers, and the parcels of a run over the small tree with its own numbers; or what is told of
-// its fault.
+// Workers, and the parcels of a run over the small tree with its own numbers; or the text of its
+// fault.
 const RUNS: &str = "\
 0 -> there are 1 to 64 workers
 1 -> 3 RunCount { known: 3, delivered: 3, taken: 3, left: 0 }
@@ -124,12 +124,12 @@ struct Turn {
     in_turn: AtomicBool,
 }
 
-// What is told of each visit as it begins.
+// What learns of each visit as it begins.
 trait Witness {
     fn see(&self, piece: &Piece);
 }
 
-// A tree, and who is told of the visits to its pieces.
+// A tree, and who learns of the visits to its pieces.
 #[derive(Drop)]
 struct Watched<T: Drop> {
     tree: Tree,

@@ -31,7 +31,7 @@ fn pushing(alloc: Global, mut lane: Lane) -> Result<Lane, AllocError>
     Ok(lane)
 }
 
-// The pass with the pieces that came of so many tries.
+// The pass with the pieces that came of this many tries.
 fn stealing(alloc: Global, thief: &Thief, mut pass: Pass) -> Result<(Pass, Vec<Piece>), AllocError>
     requires { IsPass (thief_id thief.now) pass }
     ensures { IfOk result (λ ended. IsPass (thief_id thief.now) ended.0) }
@@ -153,7 +153,7 @@ fn hammered<R: Threads + Sync>(
     Ok((close(seat), stolen))
 }
 
-// Whether all pieces were pushed, so many of them taken, and the others left.
+// Whether all pieces were pushed, this many of them taken, and the others left.
 fn are_all(gathered: &Gathered, stolen: usize) -> bool {
     let all = u64::from(PIECES);
     gathered.pushed == all

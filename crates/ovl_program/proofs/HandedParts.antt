@@ -23,7 +23,7 @@ pub whole_first : (before after : Option (List ℕ)) (part : List ℕ) (befores 
 unfolding AreWhole
 whole_first before after part befores afters parts gone rest = (gone, rest)
 
--- the first part is cut, and nothing is written behind it
+-- the first part is cut, and nothing is written after it
 pub cut_first : (index written : ℕ) (before after : Option (List ℕ)) (part : List ℕ) (others : List (Option (List ℕ))) (parts : List (List ℕ))
     → index ≡ 0 → written < length part → Appends before after (take written part) → IsCutAt index written (before ∷ others) (after ∷ others) (part ∷ parts)
 unfolding IsCutAt

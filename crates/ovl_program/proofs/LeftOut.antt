@@ -1,4 +1,4 @@
--- What is told where an answer isn't written whole.
+-- What is reported where an answer isn't written whole.
 use Rattle.std.proofs.Common.{◌≡◌, ◌∙◌, ◌<◌, ◌≤◌, ℕ, List, [], ◌∷◌, ◌++◌, Option, Result, Ok, Err, MatchResult, length, map, take, sym, subst, inl, inr, arith, All, Contains, String, Vec, Global, string_bytes}
 use Rattle.std.specs.Prelude.{◌⊎◌}
 use Rattle.std.specs.Io.KnownBytes.{Appends, Keeps}

@@ -82,7 +82,7 @@ module _ (line : Line) (folder : String Global) (asked : line.blobs ≡ Some fol
   unread_of_blobs (Ok blobs) unread = tt
   unread_of_blobs (Err fault) unread = unread_of_more (IsInFolder text) (IsOfBlobs line) (λ path inside. (folder, (asked, rw same at inside))) fault unread
 
--- ---- what is told
+-- ---- what is reported
 
 module _ (may_come : Result Answer EngineFault → Type 0) (out : Option (String Global)) (before after : Option (List ℕ)) where
   -- a report that goes to a writer
@@ -130,7 +130,7 @@ pub few_coming_over : (request : Request) (answered : Result Answer EngineFault)
 few_coming_over request (Ok answer) is = few_layers _ _ _ answer is.1.is
 few_coming_over request (Err fault) is = tt
 
--- nor has one of merges until so many layers are left
+-- nor has one of merges until this many layers are left
 pub few_coming_down : (left : Option ℕ) (request : Request) (answered : Result Answer EngineFault) → IsComingDown left request answered → IfOk answered (λ answer. length answer.layers.items ≤ 255)
 few_coming_down None request answered is = few_coming request answered is
 few_coming_down (Some left) request (Ok answer) is = few_layers Merge is.1.last (findings request.blobs is.1.last) answer is.1.run

@@ -1,4 +1,4 @@
--- What workers tell of names, put into slots, and the first of their stops.
+-- What workers report of names, put into slots, and the first of their stops.
 use Rattle.std.proofs.Common.{◌≡◌, ◌∙◌, ◌<◌, ◌≤◌, ◌⊎◌, ◌∷◌, ◌++◌, [], ℕ, List, Option, Some, None, Result, Ok, Err, Vec, Global, All, arith, inl, inr, length, get_or, set, sym, ap, subst, refl}
 use Rattle.std.specs.Prelude.{slice_get, unwrap_or, Contains, IfSome, OnOk}
 use Rattle.std.proofs.lemmas.Bool.{cases_eq}
@@ -25,7 +25,7 @@ on_ok P (Err e) never is = absurd (never e refl)
 
 -- ---- one name
 
--- what is told of a name has that name
+-- what is reported of a name has that name
 its_name : (name : List ℕ) (content : Content) (held : Option (List ℕ)) → Some content ≡ told_of name held → content.name ≡ name
 its_name name content None e = cc
 its_name name content (Some bytes) e =
@@ -54,12 +54,12 @@ slots_more names slots told are is inside number held at =
       | inr other ↦ are number held (slice_get-get_or slots number None within ∙ ap Some (sym (get_or-set_other slots told.number number (Some told.held) None other) ∙ there))
     ]
 
--- what is in a slot, if anything is told there
+-- what is in a slot, if anything is reported there
 slot_there : (slots : List (Option (Option Held))) (number : ℕ) (held : Option Held) (slot : Option (Option (Option Held))) → slice_get slots number ≡ slot → Some held ≡ unwrap_or slot None → slice_get slots number ≡ Some (Some held)
 slot_there slots number held None e is = let bad : Some held ≡ None = is in cc
 slot_there slots number held (Some own) e is = e ∙ ap Some (sym is)
 
--- what is in the slot of a name is told of it
+-- what is in the slot of a name is reported of it
 pub told_there : (names : List (List ℕ)) (slots : Slots) (number : ℕ) (name : List ℕ) (found : Option (Option Held)) → AreSlotsOf names slots → number < length names → name ≡ get_or names number name
     → found ≡ unwrap_or (slice_get slots.held.items number) None → IfSome found (IsHeldUnder name)
 told_there names slots number name None are inside is found = tt

@@ -1,4 +1,4 @@
--- Contents that are told name by name.
+-- Contents that are given name by name.
 use Rattle.std.proofs.Common.{◌≡◌, ◌∙◌, ◌<◌, ◌+◌, ℕ, Bool, true, false, cond, inl, inr, Option, Some, None, List, [], ◌∷◌, ◌++◌, refl, sym, ap, subst, Contains, get_or, length, take, drop}
 use Rattle.std.specs.List.{list_all}
 use Rattle.std.specs.Option.{option_map, option_or}
@@ -41,7 +41,7 @@ unlike one other differ = by (bytes_eq one other) refl
     by true e = absurd (differ ((bytes_decides one other).0 e))
     by false e = refl
 
--- ---- a blob behind others
+-- ---- a blob after others
 
 none_found : (blobs : List BlobView) (name : List ℕ) → Every (λ blob. bytes_eq blob.name name ≡ false) blobs → find_blob blobs name ≡ None
 none_found [] name each = refl

@@ -22,12 +22,12 @@ IsNamedBy digest = (name : List ℕ) × (digest_of_text name ≡ Some digest)
 abbrev pub IsSpelt : List ℕ → Type 0
 IsSpelt digest = digest_of_text (encode_lower digest) ≡ Some digest
 
--- what is told of the blob of this digest, where these are the bytes of its file; nothing where it
+-- what is reported of the blob of this digest, where these are the bytes of its file; nothing where it
 -- has none
 abbrev pub told_of : List ℕ → Option (List ℕ) → Option Content
 told_of name held = option_map (λ bytes. content_of (record { name = name; bytes = bytes })) held
 
--- this is told of the blob of this digest, by some bytes of its file, or for want of one
+-- this is reported of the blob of this digest, by some bytes of its file, or for lack of one
 abbrev pub IsToldOf : List ℕ → Option Content → Type 0
 IsToldOf name told = (held : Option (List ℕ)) × (told ≡ told_of name held)
 

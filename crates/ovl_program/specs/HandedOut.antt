@@ -15,7 +15,7 @@ AreKept [] [] = ⊤
 AreKept (before ∷ befores) (after ∷ afters) = Keeps before after × AreKept befores afters
 AreKept _ _ = ⊥
 
--- the first parts, so many of them, are whole; of the next the first bytes are written, so many and
+-- the first parts, this many of them, are whole; of the next its first bytes, this many and
 -- fewer than all; later writers have what they had
 unfoldable pub IsCutAt : ℕ → ℕ → List (Option (List ℕ)) → List (Option (List ℕ)) → List (List ℕ)
     → Type 0

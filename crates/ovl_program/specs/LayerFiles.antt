@@ -12,7 +12,7 @@ use Rattle.ovl_program.specs.Faults.{IsMemory}
 abbrev pub layer_path : List ℕ → ℕ → List ℕ
 layer_path folder index = folder ++ codes "/layer-" ++ decimal index ++ codes ".json"
 
--- the path is that of one of so many new layers in the folder
+-- the path is that of one of this many new layers in the folder
 abbrev pub IsLayerFile : List ℕ → ℕ → List ℕ → Type 0
 IsLayerFile folder count path = (index : ℕ) × ((index < count) × (path ≡ layer_path folder index))
 

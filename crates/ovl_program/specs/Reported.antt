@@ -29,11 +29,11 @@ refuses_nothing piece = ⊥
 abbrev pub IsComing : Request → Result Answer EngineFault → Type 0
 IsComing request result = IsOutcome request refuses_nothing result
 
--- this may come of a request over contents that are told of the files of a folder
+-- this may come of a request over contents that are reported of the files of a folder
 abbrev pub IsComingOver : Request → Result Answer EngineFault → Type 0
 IsComingOver request result = IsOutcomeTold request anything refuses_nothing result
 
--- the same of its merges until so many layers are left, where that is asked
+-- the same of its merges until this many layers are left, where that is asked
 abbrev pub IsComingDown : Option ℕ → Request → Result Answer EngineFault → Type 0
 IsComingDown None request result = IsComing request result
 IsComingDown (Some left) request result = IsOutcomeDown left request refuses_nothing result
@@ -43,12 +43,12 @@ IsComingDownOver None request result = IsComingOver request result
 IsComingDownOver (Some left) request result =
     IsOutcomeDownTold left request anything refuses_nothing result
 
--- the fault is told by a report
+-- a report states the fault
 abbrev pub has_report : EngineFault → Bool
 has_report (FaultyLayers report) = true
 has_report _ = false
 
--- what is told of a command of which this may come, and how the program ends: its answer's report;
+-- what is reported of a command of which this may come, and how the program ends: its answer's report;
 -- or where it is refused for faults, theirs
 abbrev pub IsTold : (Result Answer EngineFault → Type 0) → List ℕ → Ending → Type 0
 IsTold may_come report ending =
@@ -78,7 +78,7 @@ IsReported may_come out before after (Err Words) = ⊥
 IsReported may_come out before after (Err Input) = ⊥
 IsReported may_come out before after (Err (Unread path)) = ⊥
 
--- what is asked of one manifest alone: what its layer shows
+-- what is asked of only one manifest: what its layer shows
 abbrev pub input_request : List ℕ → Request
 input_request manifest = record {
   what = Show;

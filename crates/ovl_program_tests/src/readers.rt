@@ -7,8 +7,8 @@ use std::alloc::Global;
 use std::io::{self, Cursor, Error, Read};
 use std::test::Fail;
 
-// A text, how many of its bytes a read gives, the number of the error behind them (0: its end), and
-// the limit; behind ` -> ` what is read, by how many reads. Error 4 is that of an interrupted read,
+// A text, how many of its bytes a read gives, the number of the error after them (0: its end), and
+// the limit; after ` -> ` what is read, by how many reads. Error 4 is that of an interrupted read,
 // 12 that the system is out of memory.
 const ROWS: &str = "\
 abcd 1 0 4 -> Ok([97, 98, 99, 100]) by 5
@@ -21,8 +21,8 @@ abc 3 12 9 -> Err(Device) by 2
  9 0 0 -> Ok([]) by 1
 ";
 
-// Gives these bytes, so many at a time, and then an error of this number, if it has one. Counts its
-// reads.
+// Gives these bytes, this many at a time, and then an error of this number, if it has one. Counts
+// its reads.
 #[derive(Drop)]
 struct Slow<'a> {
     left: &'a [u8],

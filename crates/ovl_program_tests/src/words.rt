@@ -5,7 +5,7 @@ use ovl_test_rows::{parts_of, same};
 use std::alloc::Global;
 use std::test::Fail;
 
-// Words with a space between them, and behind ` -> ` the line that they make, or what is told in
+// Words with a space between them, and after ` -> ` the line that they make, or what is reported in
 // its place.
 const ROWS: &str = "\
 show a.json -> Line { what: Show, workers: 4, data_layers: 0, blobs: None, any_size: false, down_to: None, out: None, layers: [\"a.json\"] }

@@ -12,7 +12,7 @@ use std::test::Fail;
 use std::thread::Threads;
 
 // Whether an answer of the layers `ab` and `cd` and the report `ef` is clean, or that of a merge,
-// and the bytes that two files and the output have room for; behind ` -> ` how it is handed out,
+// and the bytes that two files and the output have room for; after ` -> ` how it is handed out,
 // and how many bytes of their parts they took.
 const ROWS: &str = "\
 clean 9 9 9 -> Ok(0) 2 2 2
@@ -31,7 +31,7 @@ const MOVED: &str =
 {"entries":[{"gid":0,"kind":"dir","mode":493,"mtime":0,"mtime-nsec":0,"path":"/","uid":0,"xattrs":{}},{"gid":0,"kind":"dir","mode":493,"mtime":0,"mtime-nsec":0,"path":"/b","uid":0,"xattrs":{}},{"blob":"ca978112ca1bbdcafac231b39a23dc4da786eff8147c4e72b9807785afee48bb","gid":0,"kind":"file","mode":420,"mtime":0,"mtime-nsec":0,"path":"/b/z","size":1,"uid":0,"xattrs":{}}],"overlay-layer":2}
 "#;
 
-// A writer that takes a few bytes, and then fails for want of the device's room.
+// A writer that takes a few bytes, and then fails for lack of the device's room.
 #[derive(Drop)]
 struct Narrow {
     room: usize,

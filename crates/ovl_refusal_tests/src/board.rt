@@ -32,7 +32,7 @@ fn push_path(alloc: Global, paths: &mut Vec<Path>, text: &str) -> Result<(), All
     }
 }
 
-// A tree of so many paths: its root, directories of one letter, and such directories in these.
+// A tree of this many paths: its root, directories of one letter, and such directories in these.
 fn tree_of(alloc: Global, size: usize) -> Result<Tree, AllocError> {
     let mut paths = Vec::new(alloc);
     push_path(alloc, &mut paths, "/")?;

@@ -170,7 +170,7 @@ fn ends_so(report: &[u8], line: &str) -> bool {
     }
 }
 
-// Whether an answer has this end, or a refusal this one behind `!`.
+// Whether an answer has this end, or a refusal this one after `!`.
 fn is_told(answered: &Result<Answer, EngineFault>, end: &str) -> bool {
     match (answered, end.strip_prefix("! ")) {
         (Ok(answer), None) => ends_so(&answer.report, end),
@@ -208,7 +208,7 @@ fn ends<R: Threads + Wait + Sync>(
     }
 }
 
-// A failure where a command of a sample doesn't end as it says, by so many workers.
+// A failure where a command of a sample doesn't end as it says, by this many workers.
 fn end_by<R: Threads + Wait + Sync>(
     rt: &R,
     alloc: Global,

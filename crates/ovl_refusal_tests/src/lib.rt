@@ -1,5 +1,5 @@
-//! Tests of public calls that want memory. A function here makes calls and says whether each gives
-//! what it should; where one of them tells that it is out of memory, the function is called again
+//! Tests of public calls that lack memory. A function here makes calls and says whether each gives
+//! what it should; where one of them says that it is out of memory, the function is called again
 //! with the same arguments, and then has memory. So it is seen that no call gives anything else
 //! than its answer or out of memory, and that what it was lent is as it was. As the gate runs them
 //! all calls have memory. `tests/program/refusals.py` runs each test again and again, with the first, the

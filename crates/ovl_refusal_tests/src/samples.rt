@@ -5,7 +5,7 @@ use ovl_lookup::Stack;
 use ovl_manifest::read_layer;
 use std::alloc::{AllocError, Global};
 
-// The stack of these manifests; what refuses it but out of memory is told as that too.
+// The stack of these manifests; what refuses it but out of memory is reported as that too.
 fn read_stack(alloc: Global, manifests: &str) -> Result<Stack, AllocError> {
     let mut layers = Vec::new(alloc);
     for manifest in manifests.lines() {
@@ -30,7 +30,7 @@ pub(crate) fn moved_stack(alloc: Global) -> Result<Stack, AllocError> {
     stack_of(alloc, MOVED.manifests)
 }
 
-/// A root alone.
+/// Only a root.
 pub(crate) const ROOT: &str =
     r#"{"entries":[{"gid":0,"kind":"dir","mode":493,"mtime":0,"mtime-nsec":0,"path":"/","uid":0,"xattrs":{}}],"overlay-layer":2}
 "#;
@@ -41,8 +41,8 @@ pub(crate) const DOUBLE: &str =
 {"entries":[{"gid":0,"kind":"dir","mode":493,"mtime":0,"mtime-nsec":0,"path":"/","uid":0,"xattrs":{}},{"gid":0,"kind":"dir","mode":493,"mtime":0,"mtime-nsec":0,"path":"/x","uid":0,"xattrs":{}}],"overlay-layer":2}
 "#;
 
-/// A stack, the contents of its blobs, each behind `=` where they have the name of others, and the
-/// end of each command's report, or behind `!` what refuses it.
+/// A stack, the contents of its blobs, each after `=` where they have the name of others, and the
+/// end of each command's report, or after `!` what refuses it.
 #[derive(Clone, Copy, Debug)]
 pub(crate) struct Sample {
     pub(crate) manifests: &'static str,

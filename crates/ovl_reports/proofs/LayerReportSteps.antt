@@ -23,12 +23,12 @@ one_more_counted nodes k node inside is =
     let own : Entries = under node.name (entries_from node.inode node.below) in
     omega (arith, ap length (entries_of_nodes-more nodes k node inside is), length-append done own, length-map {B = Entry} (entries_from node.inode node.below) (λ entry. (node.name ∷ entry.0, entry.1)))
 
--- the line of an entry in a directory, by what stands before its name
+-- the line of an entry in a directory, by what is before its name
 pub line_in : (dir : PathNames) (name : PathName) (inode : Inode) → marked_line (mark_of inode) (shown_names dir ++ (codes "/" ++ escaped name)) ≡ entry_line (child_path dir name, inode)
 line_in [] name inode = ap (marked_line (mark_of inode)) (sym (shown-child [] name))
 line_in (first ∷ dir) name inode = ap (marked_line (mark_of inode)) (sym (shown-child (first ∷ dir) name))
 
--- the line of a node, by what stands before its name
+-- the line of a node, by what is before its name
 pub told : (old new above : List ℕ) (dir : PathNames) (name : PathName) (inode : Inode) → above ≡ shown_names dir
     → new ≡ old ++ marked_line (mark_of inode) (above ++ (codes "/" ++ escaped name)) → new ≡ old ++ entry_line (child_path dir name ++ [], inode)
 told old new above dir name inode text line =

@@ -1,5 +1,5 @@
--- The merged tree told in path order, from the parcels of its walk: the directories that are open lie below one another,
--- and each has entries that are still to be told.
+-- The merged tree listed in path order, from the parcels of its walk: the directories that are open lie below one another,
+-- and each has entries that are still to be listed.
 use Rattle.std.proofs.Common.{◌≡◌, ℕ, zero, suc, ◌-◌, ◌*◌, ◌<◌, ◌≤◌, inl, inr, true, false, cond, List, [], ◌∷◌, ◌++◌, length, map, refl, sym, ap, ◌∙◌, subst, arith, append-nil, append_assoc, length-append}
 use Rattle.std.specs.Prelude.{filter}
 use Rattle.std.specs.List.{flat_map, All}
@@ -44,7 +44,7 @@ module _ {X : Type 0} (P : X → Type 0) (xs : List X) (x : X) where
     | inr back ↦ elim back [ inl e ↦ subst P (sym e) last | inr none ↦ absurd none ]
   ]
 
--- a directory that is open: its path, and the entries that are still to be told
+-- a directory that is open: its path, and the entries that are still to be listed
 abbrev pub OpenView : Type 0
 OpenView = PathNames × List NamedLook
 
@@ -52,14 +52,14 @@ module _ (stack : StackView) where
   abbrev whole : ℕ
   whole = depth_limit * length stack.layers
 
-  -- the paths that it has still to tell, and the pieces below it that are still to be opened
+  -- the paths that it has still to list, and the pieces below it that are still to be opened
   abbrev pub paths_left : OpenView → List PathNames
   paths_left opened = flat_map (λ entry. paths_from stack (whole - length opened.0) (child_path opened.0 entry.0)) opened.1
 
   abbrev pieces_left : OpenView → List Piece
   pieces_left opened = flat_map (λ p. preorder (show_kids stack) (whole - length opened.0 - 1) p) (directories_in (at opened.0) opened.1)
 
-  -- its entries stand at the end of what the directory shows
+  -- its entries are at the end of what the directory shows
   pub record IsOpen (opened : OpenView) : Type 0 where
     pub told : List NamedLook
     pub shown : looks_in stack opened.0 ≡ told ++ opened.1
@@ -69,7 +69,7 @@ module _ (stack : StackView) where
   abbrev pub all_paths : List PathNames
   all_paths = [] ∷ below stack whole []
 
-  -- these paths are told, these directories are open, and the parcels for the rest are these
+  -- these paths are listed, these directories are open, and the parcels for the rest are these
   pub record IsTold (opens : List OpenView) (told : List PathNames) (rest : List (ParcelView (List NamedLook))) : Type 0 where
     pub paths : told ++ stacked paths_left opens ≡ all_paths
     pub each_open : Every IsOpen opens
@@ -139,7 +139,7 @@ module _ (stack : StackView) where
       each_kept : Every IsOpen (opens ++ (dir, left) ∷ [])
       each_kept = every-push IsOpen opens (dir, left) (every-front IsOpen opens (dir, entry ∷ left) h.each_open) here
 
-      -- the paths that are still to be told, from this entry on
+      -- the paths that are still to be listed, from this entry on
       paths_from_here : paths_left (dir, entry ∷ left) ≡ child ∷ (below stack (whole - length child) child ++ paths_left (dir, left))
       paths_from_here = ap (λ n. paths_from stack n child ++ paths_left (dir, left)) deeper
 
@@ -230,11 +230,11 @@ view_of parcel = parcel_view (λ looks. looks.items) parcel
 abbrev pub views_of : List ShowParcel → List (ParcelView (List NamedLook))
 views_of parcels = parcel_views (λ looks. looks.items) parcels
 
--- the directory that a parcel is of, before an entry of it is told
+-- the directory that a parcel is of, before an entry of it is listed
 abbrev pub opened_by : ShowParcel → OpenView
 opened_by parcel = (parcel.piece.dir, parcel.out.items)
 
--- a first parcel, and those behind it
+-- a first parcel, and those after it
 abbrev pub HasFirst : List ShowParcel → Type 0
 HasFirst parcels = (parcel : ShowParcel) × ((others : List ShowParcel) × (parcels ≡ parcel ∷ others))
 
@@ -299,7 +299,7 @@ module _ (stack : StackView) (each : All IsLayer stack.layers) where
               (subst (IsTold stack ((kept ++ ((view o).0, left) ∷ []) ++ (path, looks_in stack path) ∷ []) (told ++ path ∷ [])) (sym later)
               (entered-next stack each kept (view o).0 entry left told (views_of rest) standing))
 
-  -- at first the root is told, and its directory is open
+  -- at first the root is listed, and its directory is open
   module _ (some : 0 < length stack.layers) where
     abbrev views_below : List (ParcelView (List NamedLook))
     views_below = map (own stack) (pieces_left stack ([], looks_in stack []))

@@ -46,7 +46,7 @@ module _ (stack : StackView) (first : ℕ) where
   abbrev line_at : PathNames → List ℕ
   line_at path = show_line (with_look stack path)
 
-  -- the report has the lines of the paths that are told, but for the first ones, and is to have those of the others
+  -- the report has the lines of the paths that are listed, but for the first ones, and is to have those of the others
   pub record IsListing (report : List ℕ) (entries : ℕ) (opens : List Open) (rest : List ShowParcel) : Type 0 where
     pub told : List PathNames
     pub is_told : IsTold stack (map view opens) told (views_of rest)
@@ -54,7 +54,7 @@ module _ (stack : StackView) (first : ℕ) where
     pub counted : entries ≡ length told
     pub texts : Every HasText opens
 
-  -- the lines of some entries, of which the first one is told
+  -- the lines of some entries, of which the first one is listed
   first_told : (line : NamedLook → List ℕ) (report : List ℕ) (entry : NamedLook) (others : List NamedLook) (entries : ℕ)
       → report ++ flat_map line (drop (first - entries) (entry ∷ others)) ≡ (report ++ cond (leb first entries) (line entry) []) ++ flat_map line (drop (first - (entries + 1)) others)
   first_told line report entry others entries = by (leb first entries) refl
@@ -191,7 +191,7 @@ module _ (stack : StackView) (first : ℕ) where
         o' (λ j. ((parcel j).now.piece.dir, drop o'.told (parcel j).now.out.items)) (ap string_bytes text))
 
     module _ (some : 0 < length stack.layers) where
-      -- at first the root is told, and its directory is open
+      -- at first the root is listed, and its directory is open
       pub listing-first : (parcel : ShowParcel) (parcels : List ShowParcel) → IsShowWalk stack (views_of (parcel ∷ parcels))
           → (report : List ℕ) → report ≡ cond (first == 0) (line_at []) [] → (o : Open) → o.parcel.now ≡ parcel → o.told ≡ 0 → string_bytes o.text ≡ [] → IsListing report 1 (o ∷ []) parcels
       listing-first parcel parcels plain report line o its none its_text = record {
@@ -208,7 +208,7 @@ module _ (stack : StackView) (first : ℕ) where
           root_line zero = sym (append-nil (line_at []))
           root_line (suc n) = ap (λ b. cond b (line_at []) []) (eqb-suc-zero n) ∙ ap (flat_map line_at) (sym (drop_all {X = PathNames} (suc n) ([] ∷ []) (omega arith)))
 
-      -- the lines of a share of the paths are written once as many paths are told, or all
+      -- the lines of a share of the paths are written once as many paths are listed, or all
       shares_lines : (share : ℕ) → flat_map line_at (take share (drop first (all_paths stack))) ≡ flat_map show_line (take share (drop first (merged_tree stack)))
       shares_lines share =
           let paths = all_paths stack in

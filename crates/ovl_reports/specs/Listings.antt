@@ -31,15 +31,15 @@ pub record IsTreeOf (stack : StackView) (root : Look)
   pub root_is : root ≡ look stack []
   pub walk : IsShowWalk stack parcels
 
--- the line of an entry of a directory, by what stands before the names in it
+-- the line of an entry of a directory, by what is before the names in it
 abbrev pub name_line : List ℕ → NamedLook → List ℕ
 name_line above entry = look_line (above ++ (codes "/" ++ escaped entry.0)) entry.1
 
--- an open directory with one more of its entries told
+-- an open directory with one more of its entries listed
 abbrev pub one_told : Open → Open
 one_told directory = record directory { told = directory.told + 1 }
 
--- of these entries of a directory the first ones are told, none of which is a directory, and the
+-- of these entries of a directory the first ones are listed, none of which is a directory, and the
 -- others are left; those from number `first` on have their lines
 pub record TellsLeaves (first : ℕ) (above : List ℕ) (entries left : List NamedLook) (told told' : ℕ)
     (lines lines' : List ℕ) : Type 0 where

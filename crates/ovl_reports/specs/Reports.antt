@@ -31,7 +31,7 @@ abbrev pub time_word : ℤ → ℕ → List ℕ
 time_word seconds nsec =
     signed_decimal seconds ++ (if nsec == 0 then [] else codes "+" ++ nine_digits nsec)
 
--- files alone have a size
+-- only files have a size
 abbrev pub size_word : Kind → List ℕ
 size_word (File size blob) = decimal size
 size_word _ = codes "-"
@@ -59,7 +59,7 @@ what_word broken _ = codes "-"
 abbrev pub attribute_word : List ℕ × List ℕ → List ℕ
 attribute_word attr = codes " " ++ escaped attr.0 ++ codes "=" ++ encode_lower attr.1
 
--- what stands before the names in a directory
+-- what is before the names in a directory
 abbrev pub shown_names : PathNames → List ℕ
 shown_names dir = flat_map (λ own. codes "/" ++ escaped own) dir
 

@@ -94,7 +94,7 @@ fn with_count(mut lines: String, entries: usize) -> Result<Vec<u8>, AllocError>
     Ok(lines.into_bytes())
 }
 
-// The number of all paths: `/`, and what stands in the directories. Memory can't hold as many as
+// The number of all paths: `/`, and what is in the directories. Memory can't hold as many as
 // have none.
 fn entries_of(parcels: &[Parcel<Vec<(Name, Look)>>]) -> Result<usize, AllocError>
     ensures { IfOk result
@@ -321,7 +321,7 @@ pub(crate) fn one_more(entries: u64) -> Result<u64, AllocError>
     entries.checked_add(1).ok_or(AllocError)
 }
 
-/// What stands before the names in a directory, by what stands before its own name.
+/// What is before the names in a directory, by what is before its own name.
 pub(crate) fn text_of(alloc: Global, above: &str, name: &str) -> Result<String, AllocError>
     ensures { IfOk result
         (λ text. string_bytes text ≡ above.now ++ (codes "/" ++ escaped name.now)) }

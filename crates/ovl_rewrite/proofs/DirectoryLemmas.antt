@@ -112,7 +112,7 @@ module _ (new : NewLayer) where
         by name None e None h = e ∙ sym h
         by name None e (Some inode) h = absurd (none-found name (tree directory) inode e (new-entry directory name inode h))
 
-    -- visits of these directories tell the new layer
+    -- visits of these directories give the new layer
     pub layer-told : TellsLayer new (tree_kids tree) (tree_out tree)
     layer-told = record { output = λ piece. entries-told piece.dir; directories = λ piece. refl }
 

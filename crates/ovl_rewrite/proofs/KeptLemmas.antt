@@ -1,4 +1,4 @@
--- The plain walk over those directories alone that a manifest can hold.
+-- The plain walk over only those directories that a manifest can hold.
 use Rattle.std.proofs.Common.{◌≡◌, ◌≤◌, ℕ, suc, inl, inr, Bool, true, false, cond, List, [], ◌∷◌, map, length, refl, sym, ap, ◌∙◌, subst, arith, Contains}
 use Rattle.std.specs.Prelude.{◌||◌, ◌==◌, not, filter}
 use Rattle.std.specs.List.{count_by, list_any, list_all}
@@ -157,7 +157,7 @@ module _ (tree : TreeEntries) where
       let one = In-map-cases (λ (entry : NamedInode). piece_in piece entry.0) kid.0 (filter is_own_directory (tree piece.dir)) kid.1 in
       (one.0, (In-filter-cases is_own_directory one.0 (tree piece.dir) one.1.0).0, ap is_kept (sym one.1.1) ∙ kid.2)
 
--- ---- what such a walk tells
+-- ---- what such a walk gives
 
 module _ (root : Inode) (views : List InodesParcel) (new : NewLayer) (by : IsToldWithin new root views) where
   abbrev tree : TreeEntries

@@ -16,7 +16,7 @@ use Rattle.ovl_rewrite.specs.Passes.{TreeEntries, IsTree, tree_kids, tree_out, e
 use Rattle.ovl_rewrite.specs.NewLayers.{NewLayer, IsOf, IsToldBy, tree_by}
 use Rattle.ovl_rewrite.proofs.TreeLemmas.{told-ascend, told-of, is-tree}
 
--- ---- the entries that the parcels tell
+-- ---- the entries that the parcels give
 
 -- the plain walk has the parcels under the root
 walk-under : (tree : TreeEntries) (deepest : ℕ) → IsTree tree deepest → (views : List InodesParcel) → IsPlain (tree_kids tree) (tree_out tree) (space_root 0) views → views ≡ views_under tree deepest (space_root 0)

@@ -1,4 +1,4 @@
--- The next entry of a parcel that is gone through, behind those that are done.
+-- The next entry of a parcel that is gone through, after those that are done.
 use Rattle.std.proofs.Common.{◌≡◌, ◌<◌, ◌+◌, ◌⊎◌, inl, inr, Result, Err, ℕ, true, false, List, [], ◌∷◌, ◌++◌, length, get_or, refl, sym, ap, ◌∙◌, subst, arith, length-append}
 use Rattle.ovl_inode.specs.Marks.{is_directory}
 use Rattle.ovl_layer.specs.Layers.{Entries}
@@ -13,7 +13,7 @@ use Rattle.ovl_rewrite.specs.declared.faults.RewriteFault.{RewriteFault}
 use Rattle.ovl_rewrite.specs.declared.faults.RewriteFault.TheVariants.{LimitOut, Memory}
 use Rattle.ovl_rewrite.proofs.UnderLemmas.{WalksAmong, walk-directory, walk-file, stops-directory}
 
--- the element behind others
+-- the element after others
 behind : {X : Type 0} (xs : List X) (x : X) (ys : List X) (d : X) → get_or (xs ++ x ∷ ys) (length xs) d ≡ x
 behind [] x ys d = refl
 behind (first ∷ xs) x ys d = behind xs x ys d
@@ -67,7 +67,7 @@ module _ {Out : Type 0} (seen : Out → List NamedInode) (rest : List (Parcel Ou
   pub next-stops : is_directory entry.1 ≡ true → StopsUnder after → StopsUnder (parcel_views seen rest)
   next-stops = stops-below (parcel_views seen rest) (parcel_view seen parcel) (parcel_views seen later) (ap (parcel_views seen) items) after done left entry parts mid walked
 
--- a walk that another name is given to, with what it leaves and what it tells
+-- a walk that another name is given to, with what it leaves and what it gives
 pub walks-on : {R : Type 0} (views : R → List InodesParcel) (after : List InodesParcel) (last rest : R) (kids below : Entries) → last ≡ rest → kids ≡ below → WalksUnder after (views rest) below → WalksUnder after (views last) kids
 walks-on {R} views after last rest kids below moved same walk = subst (WalksUnder after (views last)) (sym same) (subst (λ (r : R). WalksUnder after (views r) below) (sym moved) walk)
 

@@ -1,4 +1,4 @@
--- The entries that a new layer's tree tells: in order, and at each path what the new layer has.
+-- The entries that a new layer's tree gives: in order, and at each path what the new layer has.
 use Rattle.std.proofs.Common.{◌≡◌, ℕ, zero, suc, ◌+◌, ◌≤◌, inl, inr, Bool, true, false, cond, Option, Some, None, List, [], ◌∷◌, ◌++◌, length, refl, sym, ap, ◌∙◌, subst, append_assoc, arith, length-append}
 use Rattle.std.specs.declared.cmp.Ordering.TheVariants.{Less, Equal}
 use Rattle.std.specs.Cmp.Lexicographic.{nat_list_cmp_total, pointwise_decides, bytes_decides}
@@ -56,7 +56,7 @@ module _ (new : NewLayer) (names : PathNames → List PathName) (deepest : ℕ) 
 
   -- ---- in order
 
-  -- what is told of an entry lies at or under it
+  -- what is reported of an entry lies at or under it
   lies-told : (depth : ℕ) (directory : PathNames) (one : NamedInode) (entry : Entry)
       → (In entry (under depth (child_path directory one.0)) → (name : PathName) × (rest : PathNames) × (entry.0 ≡ child_path directory one.0 ++ name ∷ rest))
       → In entry (with_under depth directory one) → (rest : PathNames) × (entry.0 ≡ directory ++ one.0 ∷ rest)

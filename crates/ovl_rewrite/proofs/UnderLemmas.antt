@@ -1,4 +1,4 @@
--- The parcels of a directory and of what lies under it, entry by entry, and the entries that they tell.
+-- The parcels of a directory and of what lies under it, entry by entry, and the entries that they give.
 use Rattle.std.proofs.Common.{◌≡◌, ℕ, zero, suc, ◌+◌, ◌-◌, ◌≤◌, ◌<◌, true, false, cond, List, [], ◌∷◌, ◌++◌, length, map, get_or, take, drop, refl, sym, ap, ◌∙◌, subst, append_assoc, arith, length-append}
 use Rattle.std.specs.Prelude.{filter}
 use Rattle.std.specs.List.{flat_map}

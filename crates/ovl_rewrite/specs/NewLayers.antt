@@ -1,4 +1,4 @@
--- What a new layer has at each path, told directory by directory.
+-- What a new layer has at each path, given directory by directory.
 use Rattle.std.specs.Prelude.{◌≡◌, ◌≤◌, ℕ, Bool, true, false, ◌==◌, not, Option, Some, None, List, [], length, map}
 use Rattle.std.specs.Option.{option_map}
 use Rattle.std.specs.List.{count_by, list_any, filter_map}
@@ -36,7 +36,7 @@ pub record AreEntriesOf (new : NewLayer) (directory : PathNames)
   pub in_order : ascends name_cmp (map (λ entry. entry.0) entries) ≡ true
   pub same : (name : PathName) → lookup (name_eq name) entries ≡ new (child_path directory name)
 
--- a work's visits tell a new layer: a piece puts out the entries of its directory, and its kids are
+-- a work's visits give a new layer: a piece puts out the entries of its directory, and its kids are
 -- those of them that are directories
 pub record TellsLayer (new : NewLayer) (kids : Piece → List Piece)
     (out : Piece → List NamedInode) : Type 0 where
@@ -64,7 +64,7 @@ pub record AreNamesOf (new : NewLayer) (names : PathNames → List PathName)
   pub shallow : (directory : PathNames) → has_directory new directory ≡ true
       → length directory ≤ deepest
 
--- parcels tell a new layer with this root: they are the plain walk over its directories
+-- parcels give a new layer with this root: they are the plain walk over its directories
 pub record IsToldBy (new : NewLayer) (root : Inode) (views : List InodesParcel) : Type 0 where
   pub names : PathNames → List PathName
   pub deepest : ℕ
@@ -78,7 +78,7 @@ abbrev pub IsWalkWithin : (Piece → List Piece) → (Piece → List NamedInode)
     → Type 0
 IsWalkWithin kids out views = IsPlain (visited_kids kids) out (space_root 0) views
 
--- parcels tell it so
+-- parcels give it so
 pub record IsToldWithin (new : NewLayer) (root : Inode) (views : List InodesParcel) : Type 0 where
   pub names : PathNames → List PathName
   pub deepest : ℕ

@@ -1,4 +1,4 @@
--- The entries of a tree that is told directory by directory, and how they are taken from the
+-- The entries of a tree that is given directory by directory, and how they are taken from the
 -- parcels of its plain walk.
 use Rattle.std.specs.Prelude.{◌≡◌, ◌≤◌, ℕ, zero, suc, ◌-◌, false, List, [], ◌∷◌, ◌++◌, length, map, Contains}
 use Rattle.std.specs.List.{flat_map}

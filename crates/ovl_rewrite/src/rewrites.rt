@@ -23,7 +23,7 @@ pub trait Rewrite: Work<Out = Vec<(Name, Inode)>> {
     /// What the work is over is sound.
     ghost is_sound: { Self → Type 0 };
 
-    /// The root of the new layer, which the plain walk tells with it. Fails only when out of
+    /// The root of the new layer, which the plain walk gives with it. Fails only when out of
     /// memory.
     fn root(&self, alloc: Global) -> Result<Inode, AllocError>
         ensures told { IfOk result (λ root. (parcels : List (Parcel (Vec NamedInode Global)))

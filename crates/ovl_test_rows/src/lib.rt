@@ -1,4 +1,4 @@
-//! What tests of several crates go by: rows of text, each the words of a call and, behind ` -> `,
+//! What tests of several crates go by: rows of text, each the words of a call and, after ` -> `,
 //! what comes of it, and failures of what isn't so.
 #![tactic(auto)]
 

@@ -62,7 +62,7 @@ paths-rise (entry ∷ layer) up =
 
 -- ---- the names in a directory
 
--- a name is one of them exactly where its path is one of the layer's
+-- a name is one of them exactly if its path is one of the layer's
 pub name-In : (layer : Entries) (directory : PathNames) (name : PathName) → In name (names_below layer directory) → In (child_path directory name) (paths_of layer)
 name-In [] directory name h = absurd h
 name-In (entry ∷ layer) directory name h = by (name-In layer directory name) (name_below directory entry.0) refl h

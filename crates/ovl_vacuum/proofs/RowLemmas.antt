@@ -1,4 +1,4 @@
--- The rows of the topmost layer: which are told to be idle, and which go.
+-- The rows of the topmost layer: which are known to be idle, and which go.
 use Rattle.std.proofs.Common.{◌≡◌, ℕ, zero, suc, ◌+◌, ◌-◌, ◌<◌, ◌≤◌, ◌⊎◌, inl, inr, Bool, true, false, cond, Option, Some, None, IsSome, Bor, Ok, List, [], ◌∷◌, ◌++◌, length, map, get_or, set, replicate, take, length-take, drop, refl, sym, ap, subst, ◌∙◌, append_assoc, arith, length-append}
 use Rattle.std.specs.Prelude.{Vec, All, IsSomeAnd, slice_get, filter, is_none, ◌&&◌, ◌||◌, not, unwrap_or}
 use Rattle.std.specs.Option.{option_map}
@@ -99,7 +99,7 @@ root-first layer is = by layer (paths-rise layer is.in_order) (let root = direct
 pub some-rows : (layer : Entries) → IsLayer layer → 0 < length layer
 some-rows layer is = let root = directory-entry layer [] is.rooted in let row = row-of layer [] root.0 root.1 in omega (arith, row.1)
 
--- a row whose name is known lies in its directory, and the root alone has none
+-- a row whose name is known lies in its directory, and only the root has none
 pub named-path : (path : PathNames) (name : PathName) → last_name path ≡ Some name → child_path (parent_path path) name ≡ path
 named-path path name named = by (last-name path)
   where
@@ -283,7 +283,7 @@ module _ (stack : StackView) (is : IsLayer (top_layer stack)) (parcels : List (P
       pub left-after : AreLeft stack parcels (at + 1) (number + 1)
       left-after = ap (drop 1) heads
 
-      -- the directory's parcel tells its names
+      -- the directory's parcel gives its names
       pub left-names : (parcel : Parcel (Vec IdleName Global)) → parcel ≡ get_or parcels at parcel → parcel.out.items ≡ names_told stack number
       left-names parcel is_parcel =
           let own : Piece → ParcelView (List IdleName) = own_view (vacuum_kids stack) (vacuum_out stack) in
@@ -296,7 +296,7 @@ module _ (stack : StackView) (is : IsLayer (top_layer stack)) (parcels : List (P
           ∙ (get_or-map own (pieces_of views) at vacuum_root view many ∙ ap own piece))) in
           ap (λ (v : ParcelView (List IdleName)). v.seen) seen
 
--- ---- what is told of the rows
+-- ---- what is reported of the rows
 
 module _ (stack : StackView) where
   root-busy : is_idle_at stack [] ≡ false
@@ -306,7 +306,7 @@ module _ (stack : StackView) where
       by None = refl
       by (Some inode) = refl
 
-  -- a flag that is set as it should be is told, and so are those that were
+  -- a flag that is set as it should be is right, and so are those that were
   told-set : (flags : List Bool) (kid : ℕ) (flag : Bool) → kid < length flags → flag ≡ is_idle_at stack (path_at (top_layer stack) kid) → IsIdleTold stack (set flags kid flag) kid
   told-set flags kid flag inside is_flag = get_or-set_same flags kid flag false inside ∙ is_flag
 
@@ -317,7 +317,7 @@ module _ (stack : StackView) where
       by (inl same) = subst (IsIdleTold stack (set flags kid flag)) (sym same) (told-set flags kid flag inside is_flag)
       by (inr differ) = get_or-set_other flags kid number flag false differ ∙ told
 
--- those of the first rows directly below a directory's are told
+-- those of the first rows directly below a directory's are set
 pub record ToldAmong (stack : StackView) (kids : List ℕ) (i : ℕ) (old new : List Bool) : Type 0 where
   pub count : length new ≡ length old
   pub kept : (number : ℕ) → IsIdleTold stack old number → IsIdleTold stack new number
@@ -380,7 +380,7 @@ module _ (stack : StackView) (directory : ℕ) (kids : List ℕ) (old : List Boo
         subst (IsIdleTold stack flags) same (among.told spot.0 (omega (arith, among_kids, end)));
   }
 
--- of the rows in the directories among the first ones, and of the root, the flags are told
+-- of the rows in the directories among the first ones, and of the root, the flags are set
 pub record ToldTo (stack : StackView) (number : ℕ) (flags : List Bool) : Type 0 where
   pub count : length flags ≡ length (top_layer stack)
   pub root : IsIdleTold stack flags 0
@@ -444,7 +444,7 @@ module _ (stack : StackView) (is : IsLayer (top_layer stack)) where
 abbrev pub kids_go : Entries → StackView → PathNames → Entries → Bool
 kids_go top below path entries = list_all (λ entry. is_none (name_below path entry.0) || is_idle_throughout top below entry.0) entries
 
--- an entry goes exactly where it is idle, and all that lie directly in it go
+-- an entry goes exactly if it is idle, and all that lie directly in it go
 module _ (stack : StackView) (is : IsLayer (top_layer stack)) (number : ℕ) (inside : number < length (top_layer stack)) where
   abbrev top : Entries
   top = top_layer stack
@@ -621,7 +621,7 @@ module _ (stack : StackView) (is : IsLayer (top_layer stack)) where
       pub directory-before : directory < number - 1
       directory-before = directory-earlier (top_layer stack) is.in_order last directory named.0 last-inside inside named.1
 
-      -- it lies directly in its directory alone
+      -- it lies directly only in its directory
       only-there : (row : ℕ) → row < length (top_layer stack) → (row ≡ directory → ⊥) → name_below (path_at (top_layer stack) row) (path_at (top_layer stack) (number - 1)) ≡ None
       only-there row within differ = by (name_below (path_at (top_layer stack) row) (path_at (top_layer stack) last)) refl
         where

@@ -105,7 +105,7 @@ module _ (top : Entries) (below : StackView) (is : IsLayer top) (each : All IsLa
               (ap (λ (p : PathNames). (walk top p).next) (sym whole) ∙ (sees.there ∙ natural))
               (ap (λ (p : PathNames). is_none (walk top p).found || is_plain (mark_at top p)) (sym whole) ∙ sees.plain)
 
-  -- each condition at an entry that is left holds only where it did
+  -- each condition at an entry that is left holds only if it did
   module _ (path : PathNames) (inode : Inode) (here : entry_at (vacuumed_layer top below) path ≡ Some inode) (was : Faultless top below path inode) where
     marked : mark_at (vacuumed_layer top below) path ≡ mark_at top path
     marked = same-mark (vacuumed_layer top below) top path (entry-along top below is path inode here path [] (append-nil path))

@@ -125,7 +125,7 @@ module _ (directory : TopDirectory) (is : IsTopDirectory directory.stack.now dir
   pub names-all : (i : ℕ) → length rows ≤ i → take i (names_below (top_layer directory.stack.now) directory.piece.now.dir) ≡ names_below (top_layer directory.stack.now) directory.piece.now.dir
   names-all i end = take_all i (names_below top dir) (omega (arith, end, same-count top dir rows paths))
 
--- what stands in a row
+-- what is in a row
 module _ (layer : Entries) (is : IsLayer layer) (row : ℕ) (inside : row < length layer) (path : PathNames) (stands : path_at layer row ≡ path) (sheet : Entries) (same : sheet ≡ layer) where
   pub row-inode : (inode : Inode) → entry_at sheet (path_at sheet row) ≡ Some inode → entry_at layer path ≡ Some inode
   row-inode inode at = ap (entry_at layer) (sym stands) ∙ subst (λ (l : Entries). entry_at l (path_at l row) ≡ Some inode) same at
@@ -264,7 +264,7 @@ module _ (stack : StackView) (each : All IsLayer stack.layers) (some : 0 < lengt
           sym (compared Nothing (look stack (child_path directory name)) (sym nothing) refl e plain)
           ∙ differ (look stack (child_path directory name)) (something (not-whiteout inode plain))
 
--- ---- what visits tell
+-- ---- what visits give
 
 any-In : (name : PathName) (names : List PathName) → list_any (name_eq name) names ≡ true → In name names
 any-In name [] any = let bad : false ≡ true = any in cc
@@ -278,7 +278,7 @@ module _ (stack : StackView) (each : All IsLayer stack.layers) (some : 0 < lengt
   abbrev layer : Entries
   layer = top_layer stack
 
-  -- the names alone
+  -- only the names
   names-told : (directory : PathNames) (names : List PathName) → map (λ (entry : IdleName). entry.0) (map (idle_name stack directory) names) ≡ names
   names-told directory [] = refl
   names-told directory (name ∷ names) = ap (λ (rest : List PathName). name ∷ rest) (names-told directory names)

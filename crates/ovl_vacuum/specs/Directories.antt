@@ -50,7 +50,7 @@ pub record AreIdleNames (stack : StackView) (directory : PathNames)
       (λ inode. is_idle (top_layer stack) (lower_layers stack) (child_path directory name, inode))
       (entry_at (top_layer stack) (child_path directory name))
 
--- the work's visits tell what is idle in the topmost layer: a piece puts out the names of its
+-- the work's visits state what is idle in the topmost layer: a piece puts out the names of its
 -- directory, and its kids are those of them that are directories
 pub record TellsIdle (stack : StackView) : Type 0 where
   pub output : (piece : Piece) → AreIdleNames stack piece.dir (vacuum_out stack piece)

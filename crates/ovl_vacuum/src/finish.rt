@@ -149,7 +149,7 @@ struct Remainder {
 }
 
 impl Remainder {
-    // That of the root alone, which stays.
+    // That of only the root, which stays.
     fn of_root(alloc: Global, stack: &Stack) -> Result<Remainder, AllocError>
         ensures { IfOk result (IsLeftTo stack.now 1) }
     {
@@ -187,8 +187,8 @@ impl Remainder {
     }
 }
 
-// The layer of a root alone. What vacuum leaves is a layer, so that nothing but memory can stand in
-// the way.
+// The layer of only a root. What vacuum leaves is a layer, so this fails only when out
+// of memory.
 fn begun(alloc: Global, root: Inode) -> Result<Draft, AllocError>
     ensures { IfOk result
         (λ draft. (entry_after [] (stated_pair ([], root)) ≡ Ok (draft_entries draft))
@@ -201,8 +201,8 @@ fn begun(alloc: Global, root: Inode) -> Result<Draft, AllocError>
     }
 }
 
-// The draft with the entry `name` of a directory, after so many others. Here too nothing but memory
-// can stand in the way.
+// The draft with the entry `name` of a directory, after this many others. This too fails only
+// when out of memory.
 fn with_child(
     alloc: Global,
     draft: Draft,

@@ -16,8 +16,8 @@ use std::thread::{Threads, map_chunks};
 
 /// The bytes of a file, all that it has, at most [`INPUT_LIMIT`]. Links are followed. A folder
 /// can't be read. Room is made for the length that is expected, and where none is, for the one that
-/// the open file tells; there may be fewer bytes or more. No clause ties a file to its path: of the
-/// bytes one says that they are all that some file had left.
+/// the open file states; there may be fewer bytes or more. No clause ties a file to its path: of
+/// the bytes one says that they are all that some file had left.
 pub fn read_file<R: Files + AllocGlobal>(
     rt: &R,
     path: &str,
@@ -45,8 +45,8 @@ fn read_bytes<R: Files + AllocGlobal>(
         (λ bytes. (file : R.File) × IfSome (R.File.remaining file) (λ left. bytes.items ≡ left)) }
 {
     let mut file = fs::open(rt, path)?;
-    // A length that isn't told, or is wrong, as 0 is of a pipe and in /proc, changes only how room is
-    // made.
+    // A length that isn't stated, or is wrong, as 0 is of a pipe and in /proc, changes only how room
+    // is made.
     if let Some(length) = expected {
         return read_expected(rt.alloc(), &mut file, INPUT_LIMIT, length);
     }
@@ -56,7 +56,7 @@ fn read_bytes<R: Files + AllocGlobal>(
     }
 }
 
-/// A runtime whose files several threads may read: a bound by `Files` holds of one thread alone.
+/// A runtime whose files several threads may read: a bound by `Files` holds of only one thread.
 pub trait SharedFiles {
     /// What [`read_file`] gives.
     fn read_shared(&self, path: &str, expected: Option<u64>) -> Result<Vec<u8>, ProgramFault>
@@ -79,7 +79,7 @@ impl SharedFiles for HostRuntime {
     }
 }
 
-/// How many of so many files each thread reads, where at most so many threads read them.
+/// How many of this many files each thread reads, if at most this many threads read them.
 pub fn share_of(files: usize, threads: usize) -> usize
     ensures some { 0 < result }
     ensures all { files ≤ result * max 1 threads }
@@ -89,7 +89,7 @@ pub fn share_of(files: usize, threads: usize) -> usize
 
 /// The bytes of each of these files, in their order, read by at most as many threads as there are
 /// workers. Where one is no regular file they are read one after another, since what a pipe gives
-/// goes to whoever reads it first. The first that can't be read is told.
+/// goes to whoever reads it first. The first that can't be read is reported.
 pub fn read_files<R: Files + SharedFiles + AllocGlobal + Threads + Sync>(
     rt: &R,
     paths: &[String],
@@ -110,7 +110,7 @@ fn are_regular<R: Files>(rt: &R, paths: &[String]) -> bool {
     })
 }
 
-// The bytes of each of these files, read by at most so many threads, each a share of them.
+// The bytes of each of these files, read by at most this many threads, each a share of them.
 fn read_by<R: SharedFiles + Threads + Sync>(
     rt: &R,
     alloc: Global,
@@ -137,7 +137,7 @@ fn read_by<R: SharedFiles + Threads + Sync>(
     Ok(files)
 }
 
-// The same, by this thread. Nothing is read behind the first file that can't be read.
+// The same, by this thread. Nothing is read after the first file that can't be read.
 fn read_share<R: SharedFiles>(
     rt: &R,
     alloc: Global,

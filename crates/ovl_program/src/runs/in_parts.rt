@@ -46,7 +46,7 @@ pub fn perform_in_parts<R: Files + SharedFiles + AllocGlobal + Threads + Wait + 
 }
 
 // What the line's command gives of these manifests and the blobs of this folder, where it can be
-// told what these are.
+// given what these are.
 fn answer_in_parts<R: Files + SharedFiles + AllocGlobal + Threads + Wait + Sync>(
     rt: &R,
     line: &Line,

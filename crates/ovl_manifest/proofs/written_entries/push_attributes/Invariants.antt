@@ -4,7 +4,7 @@ use Rattle.serde_json.specs.Written.{comma_if}
 use Rattle.ovl_manifest.specs.Compact.{attributes_text}
 use Rattle.ovl_manifest.proofs.written_entries.push_attributes.Given as goal
 
--- the attributes that are left, behind a comma where others stand before them, make the text whole
+-- the attributes that are left, after a comma where others are before them, make the text whole
 abbrev pub invariant-loop-name : goal.invariant-loop-name
 invariant-loop-name l =
     (before : Bool) × (l.comma ≡ comma_if before)

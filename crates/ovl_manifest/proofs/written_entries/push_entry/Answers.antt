@@ -14,7 +14,7 @@ use Rattle.ovl_manifest.specs.Text.{attribute_members, entry_value}
 use Rattle.ovl_manifest.proofs.CompactLemmas.{Grows, onto, in_turn, entry_text, seconds_text}
 use Rattle.ovl_manifest.proofs.written_entries.push_entry.Goals as goal
 
--- what stands behind the target of an entry of this kind, up to its attributes
+-- what is after the target of an entry of this kind, up to its attributes
 abbrev back_text : Kind → ℕ → List ℕ
 back_text kind uid = size_text kind ++ (codes ",\"uid\":" ++ (decimal uid ++ codes ",\"xattrs\":"))
 

@@ -10,6 +10,6 @@ invariant-loop-directory l =
     ((stack : StackView) → IsTreeOf stack l.fn.root (views_of l.fn.parcels) → IsListing stack l.fn.first (string_bytes l.lines) l.told l.open.items l.rest)
     × (l.told ≤ l.end)
 
--- twice the paths that are still to be told, and the directories that are open
+-- twice the paths that are still to be listed, and the directories that are open
 abbrev pub decreases-loop-directory : goal.decreases-loop-directory
 decreases-loop-directory l = 2 * (l.end - l.told) + length l.open.items

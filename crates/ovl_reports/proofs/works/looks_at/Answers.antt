@@ -10,7 +10,7 @@ use Rattle.ovl_reports.specs.Directories.{NamedLook, named_look}
 use Rattle.ovl_reports.proofs.DirectoryLemmas.{looks_unique, none_elsewhere}
 use Rattle.ovl_reports.proofs.works.looks_at.Goals as goal
 
--- there is a view exactly where a directory is shown
+-- there is a view exactly if a directory is shown
 abbrev IsFound : StackView → PathNames → Option DirView → Type 0
 IsFound stack dir found = MatchOption found (shows_directory (from_layer 0 stack) dir ≡ false) (λ view. IsViewOf stack 0 dir view)
 

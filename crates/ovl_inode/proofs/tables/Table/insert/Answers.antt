@@ -5,7 +5,7 @@ use Rattle.ovl_inode.specs.Tables.{attributes_of, IsFull}
 use Rattle.ovl_inode.proofs.TableLemmas.{insert-full}
 use Rattle.ovl_inode.proofs.tables.Table.insert.Goals as goal
 
--- the attribute stands behind all others, and no byte is left over
+-- the attribute is after all others, and no byte is left over
 inserted : (c : goal.In_ok-extend_from_slice)
     → IsFull (string_bytes c.push_str.new.self) c.extend_from_slice.new.self.items c.insert.new.self.items
     × (attributes_of (string_bytes c.push_str.new.self) c.extend_from_slice.new.self.items c.insert.new.self.items

@@ -13,7 +13,7 @@ use Rattle.ovl_layer.proofs.drafts.Draft.enter_child.Goals as goal
 pub close-requires-clause-depth : goal.close-requires-clause-depth
 close-requires-clause-depth c = omega (arith, c.requires.depth, spine_length c.args.self.now c.requires.draft)
 
--- the new node stands at the end of the spine
+-- the new node is at the end of the spine
 pushed : (c : goal.In_ok-push) → c.push.new.self.items ≡ c.close.new.self.spine.items ++ (record { name = c.args.name; inode = c.args.inode; below = [] }) ∷ []
 pushed c = c.in_ok-push.ensures.items
     ∙ ap (λ (nodes : List NodeView). c.close.new.self.spine.items ++ (record { name = c.args.name; inode = c.args.inode; below = entries_of_nodes nodes }) ∷ []) c.new.ensures.items

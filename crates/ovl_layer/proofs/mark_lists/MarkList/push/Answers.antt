@@ -8,7 +8,7 @@ use Rattle.ovl_layer.specs.MarkLists.{marks_at, AreMarks}
 use Rattle.ovl_layer.proofs.SheetLemmas.{map-each}
 use Rattle.ovl_layer.proofs.mark_lists.MarkList.push.Goals as goal
 
--- a mark of its own behind the others moves none of them
+-- a mark of its own after the others moves none of them
 one-more : (different : List Mark) (numbers : List ℕ) (number : ℕ) (mark : Mark) → AreMarks different numbers → number ≡ length different → marks_at (different ++ mark ∷ []) (numbers ++ number ∷ []) ≡ marks_at different numbers ++ mark ∷ []
 one-more different numbers number mark are last =
     map-append (λ (n : ℕ). slice_index_or (different ++ mark ∷ []) n Leaf) numbers (number ∷ [])

@@ -14,13 +14,13 @@ overflow_cast-number c = omega (arith, c.len-number.ensures, c.args.self.now.row
 pub overflow_add-number : goal.overflow_add-number
 overflow_add-number c = omega (arith, c.len-number.ensures, c.args.self.now.rows.ok.0, rows-count _ _ _ c.requires.draft, c.requires.entry.room)
 
--- the number of the directory's row stands on the way
+-- the number of the directory's row is on the way
 listed : (c : goal.In_ok-push-2) → slice_get c.args.self.now.way.items c.args.depth ≡ Some c.index-parent.result.now
 listed c =
     let way : List ℕ = c.args.self.now.way.items in
     slice_get_read way (length way) c.args.depth c.index-parent.result.now refl (omega (arith, c.requires.draft.count, c.requires.entry.within)) c.index-parent.ensures
 
--- the new row stands at the end, and its number at the end of the way
+-- the new row is at the end, and its number at the end of the way
 pushed : (c : goal.In_ok-push-2) → c.push.new.self.items ≡ c.args.self.now.rows.items ++ (record { name = Some c.args.name; inode = c.args.inode; parent = c.index-parent.result.now; after = c.len-number.result + 1 }) ∷ []
 pushed c = c.in_ok-push.ensures.items
 

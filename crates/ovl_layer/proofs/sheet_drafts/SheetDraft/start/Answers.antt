@@ -6,7 +6,7 @@ use Rattle.ovl_layer.specs.SheetDrafts.{AreDrafted}
 use Rattle.ovl_layer.proofs.SheetDraftLemmas.{path-end, root-draft}
 use Rattle.ovl_layer.proofs.sheet_drafts.SheetDraft.start.Goals as goal
 
--- the root's row alone
+-- only the root's row
 rows : (c : goal.In_ok-push-2) → c.push.new.self.items ≡ (record { name = None; inode = c.args.inode; parent = 0; after = 1 }) ∷ []
 rows c =
     c.in_ok-push.ensures.items ∙ ap (λ (before : List SheetRow). before ++ (record { name = None; inode = c.args.inode; parent = 0; after = 1 }) ∷ []) c.in_ok-rows.ensures.items

@@ -2,6 +2,6 @@ use Rattle.std.proofs.Common.{All}
 use Rattle.ovl_program.specs.Tellings.{IsToldAmong}
 use Rattle.ovl_program.proofs.files.folder_in_parts.tell_share.Given as goal
 
--- what is told so far is told of the names
+-- what is reported so far is reported of the names
 abbrev pub invariant-loop : goal.invariant-loop
 invariant-loop g l = All (IsToldAmong l.fn.names) l.told.items

@@ -2,7 +2,7 @@ use Rattle.std.proofs.Common.{◌≡◌, ◌+◌, ◌≤◌, ◌++◌, length, m
 use Rattle.std.specs.Prelude.{vec_capacity}
 use Rattle.ovl_program.proofs.files.held_blobs.HeldBlobs.append.Given as goal
 
--- the names of the blobs so far, behind those of before; there is room for all the others
+-- the names of the blobs so far, after those of before; there is room for all the others
 abbrev pub invariant-loop-name : goal.invariant-loop-name
 invariant-loop-name l =
     (map (λ blob. blob.name) l.self.blobs.items ≡ map (λ blob. blob.name) l.initial.self.blobs.items ++ map (λ blob. blob.name) l.yielded)
