@@ -17,4 +17,4 @@ module _ {W O : Type 0} {g : _} where
   parcels_of core = core.parcels.items
 
   abbrev pub state_of : {S : Type 0} → (O → S) → Core W O g → CoreState S
-  state_of seen core = core_state seen core.desks.items core.parcels.items
+  state_of seen core = core_state seen core.worker_states.items core.parcels.items

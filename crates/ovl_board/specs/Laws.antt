@@ -30,7 +30,7 @@ module _ {S : Type 0} (kids : Piece → List Piece) (out : Piece → S) where
   abbrev pub KeepsBalance : Type 0
   KeepsBalance = (root : Piece) (workers : ℕ) (events : List Event) →
       let s : CoreState S = after_all kids out (start_state root workers) events in
-      IsBalanced root s.parcels (open_pieces s.desks)
+      IsBalanced root s.parcels (open_pieces s.worker_states)
 
   -- a work's own parcels that balance with nothing open are its plain walk, in some order
   abbrev pub BalancedArePlain : Type 0

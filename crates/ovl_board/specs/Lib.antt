@@ -3,7 +3,7 @@ pub mod Walks
 pub mod Parcels
 pub mod Balance
 pub mod Assembly
-pub mod Desks
+pub mod WorkerStates
 pub mod Machine
 pub mod CoreViews
 pub mod Cores

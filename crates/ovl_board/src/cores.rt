@@ -3,12 +3,12 @@ ghost use Rattle.std.specs.Prelude.{◌≡◌, ◌↔◌, ◌<◌, ◌⊎◌, So
 ghost use Rattle.std.specs.Coded.{Coded-set};
 ghost use Rattle.ovl_board.specs.declared.events.CoreFault.TheVariants.{NotPossible, Memory};
 ghost use Rattle.ovl_board.specs.Parcels.{AreOwn, AreOwn-prop, IsPlainUnordered, parcel_views};
-ghost use Rattle.ovl_board.specs.Machine.{worker_limit, IsCoreState, IsIdle, after, after_take, after_steal, after_push, work_piece, desk_of, start_state, start_desks as first_desks};
+ghost use Rattle.ovl_board.specs.Machine.{worker_limit, IsCoreState, IsIdle, after, after_take, after_steal, after_push, work_piece, worker_state_of, start_state, start_worker_states as first_worker_states};
 ghost use Rattle.ovl_board.specs.CoreViews.{core_state};
 
-use crate::desks::Desk;
 use crate::events::{CoreFault, Event};
 use crate::pieces::Piece;
+use crate::worker_states::WorkerState;
 use crate::works::{Parcel, Work};
 use std::alloc::{AllocError, Global};
 use std::collections::VecDeque;
@@ -22,12 +22,12 @@ pub const WORKER_LIMIT: usize = 64;
 pub struct Core<'a, W: Work> {
     work: &'a W,
     root: Piece,
-    desks: Vec<Desk>,
+    worker_states: Vec<WorkerState>,
     parcels: Vec<Parcel<W::Out>>,
     ghost own: { AreOwn (W.kids_of work.now) (W.out_of work.now)
         (parcel_views W.seen parcels.items) } by { AreOwn-prop W.seen_set (Coded-set root-code)
             (W.kids_of work.now) (W.out_of work.now) (parcel_views W.seen parcels.items) },
-    ghost kept: { IsCoreState root (core_state W.seen desks.items parcels.items) },
+    ghost kept: { IsCoreState root (core_state W.seen worker_states.items parcels.items) },
 }
 
 impl<W: Work> Drop for Core<'_, W> {
@@ -35,7 +35,7 @@ impl<W: Work> Drop for Core<'_, W> {
         let Core {
             work: _,
             root: _,
-            desks: _,
+            worker_states: _,
             parcels: _,
         } = self;
     }
@@ -45,7 +45,7 @@ impl<'a, W: Work> Core<'a, W> {
     ghost use Rattle.std.specs.Prelude.{◌≡◌, ◌↔◌, ◌<◌, ◌⊎◌, Some, None, IsTrue, IfOk, IsOk, IfErr, OnOk, OnErr};
     ghost use Rattle.ovl_board.specs.declared.events.CoreFault.TheVariants.{NotPossible};
     ghost use Rattle.ovl_board.specs.Parcels.{IsPlainUnordered, parcel_views};
-    ghost use Rattle.ovl_board.specs.Machine.{worker_limit, IsIdle, after, start_state, work_piece, desk_of};
+    ghost use Rattle.ovl_board.specs.Machine.{worker_limit, IsIdle, after, start_state, work_piece, worker_state_of};
     ghost use Rattle.ovl_board.specs.Cores.{work_of, root_of, parcels_of, state_of};
 
     /// A core of 1 to [`WORKER_LIMIT`] workers, whose first lane holds the root of the work;
@@ -64,11 +64,11 @@ impl<'a, W: Work> Core<'a, W> {
         if workers < 1 || workers > WORKER_LIMIT {
             return Err(CoreFault::NotPossible);
         }
-        let desks = start_desks(alloc, root.copy(alloc)?, workers)?;
+        let worker_states = start_worker_states(alloc, root.copy(alloc)?, workers)?;
         Ok(Core {
             work,
             root,
-            desks,
+            worker_states,
             parcels: Vec::new(alloc),
         })
     }
@@ -90,10 +90,10 @@ impl<'a, W: Work> Core<'a, W> {
             × (root_of self.new ≡ root_of self.old) }
     {
         match event {
-            Event::Pop(worker) => take(&mut self.desks, worker, worker),
-            Event::Steal(worker, lane) => steal(&mut self.desks, worker, lane),
+            Event::Pop(worker) => take(&mut self.worker_states, worker, worker),
+            Event::Steal(worker, lane) => steal(&mut self.worker_states, worker, lane),
             Event::Work(worker) => self.work_piece(alloc, worker),
-            Event::Push(worker) => push(&mut self.desks, worker),
+            Event::Push(worker) => push(&mut self.worker_states, worker),
         }
     }
 
@@ -102,40 +102,40 @@ impl<'a, W: Work> Core<'a, W> {
         ensures done { OnOk result
             (work_piece (W.kids_of (work_of self.old)) (W.out_of (work_of self.old))
             (state_of W.seen self.old) worker
-            (desk_of (state_of W.seen self.old).desks worker).hand
+            (worker_state_of (state_of W.seen self.old).worker_states worker).hand
             ≡ Some (state_of W.seen self.new)) }
         ensures refused { (result ≡ Err NotPossible) ↔
-            ((desk_of (state_of W.seen self.old).desks worker).hand ≡ None) }
+            ((worker_state_of (state_of W.seen self.old).worker_states worker).hand ≡ None) }
         ensures same { OnErr result (state_of W.seen self.new ≡ state_of W.seen self.old) }
         ensures parcels { OnErr result (parcels_of self.new ≡ parcels_of self.old) }
         ensures given { (work_of self.new ≡ work_of self.old)
             × (root_of self.new ≡ root_of self.old) }
     {
-        if worker >= self.desks.len() {
+        if worker >= self.worker_states.len() {
             return Err(CoreFault::NotPossible);
         }
-        let Some(piece) = self.desks[worker].piece_in_hand() else {
+        let Some(piece) = self.worker_states[worker].piece_in_hand() else {
             return Err(CoreFault::NotPossible);
         };
         let (kids, out) = self.work.visit(alloc, piece)?;
         let outbox = outbox_of(alloc, &kids)?;
         self.parcels.reserve(1)?;
-        let piece = self.desks[worker].put_down(outbox);
+        let piece = self.worker_states[worker].put_down(outbox);
         self.parcels.push_reserved(Parcel { piece, kids, out });
         Ok(())
     }
 
     /// Whether nothing is open: lanes, hands and outboxes are empty.
     pub fn idle(&self) -> bool
-        ensures { IsTrue result ↔ IsIdle (state_of W.seen self.now).desks }
+        ensures { IsTrue result ↔ IsIdle (state_of W.seen self.now).worker_states }
     {
-        are_empty(&self.desks)
+        are_empty(&self.worker_states)
     }
 
     /// The parcels, where nothing is open: those of the plain walk from the root, in the order in
     /// which they came. Otherwise the core as it was.
     pub fn finish(self) -> Result<Vec<Parcel<W::Out>>, Core<'a, W>>
-        ensures idle { IsOk result ↔ IsIdle (state_of W.seen self.entry).desks }
+        ensures idle { IsOk result ↔ IsIdle (state_of W.seen self.entry).worker_states }
         ensures given { IfOk result (λ parcels. parcels.items ≡ parcels_of self.entry) }
         ensures plain { IfOk result (λ parcels.
             IsPlainUnordered (W.kids_of (work_of self.entry)) (W.out_of (work_of self.entry))
@@ -150,75 +150,82 @@ impl<'a, W: Work> Core<'a, W> {
         let Core {
             work: _,
             root: _,
-            desks: _,
+            worker_states: _,
             parcels,
         } = self;
         Ok(parcels)
     }
 }
 
-fn start_desks(alloc: Global, root: Piece, workers: usize) -> Result<Vec<Desk>, CoreFault>
+fn start_worker_states(
+    alloc: Global,
+    root: Piece,
+    workers: usize,
+) -> Result<Vec<WorkerState>, CoreFault>
     requires { 0 < workers }
-    ensures { MatchResult result (λ desks. desks.items ≡ first_desks root workers)
+    ensures { MatchResult result (λ worker_states. worker_states.items ≡ first_worker_states root workers)
         (λ fault. fault ≡ Memory) }
 {
-    let mut desks = Vec::with_capacity(alloc, workers)?;
-    desks.push(Desk::with_piece(alloc, root)?)?;
+    let mut worker_states = Vec::with_capacity(alloc, workers)?;
+    worker_states.push(WorkerState::with_piece(alloc, root)?)?;
     for _ in 1..workers {
-        desks.push(Desk::new(alloc))?;
+        worker_states.push(WorkerState::new(alloc))?;
     }
-    Ok(desks)
+    Ok(worker_states)
 }
 
-fn are_empty(desks: &[Desk]) -> bool
-    ensures { IsTrue result ↔ IsIdle desks.now }
+fn are_empty(worker_states: &[WorkerState]) -> bool
+    ensures { IsTrue result ↔ IsIdle worker_states.now }
 {
-    for desk in desks {
-        if !desk.is_empty() {
+    for worker_state in worker_states {
+        if !worker_state.is_empty() {
             return false;
         }
     }
     true
 }
 
-fn take(desks: &mut Vec<Desk>, worker: usize, lane: usize) -> Result<(), CoreFault>
+fn take(worker_states: &mut Vec<WorkerState>, worker: usize, lane: usize) -> Result<(), CoreFault>
     ensures { MatchResult result
-        (λ _. after_take desks.old.items worker lane ≡ Some desks.new.items)
-        (λ fault. (fault ≡ NotPossible) × (after_take desks.old.items worker lane ≡ None)
-        × (desks.new.items ≡ desks.old.items)) }
+        (λ _. after_take worker_states.old.items worker lane ≡ Some worker_states.new.items)
+        (λ fault. (fault ≡ NotPossible) × (after_take worker_states.old.items worker lane ≡ None)
+        × (worker_states.new.items ≡ worker_states.old.items)) }
 {
-    if worker >= desks.len() || lane >= desks.len() || !desks[worker].is_free() {
+    if worker >= worker_states.len()
+        || lane >= worker_states.len()
+        || !worker_states[worker].is_free()
+    {
         return Err(CoreFault::NotPossible);
     }
-    let Some(piece) = desks[lane].take_first() else {
+    let Some(piece) = worker_states[lane].take_first() else {
         return Err(CoreFault::NotPossible);
     };
-    desks[worker].hold(piece);
+    worker_states[worker].hold(piece);
     Ok(())
 }
 
-fn steal(desks: &mut Vec<Desk>, worker: usize, lane: usize) -> Result<(), CoreFault>
+fn steal(worker_states: &mut Vec<WorkerState>, worker: usize, lane: usize) -> Result<(), CoreFault>
     ensures { MatchResult result
-        (λ _. after_steal desks.old.items worker lane ≡ Some desks.new.items)
-        (λ fault. (fault ≡ NotPossible) × (after_steal desks.old.items worker lane ≡ None)
-        × (desks.new.items ≡ desks.old.items)) }
+        (λ _. after_steal worker_states.old.items worker lane ≡ Some worker_states.new.items)
+        (λ fault. (fault ≡ NotPossible) × (after_steal worker_states.old.items worker lane ≡ None)
+        × (worker_states.new.items ≡ worker_states.old.items)) }
 {
     if worker == lane {
         return Err(CoreFault::NotPossible);
     }
-    take(desks, worker, lane)
+    take(worker_states, worker, lane)
 }
 
-fn push(desks: &mut Vec<Desk>, worker: usize) -> Result<(), CoreFault>
+fn push(worker_states: &mut Vec<WorkerState>, worker: usize) -> Result<(), CoreFault>
     ensures done { MatchResult result
-        (λ _. after_push desks.old.items worker ≡ Some desks.new.items)
-        (λ _. desks.new.items ≡ desks.old.items) }
-    ensures refused { (result ≡ Err NotPossible) ↔ (after_push desks.old.items worker ≡ None) }
+        (λ _. after_push worker_states.old.items worker ≡ Some worker_states.new.items)
+        (λ _. worker_states.new.items ≡ worker_states.old.items) }
+    ensures refused { (result ≡ Err NotPossible) ↔ (after_push worker_states.old.items worker ≡ None) }
 {
-    if worker >= desks.len() {
+    if worker >= worker_states.len() {
         return Err(CoreFault::NotPossible);
     }
-    desks[worker].push()
+    worker_states[worker].push()
 }
 
 fn outbox_of(alloc: Global, kids: &[Piece]) -> Result<VecDeque<Piece>, AllocError>

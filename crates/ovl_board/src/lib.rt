@@ -4,8 +4,8 @@
 
 mod assembly;
 mod cores;
-mod desks;
 mod events;
+mod worker_states;
 /// Laws of the plain walk, of parcels in balance and of their assembly, each the contract of a
 /// function that does nothing.
 pub mod laws;

@@ -12,7 +12,7 @@ use Rattle.std.proofs.lemmas.Cmp.{tied_itself}
 use Rattle.std.proofs.lemmas.List.{reverse-reverse}
 use Rattle.ovl_names.specs.Paths.{PathNames, path_cmp}
 use Rattle.ovl_names.proofs.Ascending.{both}
-use Rattle.ovl_lookup.specs.Trails.{trail_cmp}
+use Rattle.ovl_lookup.specs.PathRopes.{rope_cmp}
 use Rattle.ovl_board.specs.Pieces.{IsBefore}
 use Rattle.ovl_board.proofs.LawsOfMembers.{In, Rises, In-left, In-right, In-cases}
 use Rattle.ovl_board.proofs.LawsOfPieces.{before_trans, less_differs}
@@ -24,8 +24,8 @@ use Rattle.ovl_check.specs.Walks.{View, is_among, double_at, places_with, double
 pub same_path : (p q : PathNames) → path_cmp p q ≡ Equal → p ≡ q
 same_path = slice_cmp-IsAntisymmetric (slice_cmp-IsAntisymmetric nat_cmp-IsAntisymmetric)
 
-pub same_trail : (p q : PathNames) → trail_cmp p q ≡ Equal → p ≡ q
-same_trail p q is = sym (reverse-reverse p) ∙ (ap reverse (same_path (reverse p) (reverse q) is) ∙ reverse-reverse q)
+pub same_rope : (p q : PathNames) → rope_cmp p q ≡ Equal → p ≡ q
+same_rope p q is = sym (reverse-reverse p) ∙ (ap reverse (same_path (reverse p) (reverse q) is) ∙ reverse-reverse q)
 
 pub equal : (o : Ordering) → is_eq o ≡ true → o ≡ Equal
 equal Less e = let bad : false ≡ true = e in cc
@@ -34,46 +34,46 @@ equal Greater e = let bad : false ≡ true = e in cc
 
 pub among-In : (places : List PathNames) (place : PathNames) → is_among places place ≡ true → In place places
 among-In [] place is = let bad : false ≡ true = is in cc
-among-In (other ∷ places) place is = by (among-In places place) (is_eq (trail_cmp place other)) refl is
+among-In (other ∷ places) place is = by (among-In places place) (is_eq (rope_cmp place other)) refl is
   where
-    by : (is_among places place ≡ true → In place places) → (b : Bool) → is_eq (trail_cmp place other) ≡ b → (b || is_among places place) ≡ true → In place (other ∷ places)
-    by later true e is = inl (same_trail place other (equal (trail_cmp place other) e))
+    by : (is_among places place ≡ true → In place places) → (b : Bool) → is_eq (rope_cmp place other) ≡ b → (b || is_among places place) ≡ true → In place (other ∷ places)
+    by later true e is = inl (same_rope place other (equal (rope_cmp place other) e))
     by later false e is = inr (later is)
 
 pub In-among : (places : List PathNames) (place : PathNames) → In place places → is_among places place ≡ true
 In-among [] place h = absurd h
-In-among (other ∷ places) place (inl e) = ap (λ b. b || is_among places place) (ap is_eq (ap (trail_cmp place) (sym e) ∙ tied_itself (lists_total nat_list_cmp_total) (reverse place)))
-In-among (other ∷ places) place (inr h) = ap (λ b. is_eq (trail_cmp place other) || b) (In-among places place h) ∙ or-true (is_eq (trail_cmp place other))
+In-among (other ∷ places) place (inl e) = ap (λ b. b || is_among places place) (ap is_eq (ap (rope_cmp place) (sym e) ∙ tied_itself (lists_total nat_list_cmp_total) (reverse place)))
+In-among (other ∷ places) place (inr h) = ap (λ b. is_eq (rope_cmp place other) || b) (In-among places place h) ∙ or-true (is_eq (rope_cmp place other))
 
-insert-cases : (q place : PathNames) (places : List PathNames) → In q (insert_key trail_cmp places place) → (q ≡ place) ⊎ In q places
+insert-cases : (q place : PathNames) (places : List PathNames) → In q (insert_key rope_cmp places place) → (q ≡ place) ⊎ In q places
 insert-cases q place [] (inl e) = inl e
 insert-cases q place [] (inr h) = absurd h
-insert-cases q place (first ∷ places) h = by (insert-cases q place places) (trail_cmp place first) h
+insert-cases q place (first ∷ places) h = by (insert-cases q place places) (rope_cmp place first) h
   where
-    by : (In q (insert_key trail_cmp places place) → (q ≡ place) ⊎ In q places) → (o : Ordering) → In q (match_ordering o (place ∷ first ∷ places) (first ∷ places) (first ∷ insert_key trail_cmp places place)) → (q ≡ place) ⊎ In q (first ∷ places)
+    by : (In q (insert_key rope_cmp places place) → (q ≡ place) ⊎ In q places) → (o : Ordering) → In q (match_ordering o (place ∷ first ∷ places) (first ∷ places) (first ∷ insert_key rope_cmp places place)) → (q ≡ place) ⊎ In q (first ∷ places)
     by later Less (inl e) = inl e
     by later Less (inr k) = inr k
     by later Equal k = inr k
     by later Greater (inl e) = inr (inl e)
     by later Greater (inr k) = elim (later k) [ inl e ↦ inl e | inr m ↦ inr (inr m) ]
 
-insert-old : (q place : PathNames) (places : List PathNames) → In q places → In q (insert_key trail_cmp places place)
+insert-old : (q place : PathNames) (places : List PathNames) → In q places → In q (insert_key rope_cmp places place)
 insert-old q place [] h = absurd h
-insert-old q place (first ∷ places) h = by (insert-old q place places) (trail_cmp place first) h
+insert-old q place (first ∷ places) h = by (insert-old q place places) (rope_cmp place first) h
   where
-    by : (In q places → In q (insert_key trail_cmp places place)) → (o : Ordering) → In q (first ∷ places) → In q (match_ordering o (place ∷ first ∷ places) (first ∷ places) (first ∷ insert_key trail_cmp places place))
+    by : (In q places → In q (insert_key rope_cmp places place)) → (o : Ordering) → In q (first ∷ places) → In q (match_ordering o (place ∷ first ∷ places) (first ∷ places) (first ∷ insert_key rope_cmp places place))
     by later Less k = inr k
     by later Equal k = k
     by later Greater (inl e) = inl e
     by later Greater (inr k) = inr (later k)
 
-insert-new : (place : PathNames) (places : List PathNames) → In place (insert_key trail_cmp places place)
+insert-new : (place : PathNames) (places : List PathNames) → In place (insert_key rope_cmp places place)
 insert-new place [] = inl refl
-insert-new place (first ∷ places) = by (insert-new place places) (trail_cmp place first) refl
+insert-new place (first ∷ places) = by (insert-new place places) (rope_cmp place first) refl
   where
-    by : In place (insert_key trail_cmp places place) → (o : Ordering) → trail_cmp place first ≡ o → In place (match_ordering o (place ∷ first ∷ places) (first ∷ places) (first ∷ insert_key trail_cmp places place))
+    by : In place (insert_key rope_cmp places place) → (o : Ordering) → rope_cmp place first ≡ o → In place (match_ordering o (place ∷ first ∷ places) (first ∷ places) (first ∷ insert_key rope_cmp places place))
     by later Less e = inl refl
-    by later Equal e = inl (same_trail place first e)
+    by later Equal e = inl (same_rope place first e)
     by later Greater e = inr later
 
 pub with-cases : (q : PathNames) (places : List PathNames) (o : Option PathNames) → In q (places_with places o) → (o ≡ Some q) ⊎ In q places

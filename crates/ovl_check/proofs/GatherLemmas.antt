@@ -28,7 +28,7 @@ use Rattle.ovl_lookup.proofs.LawsOfPaths.{parent_path-child, length-child}
 use Rattle.ovl_lookup.proofs.LawsOfInodes.{metacopy-file, bare_file, directory-no_whiteout, is_directory_mark}
 use Rattle.ovl_lookup.proofs.LawsOfFound.{data_of-metacopy}
 use Rattle.ovl_check.specs.declared.contents.Content.{Content}
-use Rattle.ovl_check.specs.declared.directories.GatheredDirectory.{GatheredDirectory}
+use Rattle.ovl_check.specs.declared.directories.CheckedDirectory.{CheckedDirectory}
 use Rattle.ovl_check.specs.declared.facts.Facts.{Facts}
 use Rattle.ovl_check.specs.declared.facts.KindFacts.{KindFacts}
 use Rattle.ovl_check.specs.declared.facts.KindFacts.TheVariants.{WhiteoutInOpaque, Whiteout, Moved, Metacopy, Other}
@@ -65,7 +65,7 @@ root-told b (name ∷ path) told = false_from_ne_true b (λ t. let bad : name �
 
 -- ---- the directory itself
 
-module _ (layer : Entries) (directory : GatheredDirectory) (is : IsGathered layer directory) where
+module _ (layer : Entries) (directory : CheckedDirectory) (is : IsGathered layer directory) where
   abbrev path : PathNames
   path = directory.path.now
 
@@ -123,7 +123,7 @@ module _ (layer : Entries) (directory : GatheredDirectory) (is : IsGathered laye
 
 -- ---- what it holds
 
-module _ (layer : Entries) (below : StackView) (directory : GatheredDirectory) (is : IsGathered layer directory) (name : PathName) where
+module _ (layer : Entries) (below : StackView) (directory : CheckedDirectory) (is : IsGathered layer directory) (name : PathName) where
   abbrev dir : PathNames
   dir = directory.path.now
 
@@ -211,7 +211,7 @@ module _ (layer : Entries) (below : StackView) (directory : GatheredDirectory) (
         by _ e = refl
 
 -- the facts of what lies in a directory and is none itself
-pub child-facts : (work : CheckView) (i : ℕ) (directory : GatheredDirectory) → IsGathered (layer_at work.stack i) directory → (name : PathName) (facts : Facts) → entry_at (layer_at work.stack i) (child_path directory.path.now name) ≡ Some facts.inode.now → is_directory facts.inode.now ≡ false
+pub child-facts : (work : CheckView) (i : ℕ) (directory : CheckedDirectory) → IsGathered (layer_at work.stack i) directory → (name : PathName) (facts : Facts) → entry_at (layer_at work.stack i) (child_path directory.path.now name) ≡ Some facts.inode.now → is_directory facts.inode.now ≡ false
     → facts.mark.now ≡ mark_of facts.inode.now → facts.is_root ≡ false → facts.holds_origin ≡ false
     → facts.kind ≡ kind_at (layer_at work.stack i) (layers_below work.stack i) (child_path directory.path.now name) facts.inode.now facts.mark.now
     → facts.blob ≡ blob_named work.contents facts.inode.now
@@ -231,7 +231,7 @@ child-facts work i directory gathered name facts here none marked below origin k
     }
 
 -- the facts of the directory
-pub directory-facts : (work : CheckView) (i : ℕ) (directory : GatheredDirectory) → IsGathered (layer_at work.stack i) directory → (root : Bool) (kind : KindFacts) (origin : Bool) → root ≡ is_root directory.path.now
+pub directory-facts : (work : CheckView) (i : ℕ) (directory : CheckedDirectory) → IsGathered (layer_at work.stack i) directory → (root : Bool) (kind : KindFacts) (origin : Bool) → root ≡ is_root directory.path.now
     → kind ≡ kind_at (layer_at work.stack i) (layers_below work.stack i) directory.path.now directory.inode.now directory.mark.now
     → origin ≡ list_any (λ child. has_attribute child.inode.now origin_name) directory.children.items
     → AreFacts work i directory.path.now (record { is_root = root; inode = directory.inode; mark = directory.mark; kind = kind; blob = Unnamed; holds_origin = origin })

@@ -10,7 +10,7 @@ use Rattle.ovl_lookup.specs.Sound.{is_moved}
 use Rattle.ovl_board.specs.declared.pieces.Piece.{Piece}
 use Rattle.ovl_board.specs.Pieces.{piece_in}
 use Rattle.ovl_check.specs.declared.findings.Finding.{Finding}
-use Rattle.ovl_check.specs.declared.directories.GatheredDirectory.{GatheredDirectory}
+use Rattle.ovl_check.specs.declared.directories.CheckedDirectory.{CheckedDirectory}
 use Rattle.ovl_check.specs.Checks.{CheckView, is_ordinary, layer_at, check_kids, findings_at_path, directory_findings, check_out, no_seen}
 use Rattle.ovl_check.specs.Facts.{IsGathered, child_seen, found_at_child}
 use Rattle.ovl_check.proofs.HeldLemmas.{files-children, names_below-none}
@@ -33,7 +33,7 @@ module _ (work : CheckView) (piece : Piece) where
       }) no_seen) is)
 
 -- all that is found at a directory, and at what it holds
-pub found-all : (work : CheckView) (i : ℕ) (directory : GatheredDirectory) (is : IsGathered (layer_at work.stack i) directory) (start own all : List Finding)
+pub found-all : (work : CheckView) (i : ℕ) (directory : CheckedDirectory) (is : IsGathered (layer_at work.stack i) directory) (start own all : List Finding)
     → start ≡ [] → own ≡ start ++ findings_at_path work i directory.path.now
     → all ≡ own ++ flat_map (λ child. found_at_child work i directory.path.now (child_seen child)) directory.children.items
     → all ≡ directory_findings work i directory.path.now

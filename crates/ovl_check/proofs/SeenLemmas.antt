@@ -9,8 +9,8 @@ use Rattle.ovl_layer.specs.Layers.{Entries, IsLayer}
 use Rattle.ovl_lookup.specs.declared.steps.Step.{Step}
 use Rattle.ovl_lookup.specs.Walk.{walk, mark_at}
 use Rattle.ovl_lookup.specs.Sound.{is_plain, is_seen_there}
-use Rattle.ovl_lookup.specs.Trails.{trail_eq}
-use Rattle.ovl_lookup.proofs.LawsOfPaths.{trail_eq-path}
+use Rattle.ovl_lookup.specs.PathRopes.{rope_eq}
+use Rattle.ovl_lookup.proofs.LawsOfPaths.{rope_eq-path}
 use Rattle.ovl_lookup.proofs.LawsOfWalks.{walk-finds}
 use Rattle.ovl_check.proofs.GatherLemmas.{mark-below}
 
@@ -44,11 +44,11 @@ module _ (layer : Entries) (place : PathNames) (step : Step) (is : step ≡ walk
   pub seen-nothing : step.found ≡ None → step.closed ≡ false → path_eq step.next place ≡ true → true ≡ is_seen_there layer place
   seen-nothing none c s = seen-by false true true c s (ap (λ (o : Option Inode). is_none o || is_plain (mark_at layer place)) none)
 
--- ---- whether the walk stays there, by trails
+-- ---- whether the walk stays there, by ropes
 
 not-not : (b : Bool) → not (not b) ≡ b
 not-not true = refl
 not-not false = refl
 
-pub stays-by : (one other : PathNames) (apart : Bool) → apart ≡ not (trail_eq one other) → (c : Bool) → apart ≡ c → path_eq one other ≡ not c
-stays-by one other apart is c e = sym (trail_eq-path one other) ∙ (sym (not-not (trail_eq one other)) ∙ ap not (sym is ∙ e))
+pub stays-by : (one other : PathNames) (apart : Bool) → apart ≡ not (rope_eq one other) → (c : Bool) → apart ≡ c → path_eq one other ≡ not c
+stays-by one other apart is c e = sym (rope_eq-path one other) ∙ (sym (not-not (rope_eq one other)) ∙ ap not (sym is ∙ e))

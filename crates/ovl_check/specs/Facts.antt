@@ -38,7 +38,7 @@ use Rattle.ovl_check.specs.declared.facts.Facts.{Facts}
 use Rattle.ovl_check.specs.declared.checks.EntryPlace.{EntryPlace}
 use Rattle.ovl_check.specs.declared.checks.EntryPlace.TheVariants.{At, In}
 use Rattle.ovl_check.specs.declared.directories.Child.{Child}
-use Rattle.ovl_check.specs.declared.directories.GatheredDirectory.{GatheredDirectory}
+use Rattle.ovl_check.specs.declared.directories.CheckedDirectory.{CheckedDirectory}
 use Rattle.ovl_check.specs.declared.contents.Content.{Content}
 use Rattle.ovl_check.specs.Contents.{find_content}
 use Rattle.ovl_check.specs.Checks.{CheckView, layer_at, first_below, layers_below, findings_alone}
@@ -70,11 +70,11 @@ abbrev pub IsChildMarked : Child → Type 0
 IsChildMarked child = child.mark.now ≡ mark_of child.inode.now
 
 -- the path by which the layers below know a directory
-abbrev pub next_of : GatheredDirectory → PathNames
+abbrev pub next_of : CheckedDirectory → PathNames
 next_of directory = unwrap_or directory.turned directory.path.now
 
 -- what was gathered of a directory is what the layer has there
-pub record IsGathered (layer : Entries) (directory : GatheredDirectory) : Type 0 where
+pub record IsGathered (layer : Entries) (directory : CheckedDirectory) : Type 0 where
   pub layered : IsLayer layer
   pub inode : entry_at layer directory.path.now ≡ Some directory.inode.now
   pub kind : is_directory directory.inode.now ≡ true
@@ -98,7 +98,7 @@ IsViewBelow stack i next below =
     (λ view. IsViewOf stack (first_below stack i) next view)
 
 -- a directory has that view where its walk goes on, if that is open and something in it asks
-abbrev pub IsBelowOf : StackView → ℕ → GatheredDirectory → Type 0
+abbrev pub IsBelowOf : StackView → ℕ → CheckedDirectory → Type 0
 IsBelowOf stack i directory =
     directory.closed ≡ false
     → list_any (λ child. asks child.mark.now) directory.children.items ≡ true
@@ -130,7 +130,7 @@ data_size_on below place step =
     else data_size below place step.next
 
 -- a whiteout in this directory
-abbrev pub whiteout_in : StackView → GatheredDirectory → PathName → KindFacts
+abbrev pub whiteout_in : StackView → CheckedDirectory → PathName → KindFacts
 whiteout_in below directory name =
     if is_opaque (Some directory.mark.now) then WhiteoutInOpaque
     else Whiteout directory.is_marked

@@ -5,7 +5,7 @@ use Rattle.std.specs.List.{list_any, flat_map}
 use Rattle.std.specs.BTreeSet.{insert_key}
 use Rattle.std.specs.Ordering.{is_eq}
 use Rattle.ovl_names.specs.Paths.{PathNames}
-use Rattle.ovl_lookup.specs.Trails.{trail_cmp}
+use Rattle.ovl_lookup.specs.PathRopes.{rope_cmp}
 use Rattle.ovl_board.specs.Pieces.{space_root}
 use Rattle.ovl_board.specs.Parcels.{ParcelView, IsPlain}
 use Rattle.ovl_check.specs.declared.findings.Finding.{Finding}
@@ -26,7 +26,7 @@ AreLayerWalks work i (views ∷ more) =
 
 -- the place is among those where an earlier directory goes on
 abbrev pub is_among : List PathNames → PathNames → Bool
-is_among places place = list_any (λ other. is_eq (trail_cmp place other)) places
+is_among places place = list_any (λ other. is_eq (rope_cmp place other)) places
 
 -- what a directory adds to the doubles, and to the places, by those of the directories before it
 abbrev pub double_at : List PathNames → View → Option PathNames → List Finding
@@ -37,7 +37,7 @@ double_at places view (Some place) =
 
 abbrev pub places_with : List PathNames → Option PathNames → List PathNames
 places_with places None = places
-places_with places (Some place) = insert_key trail_cmp places place
+places_with places (Some place) = insert_key rope_cmp places place
 
 -- the doubles among directories in their order
 abbrev pub doubles_after : List PathNames → List View → List Finding

@@ -9,10 +9,10 @@ ghost use Rattle.ovl_check.specs.Checks.{layers_below};
 ghost use Rattle.ovl_check.specs.Facts.{IsViewBelow, data_size, next_of};
 ghost use Rattle.ovl_check.specs.Facts as facts;
 
-use crate::directories::{Child, GatheredDirectory};
+use crate::directories::{CheckedDirectory, Child};
 use crate::places::{first_below, size_in};
 use ovl_inode::Mark;
-use ovl_lookup::{DirView, Stack, Trail};
+use ovl_lookup::{DirView, PathRope, Stack};
 use ovl_names::{Name, Path};
 use std::alloc::{AllocError, Global};
 
@@ -23,7 +23,7 @@ pub(crate) fn below_children<'p, 'a: 'p>(
     stack: &'a Stack,
     i: usize,
     path: &'p Path,
-    turned: &Option<Trail<'a>>,
+    turned: &Option<PathRope<'a>>,
     closed: bool,
     children: &[Child<'_>],
 ) -> Result<Option<DirView<'p>>, AllocError>
@@ -59,7 +59,7 @@ fn asks(mark: &Mark) -> bool
 }
 
 /// Whether the layers below that of a directory show something under a name in its place.
-pub(crate) fn show_in(stack: &Stack, directory: &GatheredDirectory<'_, '_>, name: &Name) -> bool
+pub(crate) fn show_in(stack: &Stack, directory: &CheckedDirectory<'_, '_>, name: &Name) -> bool
     requires { IfSome directory.now.below (IsViewOver stack.now) }
     ensures { (i : ℕ) → IsViewBelow stack.now i (next_of directory.now) directory.now.below
         → result ≡ shows (layers_below stack.now i) (child_path (next_of directory.now) name.now) }
@@ -76,7 +76,7 @@ pub(crate) fn show_in(stack: &Stack, directory: &GatheredDirectory<'_, '_>, name
 pub(crate) fn data_size_in(
     alloc: Global,
     stack: &Stack,
-    directory: &GatheredDirectory<'_, '_>,
+    directory: &CheckedDirectory<'_, '_>,
     name: &Name,
 ) -> Result<Option<u64>, AllocError>
     requires { IfSome directory.now.below (IsViewOver stack.now) }

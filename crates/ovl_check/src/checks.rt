@@ -17,17 +17,17 @@ ghost use Rattle.ovl_check.specs.Facts.{IsGathered, IsViewBelow, IsBelowOf, IsCh
 
 use crate::blobs::Blob;
 use crate::contents::Content;
-use crate::directories::{Child, GatheredDirectory, directory_at, hold_origin, kids_of};
+use crate::directories::{CheckedDirectory, Child, directory_at, hold_origin, kids_of};
 use crate::facts::{BLOB_CODES, CODES, Facts, NamedBlob, is_silent};
 use crate::findings::{Code, Finding};
 use crate::gathering::{facts_of_child, facts_of_directory};
+use crate::lower_paths::LowerPath;
 use crate::named::ByName;
-use crate::next_places::NextPlace;
 use crate::sources::CheckedBlobs;
 use crate::subjects::{CheckOut, CheckWork, ToldBlobs};
 use ovl_board::{Piece, Work};
 use ovl_inode::{Digest, Mark, is_directory};
-use ovl_lookup::{Stack, Trail, is_moved};
+use ovl_lookup::{PathRope, Stack, is_moved};
 use ovl_names::{DEPTH_LIMIT, Name, Path};
 use std::alloc::{AllocError, Global};
 
@@ -113,7 +113,7 @@ fn directory_out<'a>(
     alloc: Global,
     work: &CheckWork<'_>,
     layer: u16,
-    directory: GatheredDirectory<'_, 'a>,
+    directory: CheckedDirectory<'_, 'a>,
 ) -> Result<CheckOut<'a>, AllocError>
     requires inside { layer < length (all_layers work.now.stack.now) }
     requires gathered { IsGathered (layer_at work.now.stack.now layer) directory }
@@ -127,7 +127,7 @@ fn directory_out<'a>(
     push_files(alloc, work, layer, &directory, &mut findings)?;
     let ordinary = is_ordinary(work.stack, layer);
     let moved = is_moved_in(ordinary, directory.mark);
-    let GatheredDirectory {
+    let CheckedDirectory {
         path,
         turned,
         closed,
@@ -166,16 +166,16 @@ fn is_ordinary(stack: &Stack, layer: u16) -> bool
 fn place_of<'a>(
     alloc: Global,
     path: &Path,
-    turned: Option<Trail<'a>>,
+    turned: Option<PathRope<'a>>,
     closed: bool,
-) -> Result<Option<NextPlace<'a>>, AllocError>
+) -> Result<Option<LowerPath<'a>>, AllocError>
     ensures { IfOk result
         (λ place. place ≡ (if closed then None else Some (unwrap_or turned.entry path.now))) }
 {
     if closed {
         return Ok(None);
     }
-    Ok(Some(NextPlace::of(alloc, path, turned)?))
+    Ok(Some(LowerPath::of(alloc, path, turned)?))
 }
 
 fn nothing<'a>(alloc: Global) -> CheckOut<'a>
@@ -212,7 +212,7 @@ fn push_directory(
     alloc: Global,
     work: &CheckWork<'_>,
     layer: u16,
-    directory: &GatheredDirectory<'_, '_>,
+    directory: &CheckedDirectory<'_, '_>,
     findings: &mut Vec<Finding>,
 ) -> Result<(), AllocError>
     requires inside { layer < length (all_layers work.now.stack.now) }
@@ -236,7 +236,7 @@ fn push_files(
     alloc: Global,
     work: &CheckWork<'_>,
     layer: u16,
-    directory: &GatheredDirectory<'_, '_>,
+    directory: &CheckedDirectory<'_, '_>,
     findings: &mut Vec<Finding>,
 ) -> Result<(), AllocError>
     requires inside { layer < length (all_layers work.now.stack.now) }
@@ -258,7 +258,7 @@ fn push_file(
     alloc: Global,
     work: &CheckWork<'_>,
     layer: u16,
-    directory: &GatheredDirectory<'_, '_>,
+    directory: &CheckedDirectory<'_, '_>,
     child: &Child<'_>,
     findings: &mut Vec<Finding>,
 ) -> Result<(), AllocError>

@@ -17,7 +17,7 @@ use crate::places::mark_in;
 use ovl_board::Piece;
 use ovl_inode::{Inode, Mark, is_directory, overlay};
 use ovl_layer::Sheet;
-use ovl_lookup::{DirView, OwnDirectory, Stack, Trail};
+use ovl_lookup::{DirView, OwnDirectory, PathRope, Stack};
 use ovl_names::{Name, Path};
 use std::alloc::{AllocError, Global};
 
@@ -31,7 +31,7 @@ pub(crate) struct Child<'a> {
 
 /// A directory of a layer, gathered once for all that is in it.
 #[derive(Drop)]
-pub(crate) struct GatheredDirectory<'p, 'a> {
+pub(crate) struct CheckedDirectory<'p, 'a> {
     pub(crate) path: &'p Path,
     pub(crate) inode: &'a Inode,
     pub(crate) mark: &'p Mark,
@@ -39,7 +39,7 @@ pub(crate) struct GatheredDirectory<'p, 'a> {
     pub(crate) is_marked: bool,
     // The path by which the layers below know it, where marks turn it from its own, and whether
     // they are hidden there.
-    pub(crate) turned: Option<Trail<'a>>,
+    pub(crate) turned: Option<PathRope<'a>>,
     pub(crate) closed: bool,
     pub(crate) children: Vec<Child<'a>>,
     // The view of the layers below there, where they aren't hidden and an entry asks them.
@@ -54,7 +54,7 @@ pub(crate) fn directory_at<'p, 'a: 'p>(
     i: usize,
     path: &'p Path,
     plain: &'p Mark,
-) -> Result<Option<GatheredDirectory<'p, 'a>>, AllocError>
+) -> Result<Option<CheckedDirectory<'p, 'a>>, AllocError>
     requires inside { i < length (all_layers stack.now) }
     requires plain { plain.now ≡ DirPlain }
     ensures { IfOk result (λ found. MatchOption found
@@ -77,7 +77,7 @@ pub(crate) fn directory_at<'p, 'a: 'p>(
     let mark = mark_in(sheet, row, path, plain);
     let children = children_in(alloc, sheet, row)?;
     let below = below_children(alloc, stack, i, path, &turned, closed, &children)?;
-    Ok(Some(GatheredDirectory {
+    Ok(Some(CheckedDirectory {
         path,
         inode,
         mark,

@@ -10,7 +10,7 @@ ghost use Rattle.ovl_check.specs.CheckViews.{check_view};
 ghost use Rattle.ovl_check.specs.Walks.{AreLayerWalks, double_at, places_with, moved_places, if_sought, doubles_after, found_along, all_left};
 
 use crate::findings::{Code, Finding};
-use crate::next_places::LentPlace;
+use crate::lower_paths::LowerPathRef;
 use crate::subjects::{CheckOut, CheckWork};
 use ovl_board::Parcel;
 use ovl_names::Path;
@@ -187,7 +187,7 @@ fn has_moved(parcels: &[Parcel<CheckOut<'_>>]) -> bool
 fn places_of_moved<'p, 'a>(
     alloc: Global,
     parcels: &'p [Parcel<CheckOut<'a>>],
-) -> Result<BTreeSet<LentPlace<'p, 'a>>, AllocError>
+) -> Result<BTreeSet<LowerPathRef<'p, 'a>>, AllocError>
     ensures { IfOk result
         (λ places. places.keys ≡ moved_places [] (parcel_views check_seen parcels.now)) }
 {
@@ -201,7 +201,7 @@ fn places_of_moved<'p, 'a>(
 // Adds where a directory goes on, if it is a moved one.
 fn add_moved<'p, 'a>(
     parcel: &'p Parcel<CheckOut<'a>>,
-    places: &mut BTreeSet<LentPlace<'p, 'a>>,
+    places: &mut BTreeSet<LowerPathRef<'p, 'a>>,
 ) -> Result<(), AllocError>
     ensures { OnOk result
         (places.new.keys
@@ -214,7 +214,7 @@ fn add_moved<'p, 'a>(
     let Some(place) = &parcel.out.place else {
         return Ok(());
     };
-    places.insert(LentPlace { place })?;
+    places.insert(LowerPathRef { place })?;
     Ok(())
 }
 
@@ -223,8 +223,8 @@ fn add_moved<'p, 'a>(
 fn note_place<'p, 'a>(
     alloc: Global,
     parcel: &'p Parcel<CheckOut<'a>>,
-    moved: &BTreeSet<LentPlace<'p, 'a>>,
-    places: &mut BTreeSet<LentPlace<'p, 'a>>,
+    moved: &BTreeSet<LowerPathRef<'p, 'a>>,
+    places: &mut BTreeSet<LowerPathRef<'p, 'a>>,
     findings: &mut Vec<Finding>,
 ) -> Result<(), AllocError>
     ensures found { OnOk result (findings.new.items ≡ findings.old.items
@@ -252,15 +252,15 @@ fn note_place<'p, 'a>(
 // Where a directory goes on, if it is moved or goes on at one of these places.
 fn place_among<'p, 'a>(
     parcel: &'p Parcel<CheckOut<'a>>,
-    places: &BTreeSet<LentPlace<'p, 'a>>,
-) -> Option<LentPlace<'p, 'a>>
+    places: &BTreeSet<LowerPathRef<'p, 'a>>,
+) -> Option<LowerPathRef<'p, 'a>>
     ensures { result
         ≡ if_sought places.now.keys parcel.now.out.moved (check_seen parcel.now.out).place }
 {
     let Some(place) = &parcel.out.place else {
         return None;
     };
-    let place = LentPlace { place };
+    let place = LowerPathRef { place };
     // Sought among its own, the place of a moved one is compared with itself.
     if !parcel.out.moved && !places.contains(&place) {
         return None;

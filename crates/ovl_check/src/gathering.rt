@@ -11,8 +11,8 @@ ghost use Rattle.ovl_layer.specs.Layers.{entry_at};
 ghost use Rattle.ovl_lookup.specs.declared.looks.Look.{Look};
 ghost use Rattle.ovl_lookup.specs.DirViews.{IsViewOver};
 ghost use Rattle.ovl_lookup.specs.Walk.{walk_to_file};
-ghost use Rattle.ovl_lookup.specs.Sights.{sight_of};
-ghost use Rattle.ovl_lookup.specs.Trails.{trail_eq};
+ghost use Rattle.ovl_lookup.specs.ShownKinds.{shown_kind_of};
+ghost use Rattle.ovl_lookup.specs.PathRopes.{rope_eq};
 ghost use Rattle.ovl_lookup.specs.Merged.{place_of_data};
 ghost use Rattle.ovl_lookup.specs.Sound.{is_seen_there};
 ghost use Rattle.ovl_check.specs.Checks.{layer_at, layers_below};
@@ -21,13 +21,13 @@ ghost use Rattle.ovl_check.specs.Facts.{IsGathered, IsViewBelow, IsChildMarked, 
 ghost use Rattle.ovl_check.specs.Facts as facts;
 
 use crate::below::{data_size_in, show_in};
-use crate::directories::{Child, GatheredDirectory};
+use crate::directories::{CheckedDirectory, Child};
 use crate::facts::{Facts, KindFacts, NamedBlob, OldPlace, ThingShown};
 use crate::marks::is_plain;
-use crate::places::{data_size_below, sight_below, step_of};
+use crate::places::{data_size_below, shown_kind_below, step_of};
 use crate::subjects::CheckWork;
 use ovl_inode::{Mark, Redirect};
-use ovl_lookup::{OwnStep, Sight, Stack, Trail};
+use ovl_lookup::{OwnStep, PathRope, ShownKind, Stack};
 use ovl_names::{Name, Path};
 use std::alloc::{AllocError, Global};
 
@@ -36,7 +36,7 @@ pub(crate) fn facts_of_directory<'a>(
     alloc: Global,
     work: &CheckWork<'_>,
     i: usize,
-    directory: &'a GatheredDirectory<'_, '_>,
+    directory: &'a CheckedDirectory<'_, '_>,
     holds_origin: bool,
 ) -> Result<Facts<'a>, AllocError>
     requires inside { i < length (all_layers work.now.stack.now) }
@@ -68,7 +68,7 @@ pub(crate) fn facts_of_child<'a>(
     alloc: Global,
     work: &CheckWork<'_>,
     i: usize,
-    directory: &GatheredDirectory<'_, '_>,
+    directory: &CheckedDirectory<'_, '_>,
     child: &'a Child<'_>,
     blob: NamedBlob,
 ) -> Result<Facts<'a>, AllocError>
@@ -108,7 +108,7 @@ fn old_place(
     alloc: Global,
     stack: &Stack,
     i: usize,
-    directory: &GatheredDirectory<'_, '_>,
+    directory: &CheckedDirectory<'_, '_>,
 ) -> Result<OldPlace, AllocError>
     requires { i < length (all_layers stack.now) }
     ensures { IfOk result
@@ -125,17 +125,17 @@ fn old_place(
             open_place(alloc, stack, i, place)
         }
         None => {
-            let place = trail_of(alloc, directory.path)?;
+            let place = rope_of(alloc, directory.path)?;
             open_place(alloc, stack, i, place)
         }
     }
 }
 
-// The trail of a path.
-fn trail_of<'a>(alloc: Global, path: &'a Path) -> Result<Trail<'a>, AllocError>
-    ensures { IfOk result (λ trail. trail ≡ path.now) }
+// The rope of a path.
+fn rope_of<'a>(alloc: Global, path: &'a Path) -> Result<PathRope<'a>, AllocError>
+    ensures { IfOk result (λ rope. rope ≡ path.now) }
 {
-    Trail::of(alloc, &path.names())
+    PathRope::of(alloc, &path.names())
 }
 
 // The same at a path where the layers below aren't hidden.
@@ -143,25 +143,25 @@ fn open_place<'a>(
     alloc: Global,
     stack: &'a Stack,
     i: usize,
-    place: Trail<'a>,
+    place: PathRope<'a>,
 ) -> Result<OldPlace, AllocError>
     requires { i < length (all_layers stack.now) }
     ensures { IfOk result
         (λ old. old
         ≡ facts.old_place (layer_at stack.now i) (layers_below stack.now i) place.entry false) }
 {
-    let thing = thing_shown(sight_below(alloc, stack, i, place.copy(alloc)?)?);
+    let thing = thing_shown(shown_kind_below(alloc, stack, i, place.copy(alloc)?)?);
     let is_seen = is_seen(alloc, stack, i, &place)?;
     Ok(OldPlace::Open { thing, is_seen })
 }
 
-fn thing_shown(sight: Sight) -> ThingShown
-    ensures { (look : Look) → sight ≡ sight_of look → result ≡ facts.thing_shown look }
+fn thing_shown(shown_kind: ShownKind) -> ThingShown
+    ensures { (look : Look) → shown_kind ≡ shown_kind_of look → result ≡ facts.thing_shown look }
 {
-    match sight {
-        Sight::Nothing => ThingShown::Nothing,
-        Sight::Directory => ThingShown::Directory,
-        Sight::File | Sight::Other => ThingShown::Other,
+    match shown_kind {
+        ShownKind::Nothing => ThingShown::Nothing,
+        ShownKind::Directory => ThingShown::Directory,
+        ShownKind::File | ShownKind::Other => ThingShown::Other,
     }
 }
 
@@ -170,7 +170,7 @@ fn is_seen<'a>(
     alloc: Global,
     stack: &'a Stack,
     i: usize,
-    place: &Trail<'a>,
+    place: &PathRope<'a>,
 ) -> Result<bool, AllocError>
     requires { i < length (all_layers stack.now) }
     ensures { IfOk result (λ answer. answer ≡ is_seen_there (layer_at stack.now i) place.now) }
@@ -195,8 +195,8 @@ fn is_seen<'a>(
 }
 
 // Whether a walk that marks may turn goes on at another path than a place.
-fn is_elsewhere(turned: &Option<Trail<'_>>, place: &Trail<'_>) -> bool
-    ensures { result ≡ not (trail_eq (unwrap_or turned.now place.now) place.now) }
+fn is_elsewhere(turned: &Option<PathRope<'_>>, place: &PathRope<'_>) -> bool
+    ensures { result ≡ not (rope_eq (unwrap_or turned.now place.now) place.now) }
 {
     match turned {
         Some(next) => *next != *place,
@@ -206,7 +206,7 @@ fn is_elsewhere(turned: &Option<Trail<'_>>, place: &Trail<'_>) -> bool
 }
 
 // A whiteout in a directory.
-fn whiteout_in(stack: &Stack, directory: &GatheredDirectory<'_, '_>, name: &Name) -> KindFacts
+fn whiteout_in(stack: &Stack, directory: &CheckedDirectory<'_, '_>, name: &Name) -> KindFacts
     requires { directory.now.closed ≡ false → IfSome directory.now.below (IsViewOver stack.now) }
     ensures { (i : ℕ)
         → (directory.now.closed ≡ false
@@ -235,7 +235,7 @@ fn data_size(
     alloc: Global,
     stack: &Stack,
     i: usize,
-    directory: &GatheredDirectory<'_, '_>,
+    directory: &CheckedDirectory<'_, '_>,
     name: &Name,
     redirect: &Option<Redirect>,
 ) -> Result<Option<u64>, AllocError>

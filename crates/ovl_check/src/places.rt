@@ -8,29 +8,29 @@ ghost use Rattle.ovl_inode.specs.Kinds.{size_of};
 ghost use Rattle.ovl_lookup.specs.Walk.{walk, mark_at as the_mark};
 ghost use Rattle.ovl_lookup.specs.Passes.{IsOwnMarked, own_step_of};
 ghost use Rattle.ovl_lookup.specs.Merged.{look as the_look};
-ghost use Rattle.ovl_lookup.specs.Sights.{sight_of};
+ghost use Rattle.ovl_lookup.specs.ShownKinds.{shown_kind_of};
 ghost use Rattle.ovl_check.specs.Checks.{layer_at, first_below as the_first_below, layers_below};
 ghost use Rattle.ovl_check.specs.Facts.{data_size};
 
 use ovl_inode::{Inode, Mark, file_size};
 use ovl_layer::Sheet;
-use ovl_lookup::{OwnStep, Sight, Stack, Trail};
+use ovl_lookup::{OwnStep, PathRope, ShownKind, Stack};
 use ovl_names::Path;
 use std::alloc::{AllocError, Global};
 
-/// The walk of a trail in layer `i`.
+/// The walk of a rope in layer `i`.
 pub(crate) fn step_of<'a>(
     alloc: Global,
     stack: &'a Stack,
     i: usize,
-    trail: &Trail<'a>,
+    rope: &PathRope<'a>,
 ) -> Result<OwnStep<'a>, AllocError>
     requires { i < length (all_layers stack.now) }
     ensures value { IfOk result
-        (λ step. own_step_of trail.now step ≡ walk (layer_at stack.now i) trail.now) }
+        (λ step. own_step_of rope.now step ≡ walk (layer_at stack.now i) rope.now) }
     ensures marked { IfOk result IsOwnMarked }
 {
-    stack.own_step(alloc, i, trail)
+    stack.own_step(alloc, i, rope)
 }
 
 /// The first of the layers below layer `i`; below a data-only one there is none.
@@ -43,17 +43,17 @@ pub(crate) fn first_below(stack: &Stack, i: usize) -> usize
 }
 
 /// Of what kind it is that the layers below layer `i` show at a path, by walks from their roots.
-pub(crate) fn sight_below<'a>(
+pub(crate) fn shown_kind_below<'a>(
     alloc: Global,
     stack: &'a Stack,
     i: usize,
-    path: Trail<'a>,
-) -> Result<Sight, AllocError>
+    path: PathRope<'a>,
+) -> Result<ShownKind, AllocError>
     requires { i < length (all_layers stack.now) }
     ensures { IfOk result
-        (λ sight. sight ≡ sight_of (the_look (layers_below stack.now i) path.entry)) }
+        (λ shown_kind. shown_kind ≡ shown_kind_of (the_look (layers_below stack.now i) path.entry)) }
 {
-    stack.sight(alloc, first_below(stack, i), path)
+    stack.shown_kind(alloc, first_below(stack, i), path)
 }
 
 /// The size of the data of a metacopy file with this path as its redirect.
@@ -67,8 +67,8 @@ pub(crate) fn data_size_below(
     ensures { IfOk result
         (λ size. size ≡ data_size (layers_below stack.now i) (Some path.now) path.now) }
 {
-    let trail = Trail::of(alloc, &path.names())?;
-    let found = stack.data(alloc, first_below(stack, i), trail, Some(path))?;
+    let rope = PathRope::of(alloc, &path.names())?;
+    let found = stack.data(alloc, first_below(stack, i), rope, Some(path))?;
     Ok(size_in(found))
 }
 

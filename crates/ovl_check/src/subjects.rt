@@ -6,8 +6,8 @@ ghost use Rattle.ovl_check.specs.Facts as facts;
 use crate::contents::{Content, blob_named, content_named};
 use crate::facts::NamedBlob;
 use crate::findings::Finding;
+use crate::lower_paths::LowerPath;
 use crate::named::ByName;
-use crate::next_places::NextPlace;
 use crate::sources::CheckedBlobs;
 use ovl_inode::Inode;
 use ovl_lookup::Stack;
@@ -20,7 +20,7 @@ pub struct CheckOut<'a> {
     pub findings: Vec<Finding>,
     /// The path by which the layers below know the directory, where they aren't hidden; none in a
     /// data-only layer.
-    pub place: Option<NextPlace<'a>>,
+    pub place: Option<LowerPath<'a>>,
     /// Whether the directory is a moved one; none is in a data-only layer.
     pub moved: bool,
 }

@@ -141,7 +141,7 @@ fn dereferenced<'a>(
     match entry.mark {
         Mark::DirMoved(_) => unfolded(alloc, entry.inode),
         Mark::Meta(_) => {
-            let look = DirView::look_kept(alloc, stack, view, dir, name)?;
+            let look = DirView::look_cached(alloc, stack, view, dir, name)?;
             filled(alloc, entry.inode, &look)
         }
         Mark::Whiteout

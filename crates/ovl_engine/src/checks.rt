@@ -14,7 +14,7 @@ ghost use Rattle.ovl_engine.specs.FsckReports.{is_clean};
 ghost use Rattle.ovl_engine.specs.Outcomes.{IsFailedWalk, MayRefuseBlobs, MayRefuseLayers, MayRefuseCheck};
 
 use crate::faults::EngineFault;
-use crate::teams::Team;
+use crate::teams::WorkerTeam;
 use ovl_board::Parcel;
 use ovl_check::laws::{findings_need_contents, findings_tell_soundness};
 use ovl_check::{
@@ -29,7 +29,7 @@ use std::thread::Threads;
 /// All that is found in a stack and its blobs, in the order of the report. Each blob is digested
 /// once, then the layers are checked one after the other, each by all workers.
 pub(crate) fn findings_of<G: Gate + Sync, R: Threads + Wait + Sync>(
-    team: &Team<'_, G, R>,
+    team: &WorkerTeam<'_, G, R>,
     stack: &Stack,
     blobs: &[Blob],
 ) -> Result<Vec<Finding>, EngineFault>
@@ -50,7 +50,7 @@ pub(crate) fn findings_of<G: Gate + Sync, R: Threads + Wait + Sync>(
 
 /// The same by contents of the blobs, whose names ascend strictly.
 pub(crate) fn findings_by<G: Gate + Sync, R: Threads + Wait + Sync>(
-    team: &Team<'_, G, R>,
+    team: &WorkerTeam<'_, G, R>,
     stack: &Stack,
     contents: &[Content],
 ) -> Result<Vec<Finding>, EngineFault>
@@ -71,7 +71,7 @@ pub(crate) fn findings_by<G: Gate + Sync, R: Threads + Wait + Sync>(
 
 /// The names of the blobs whose bytes have another digest.
 pub(crate) fn wrong_blobs<G: Gate + Sync, R: Threads + Wait + Sync>(
-    team: &Team<'_, G, R>,
+    team: &WorkerTeam<'_, G, R>,
     blobs: &[Blob],
 ) -> Result<Vec<Digest>, EngineFault>
     requires number { (0 < team.now.workers) × (team.now.workers ≤ worker_limit) }
@@ -88,7 +88,7 @@ pub(crate) fn wrong_blobs<G: Gate + Sync, R: Threads + Wait + Sync>(
 
 // All that a check of a stack finds.
 fn checked<G: Gate + Sync, R: Threads + Wait + Sync>(
-    team: &Team<'_, G, R>,
+    team: &WorkerTeam<'_, G, R>,
     stack: &Stack,
     work: &CheckWork<'_>,
 ) -> Result<Vec<Finding>, EngineFault>
@@ -104,7 +104,7 @@ fn checked<G: Gate + Sync, R: Threads + Wait + Sync>(
 
 // The plain walks of the layers of a stack, the data-only ones too, in order.
 fn layer_walks<'a, G: Gate + Sync, R: Threads + Wait + Sync>(
-    team: &Team<'_, G, R>,
+    team: &WorkerTeam<'_, G, R>,
     stack: &Stack,
     work: &CheckWork<'a>,
 ) -> Result<Vec<Vec<Parcel<CheckOut<'a>>>>, EngineFault>

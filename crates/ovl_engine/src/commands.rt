@@ -24,8 +24,8 @@ use crate::flattens::flatten;
 use crate::fsck_reports::{fsck_report_by, is_clean};
 use crate::manifests::Manifests;
 use crate::merges::merge;
-use crate::stacks::{let_go, read_stack};
-use crate::teams::Team;
+use crate::stacks::{drop_in_parallel, read_stack};
+use crate::teams::WorkerTeam;
 use crate::vacuums::vacuum;
 use ovl_board::WORKER_LIMIT;
 use ovl_check::{Blob, Finding, blobs_in_order};
@@ -96,7 +96,7 @@ pub fn command<G: Gate + Sync, R: Threads + Wait + Sync, M: Manifests + Drop>(
         × (nat_le (length (M.held manifests)) bottom ≡ true)) }
 {
     let stack = stack_for(rt, alloc, what, manifests, bottom, blobs, workers)?;
-    let team = Team {
+    let team = WorkerTeam {
         rt,
         alloc,
         workers,
@@ -156,7 +156,7 @@ pub(crate) fn stack_for<R: Threads + Sync, M: Manifests + Drop>(
 
 // What the command gives of a stack and blobs that it isn't refused for.
 fn answer_of<G: Gate + Sync, R: Threads + Wait + Sync>(
-    team: &Team<'_, G, R>,
+    team: &WorkerTeam<'_, G, R>,
     what: Command,
     stack: Stack,
     blobs: &[Blob],
@@ -178,7 +178,7 @@ fn answer_of<G: Gate + Sync, R: Threads + Wait + Sync>(
 
 // What is found in a stack with these blobs, where the command checks it.
 fn found_in<G: Gate + Sync, R: Threads + Wait + Sync>(
-    team: &Team<'_, G, R>,
+    team: &WorkerTeam<'_, G, R>,
     what: Command,
     stack: &Stack,
     blobs: &[Blob],
@@ -204,7 +204,7 @@ fn found_in<G: Gate + Sync, R: Threads + Wait + Sync>(
 /// What the command gives of a stack that it isn't refused for, by all that is found in it where
 /// the command checks.
 pub(crate) fn answer<G: Gate + Sync, R: Threads + Wait + Sync>(
-    team: &Team<'_, G, R>,
+    team: &WorkerTeam<'_, G, R>,
     what: Command,
     stack: Stack,
     found: Vec<Finding>,
@@ -292,7 +292,7 @@ fn are_over_limit(blobs: &[Blob]) -> bool
 
 // The report of the merged tree of a stack, whatever is found in it.
 fn show<G: Gate + Sync, R: Threads + Wait + Sync>(
-    team: &Team<'_, G, R>,
+    team: &WorkerTeam<'_, G, R>,
     stack: Stack,
 ) -> Result<Answer, EngineFault>
     requires { (0 < team.now.workers) × (team.now.workers ≤ worker_limit) }
@@ -302,7 +302,7 @@ fn show<G: Gate + Sync, R: Threads + Wait + Sync>(
     let work = ShowWork::new(&stack);
     let parcels = team.walk(&work, 0)?;
     let look = work.root_look(team.alloc)?;
-    let_go(team.rt, team.alloc, stack, team.workers);
+    drop_in_parallel(team.rt, team.alloc, stack, team.workers);
     Ok(Answer {
         report: report_by(team.rt, team.alloc, &look, parcels, team.workers)?,
         layers: Vec::new(team.alloc),
@@ -312,14 +312,14 @@ fn show<G: Gate + Sync, R: Threads + Wait + Sync>(
 
 // The report of what is found in a stack.
 fn fsck<G, R: Threads + Sync>(
-    team: &Team<'_, G, R>,
+    team: &WorkerTeam<'_, G, R>,
     stack: Stack,
     found: &[Finding],
 ) -> Result<Answer, EngineFault>
     requires { 0 < team.now.workers }
     ensures { IsRun Fsck stack found.now ⊥ result }
 {
-    let_go(team.rt, team.alloc, stack, team.workers);
+    drop_in_parallel(team.rt, team.alloc, stack, team.workers);
     Ok(Answer {
         report: fsck_report_by(team.rt, team.alloc, found, team.workers)?,
         layers: Vec::new(team.alloc),

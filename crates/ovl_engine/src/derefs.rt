@@ -9,7 +9,7 @@ ghost use Rattle.ovl_engine.specs.Kept.{KeepsTreeOf, KeepsSoundness};
 
 use crate::faults::EngineFault;
 use crate::rewrites::{answer_telling, expect_clean, finished, walked};
-use crate::teams::Team;
+use crate::teams::WorkerTeam;
 use ovl_check::Finding;
 use ovl_commands::Answer;
 use ovl_deref::DerefWork;
@@ -22,7 +22,7 @@ use std::thread::Threads;
 /// The topmost layer of a stack without redirects and metacopy files, where no fault is found in
 /// the stack, and the report of what it has. The new layer keeps the merged tree.
 pub(crate) fn deref<G: Gate + Sync, R: Threads + Wait + Sync>(
-    team: &Team<'_, G, R>,
+    team: &WorkerTeam<'_, G, R>,
     stack: Stack,
     found: Vec<Finding>,
 ) -> Result<Answer, EngineFault>

@@ -9,7 +9,7 @@ ghost use Rattle.ovl_engine.specs.Kept.{KeepsTreeOf, KeepsSoundness, IsQuietOf};
 
 use crate::faults::EngineFault;
 use crate::rewrites::{answer_telling, expect_clean, finished, walked};
-use crate::teams::Team;
+use crate::teams::WorkerTeam;
 use ovl_check::Finding;
 use ovl_check::laws::{shown_layers_are_clean, unmarked_layers_are_quiet};
 use ovl_commands::Answer;
@@ -23,7 +23,7 @@ use std::thread::Threads;
 /// What a stack shows, as one layer, where no fault is found in the stack, and the report of what
 /// it has. Alone the new layer shows the same, and the check finds nothing in it.
 pub(crate) fn flatten<G: Gate + Sync, R: Threads + Wait + Sync>(
-    team: &Team<'_, G, R>,
+    team: &WorkerTeam<'_, G, R>,
     stack: Stack,
     found: Vec<Finding>,
 ) -> Result<Answer, EngineFault>

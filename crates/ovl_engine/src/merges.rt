@@ -14,7 +14,7 @@ ghost use Rattle.ovl_engine.specs.MergesDown.{KeepsTreeByTwo};
 
 use crate::faults::EngineFault;
 use crate::rewrites::{answer_telling, expect_clean, finished, walked};
-use crate::teams::Team;
+use crate::teams::WorkerTeam;
 use ovl_check::Finding;
 use ovl_commands::Answer;
 use ovl_lookup::Stack;
@@ -29,7 +29,7 @@ use std::thread::Threads;
 /// where no fault is found in the stack, and the report of what that one has. The new layers keep
 /// the merged tree.
 pub(crate) fn merge<G: Gate + Sync, R: Threads + Wait + Sync>(
-    team: &Team<'_, G, R>,
+    team: &WorkerTeam<'_, G, R>,
     stack: Stack,
     found: Vec<Finding>,
 ) -> Result<Answer, EngineFault>
@@ -52,7 +52,7 @@ pub(crate) fn merge<G: Gate + Sync, R: Threads + Wait + Sync>(
 
 /// The end of a merge of a stack's two topmost layers, once it is walked.
 pub(crate) fn merge_end<G: Gate + Sync, R: Threads + Wait + Sync>(
-    team: &Team<'_, G, R>,
+    team: &WorkerTeam<'_, G, R>,
     stack: &Stack,
 ) -> Result<RewriteEnd, EngineFault>
     requires number { (0 < team.now.workers) × (team.now.workers ≤ worker_limit) }

@@ -26,7 +26,7 @@ use crate::faults::EngineFault;
 use crate::merges::{merge, merge_end};
 use crate::questions::{Question, question_of};
 use crate::rewrites::expect_clean;
-use crate::teams::Team;
+use crate::teams::WorkerTeam;
 use ovl_check::{Blob, Content, contents_held};
 use ovl_commands::{Answer, Command};
 use ovl_layer::{Layer, Sheet};
@@ -70,7 +70,7 @@ pub fn merge_down<G: Gate + Sync, R: Threads + Wait + Sync>(
 {
     let stack = stack_for(rt, alloc, Command::Merge, manifests, bottom, blobs, workers)?;
     expect_lower(&stack, left)?;
-    let team = Team {
+    let team = WorkerTeam {
         rt,
         alloc,
         workers,
@@ -131,7 +131,7 @@ pub fn merge_down_told<G: Gate + Sync, R: Threads + Wait + Sync>(
         names,
     } = question;
     drop(names);
-    let team = Team {
+    let team = WorkerTeam {
         rt,
         alloc,
         workers,
@@ -154,7 +154,7 @@ fn expect_lower(stack: &Stack, left: usize) -> Result<(), EngineFault>
 
 // The contents of these blobs, each digested once.
 fn contents_by<G: Gate + Sync, R: Threads + Wait + Sync>(
-    team: &Team<'_, G, R>,
+    team: &WorkerTeam<'_, G, R>,
     blobs: &[Blob],
 ) -> Result<Vec<Content>, EngineFault>
     requires number { (0 < team.now.workers) × (team.now.workers ≤ worker_limit) }
@@ -170,7 +170,7 @@ fn contents_by<G: Gate + Sync, R: Threads + Wait + Sync>(
 
 // What merges of a stack give until a given number of layers is left.
 fn merged_down<G: Gate + Sync, R: Threads + Wait + Sync>(
-    team: &Team<'_, G, R>,
+    team: &WorkerTeam<'_, G, R>,
     stack: Stack,
     told: &[Content],
     left: usize,
@@ -195,7 +195,7 @@ fn merged_down<G: Gate + Sync, R: Threads + Wait + Sync>(
 
 // The stack that a merge leaves of one in which no fault is found.
 fn merged_over<G: Gate + Sync, R: Threads + Wait + Sync>(
-    team: &Team<'_, G, R>,
+    team: &WorkerTeam<'_, G, R>,
     stack: Stack,
     told: &[Content],
 ) -> Result<Stack, EngineFault>
@@ -218,7 +218,7 @@ fn merged_over<G: Gate + Sync, R: Threads + Wait + Sync>(
 
 // The stack that a merge leaves of a sound one.
 fn left_by_merge<G: Gate + Sync, R: Threads + Wait + Sync>(
-    team: &Team<'_, G, R>,
+    team: &WorkerTeam<'_, G, R>,
     stack: Stack,
 ) -> Result<Stack, EngineFault>
     requires number { (0 < team.now.workers) × (team.now.workers ≤ worker_limit) }

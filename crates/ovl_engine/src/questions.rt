@@ -23,7 +23,7 @@ use crate::checks::findings_by;
 use crate::commands::{answer, checks, stack_for};
 use crate::contents::{CommandFault, Contents};
 use crate::faults::EngineFault;
-use crate::teams::Team;
+use crate::teams::WorkerTeam;
 use ovl_check::{Content, Finding, stated_names};
 use ovl_commands::{Answer, Command};
 use ovl_inode::Digest;
@@ -151,7 +151,7 @@ pub fn answer_told<G: Gate + Sync, R: Threads + Wait + Sync>(
 {
     let Question { what, stack, names } = question;
     drop(names);
-    let team = Team {
+    let team = WorkerTeam {
         rt,
         alloc,
         workers,
@@ -195,7 +195,7 @@ fn told_by<C: Contents>(
 
 // What is found in a stack with given contents, if the command checks it.
 fn found_by<G: Gate + Sync, R: Threads + Wait + Sync>(
-    team: &Team<'_, G, R>,
+    team: &WorkerTeam<'_, G, R>,
     what: Command,
     stack: &Stack,
     told: Vec<Content>,

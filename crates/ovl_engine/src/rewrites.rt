@@ -17,8 +17,8 @@ ghost use Rattle.ovl_engine.specs.Outcomes.{IsFailedWalk, IsUnclean, IsRewritten
 
 use crate::faults::EngineFault;
 use crate::fsck_reports::{fsck_report_of, is_clean};
-use crate::stacks::let_go;
-use crate::teams::Team;
+use crate::stacks::drop_in_parallel;
+use crate::teams::WorkerTeam;
 use ovl_check::Finding;
 use ovl_commands::Answer;
 use ovl_layer::Layer;
@@ -45,7 +45,7 @@ pub(crate) fn expect_clean(alloc: Global, found: Vec<Finding>) -> Result<(), Eng
 
 /// The end of a work that makes a new layer, once it is walked.
 pub(crate) fn walked<W: Rewrite + Sync, G: Gate + Sync, R: Threads + Wait + Sync>(
-    team: &Team<'_, G, R>,
+    team: &WorkerTeam<'_, G, R>,
     work: &W,
 ) -> Result<RewriteEnd, EngineFault>
     requires number { (0 < team.now.workers) × (team.now.workers ≤ worker_limit) }
@@ -62,7 +62,7 @@ pub(crate) fn walked<W: Rewrite + Sync, G: Gate + Sync, R: Threads + Wait + Sync
 /// The new layer of such an end. The stack goes first, so that its rows aren't beside the
 /// layer.
 pub(crate) fn finished<G, R: Threads + Sync>(
-    team: &Team<'_, G, R>,
+    team: &WorkerTeam<'_, G, R>,
     stack: Stack,
     end: RewriteEnd,
 ) -> Result<Layer, EngineFault>
@@ -73,7 +73,7 @@ pub(crate) fn finished<G, R: Threads + Sync>(
         → IsLayerWithinLimits new → PassesLimits new }
     ensures fault { IfErr result (λ fault. (fault ≡ LimitOut) ⊎ (fault ≡ Memory)) }
 {
-    let_go(team.rt, team.alloc, stack, team.workers);
+    drop_in_parallel(team.rt, team.alloc, stack, team.workers);
     Ok(end.finish(team.alloc)?)
 }
 

@@ -108,7 +108,12 @@ fn read_share<M: AsSlice<u8> + Drop>(
 
 /// Lets a stack go, its layers shared by at most as many threads as there are workers. When out of
 /// memory for that, this thread does it by itself.
-pub(crate) fn let_go<R: Threads + Sync>(rt: &R, alloc: Global, stack: Stack, workers: usize)
+pub(crate) fn drop_in_parallel<R: Threads + Sync>(
+    rt: &R,
+    alloc: Global,
+    stack: Stack,
+    workers: usize,
+)
     requires { 0 < workers }
 {
     let (layers, data_only) = stack.into_sheets();

@@ -16,14 +16,14 @@ use std::thread::Threads;
 /// The workers of a command, 1 to [`ovl_board::WORKER_LIMIT`], with the gate that they ask before
 /// each visit.
 #[derive(Drop)]
-pub(crate) struct Team<'a, G, R> {
+pub(crate) struct WorkerTeam<'a, G, R> {
     pub(crate) rt: &'a R,
     pub(crate) alloc: Global,
     pub(crate) workers: usize,
     pub(crate) gate: &'a G,
 }
 
-impl<G: Gate + Sync, R: Threads + Wait + Sync> Team<'_, G, R> {
+impl<G: Gate + Sync, R: Threads + Wait + Sync> WorkerTeam<'_, G, R> {
     /// The plain walk of a work from `/` of this space.
     pub(crate) fn walk<W: Work + Sync>(
         &self,

@@ -10,8 +10,8 @@ ghost use Rattle.ovl_engine.specs.Kept.{KeepsTreeOf, KeepsSoundness};
 
 use crate::faults::EngineFault;
 use crate::rewrites::{expect_clean, rewritten};
-use crate::stacks::let_go;
-use crate::teams::Team;
+use crate::stacks::drop_in_parallel;
+use crate::teams::WorkerTeam;
 use ovl_check::Finding;
 use ovl_commands::Answer;
 use ovl_lookup::Stack;
@@ -27,7 +27,7 @@ use std::thread::Threads;
 /// The topmost layer of a stack without what changes nothing, where no fault is found in the stack,
 /// and the report of what went. The new layer keeps the merged tree.
 pub(crate) fn vacuum<G: Gate + Sync, R: Threads + Wait + Sync>(
-    team: &Team<'_, G, R>,
+    team: &WorkerTeam<'_, G, R>,
     stack: Stack,
     found: Vec<Finding>,
 ) -> Result<Answer, EngineFault>
@@ -44,7 +44,7 @@ pub(crate) fn vacuum<G: Gate + Sync, R: Threads + Wait + Sync>(
     expect_clean(team.alloc, found)?;
     let done = vacuumed(team, &stack)?;
     let kept = kept_of(&stack, &done.removed);
-    let_go(team.rt, team.alloc, stack, team.workers);
+    drop_in_parallel(team.rt, team.alloc, stack, team.workers);
     let VacuumDone { layer, removed } = done;
     let alloc = team.alloc;
     let report = || -> Result<Vec<u8>, AllocError>
@@ -55,7 +55,7 @@ pub(crate) fn vacuum<G: Gate + Sync, R: Threads + Wait + Sync>(
 
 // What vacuum leaves of the topmost layer, and what went, whatever the blobs.
 fn vacuumed<G: Gate + Sync, R: Threads + Wait + Sync>(
-    team: &Team<'_, G, R>,
+    team: &WorkerTeam<'_, G, R>,
     stack: &Stack,
 ) -> Result<VacuumDone, EngineFault>
     requires { (0 < team.now.workers) × (team.now.workers ≤ worker_limit) }

@@ -6,7 +6,7 @@ ghost use Rattle.ovl_lookup.specs.DirViews.{IsViewOver};
 use crate::samples::{layer_of, stack_of};
 use ovl_inode::Kind;
 use ovl_layer::Layer;
-use ovl_lookup::{DirView, Look, Stack, StackFault, Step, Trail, walk};
+use ovl_lookup::{DirView, Look, PathRope, Stack, StackFault, Step, walk};
 use ovl_names::{Name, Path};
 use ovl_test_rows::{parts_of, same};
 use std::alloc::{AllocError, Global};
@@ -118,8 +118,8 @@ fn step_line(alloc: Global, step: &Step) -> Result<String, AllocError> {
 fn own_walked(alloc: Global, stack: &Stack, path: &Path) -> Result<String, AllocError>
     requires { 0 < length (all_layers stack.now) }
 {
-    let trail = Trail::of(alloc, &path.names())?;
-    let step = stack.own_walk(alloc, 0, trail)?;
+    let rope = PathRope::of(alloc, &path.names())?;
+    let step = stack.own_walk(alloc, 0, rope)?;
     step_line(alloc, &step.copied(alloc)?)
 }
 

@@ -1,14 +1,14 @@
 pub mod AfterLemmas
 pub mod BackLemmas
-pub mod SiblingLemmas
-pub mod DraftLemmas
+pub mod SubtreeBuilderLemmas
+pub mod LayerBuilderLemmas
 pub mod EntryLemmas
 pub mod KidListLemmas
 pub mod LayerLemmas
 pub mod NodeLemmas
 pub mod OpenLemmas
 pub mod PlaceLemmas
-pub mod SheetDraftLemmas
+pub mod SheetBuilderLemmas
 pub mod SheetLemmas
 pub mod SheetPassLemmas
 pub mod WayLemmas

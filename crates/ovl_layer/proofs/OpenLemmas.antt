@@ -17,7 +17,7 @@ use Rattle.ovl_names.proofs.Ascending.{both, list_all-front, ascends-back, ascen
 use Rattle.ovl_inode.specs.declared.inodes.Inode.{Inode}
 use Rattle.ovl_layer.specs.Layers.{Entry, Entries, entry_cmp, entry_at}
 use Rattle.ovl_layer.specs.LayerTrees.{NodeView, node_cmp, under, entries_from, entries_of_nodes, entry_in, entries_in, placed, grown}
-use Rattle.ovl_layer.specs.Drafts.{entries_of_open, inode_on_way}
+use Rattle.ovl_layer.specs.LayerBuilders.{entries_of_open, inode_on_way}
 use Rattle.ovl_layer.proofs.NodeLemmas.{name_eq-same, entries_in-under_same, entry_at-in, placed-root, entries_of_nodes-append}
 
 -- ---- order under a name
@@ -108,33 +108,33 @@ last_named front node last =
     map-append (λ (n : NodeView). n.name) front (grown node last ∷ [])
     ∙ sym (map-append (λ (n : NodeView). n.name) front (node ∷ []))
 
--- one step of closing: the last node of the spine goes into the one before, or to the root
-module _ (inode : Inode) (nodes spine rest : List NodeView) (node : NodeView) (popped : spine ≡ rest ++ node ∷ []) where
+-- one step of closing: the last node of the list of open directories goes into the one before, or to the root
+module _ (inode : Inode) (nodes open_dirs rest : List NodeView) (node : NodeView) (popped : open_dirs ≡ rest ++ node ∷ []) where
   -- ... and the names that are left are those before the last
-  pub names_left : (count : ℕ) → count ≡ length spine → map (λ n. n.name) rest ≡ take (count - 1) (map (λ n. n.name) spine)
+  pub names_left : (count : ℕ) → count ≡ length open_dirs → map (λ n. n.name) rest ≡ take (count - 1) (map (λ n. n.name) open_dirs)
   names_left count whole =
       let names : List PathName = map (λ (n : NodeView). n.name) rest in
-      let all : map (λ (n : NodeView). n.name) spine ≡ names ++ node.name ∷ [] = ap (map (λ (n : NodeView). n.name)) popped ∙ map-append (λ (n : NodeView). n.name) rest (node ∷ []) in
+      let all : map (λ (n : NodeView). n.name) open_dirs ≡ names ++ node.name ∷ [] = ap (map (λ (n : NodeView). n.name)) popped ∙ map-append (λ (n : NodeView). n.name) rest (node ∷ []) in
       let short : count - 1 ≡ length names = omega (arith, whole, ap length popped, length-append rest (node ∷ []), length-map rest (λ (n : NodeView). n.name)) in
       sym ((λ j. take (short j) (all j)) ∙ take-append_seam names (node.name ∷ []))
 
-  pub closed_first : rest ≡ [] → entries_from inode (entries_of_nodes (nodes ++ node ∷ []) ++ entries_of_open rest) ≡ entries_from inode (entries_of_nodes nodes ++ entries_of_open spine)
+  pub closed_first : rest ≡ [] → entries_from inode (entries_of_nodes (nodes ++ node ∷ []) ++ entries_of_open rest) ≡ entries_from inode (entries_of_nodes nodes ++ entries_of_open open_dirs)
   closed_first none =
-      let same : spine ≡ node ∷ [] = popped ∙ ap (λ (front : List NodeView). front ++ node ∷ []) none in
+      let same : open_dirs ≡ node ∷ [] = popped ∙ ap (λ (front : List NodeView). front ++ node ∷ []) none in
       ap (λ (below : Entries). entries_from inode below)
       (ap (λ (front : List NodeView). entries_of_nodes (nodes ++ node ∷ []) ++ entries_of_open front) none
       ∙ (sym (closed_at_root nodes node) ∙ ap (λ (front : List NodeView). entries_of_nodes nodes ++ entries_of_open front) (sym same)))
 
   module _ (front : List NodeView) (parent : NodeView) (before : rest ≡ front ++ parent ∷ []) where
-    last_two : spine ≡ front ++ parent ∷ node ∷ []
+    last_two : open_dirs ≡ front ++ parent ∷ node ∷ []
     last_two = popped ∙ (ap (λ (some : List NodeView). some ++ node ∷ []) before ∙ append_assoc front (parent ∷ []) (node ∷ []))
 
-    pub closed_next : entries_from inode (entries_of_nodes nodes ++ entries_of_open (front ++ grown parent node ∷ [])) ≡ entries_from inode (entries_of_nodes nodes ++ entries_of_open spine)
+    pub closed_next : entries_from inode (entries_of_nodes nodes ++ entries_of_open (front ++ grown parent node ∷ [])) ≡ entries_from inode (entries_of_nodes nodes ++ entries_of_open open_dirs)
     closed_next = ap (λ (below : Entries). entries_from inode (entries_of_nodes nodes ++ below)) (sym (closed_into front parent node) ∙ ap entries_of_open (sym last_two))
 
-    pub order_next : ascends entry_cmp (entries_from inode (entries_of_nodes nodes ++ entries_of_open spine)) ≡ true → ascends entry_cmp (parent.below ++ under node.name (entries_from node.inode node.below)) ≡ true
+    pub order_next : ascends entry_cmp (entries_from inode (entries_of_nodes nodes ++ entries_of_open open_dirs)) ≡ true → ascends entry_cmp (parent.below ++ under node.name (entries_from node.inode node.below)) ≡ true
     order_next up =
-        let behind = ascends-back entry_cmp (entries_of_nodes nodes) (entries_of_open spine) (ascends-below inode (entries_of_nodes nodes ++ entries_of_open spine) up) in
+        let behind = ascends-back entry_cmp (entries_of_nodes nodes) (entries_of_open open_dirs) (ascends-below inode (entries_of_nodes nodes ++ entries_of_open open_dirs) up) in
         let last = ascends-open front parent (node ∷ []) (subst (λ (some : List NodeView). ascends entry_cmp (entries_of_open some) ≡ true) last_two behind) in
         subst (λ (below : Entries). ascends entry_cmp (parent.below ++ under node.name (entries_from node.inode below)) ≡ true) (append-nil node.below) last
 
@@ -146,21 +146,21 @@ under-append : (name : PathName) (one other : Entries) → under name (one ++ ot
 under-append name one other = map-append (λ (entry : Entry). (name ∷ entry.0, entry.1)) one other
 
 -- one more open node, the entries of which are at the end
-pub opened : (spine : List NodeView) (node : NodeView) → entries_of_open (spine ++ node ∷ []) ≡ entries_of_open spine ++ placed (map (λ n. n.name) spine) (entries_of_open (node ∷ []))
+pub opened : (open_dirs : List NodeView) (node : NodeView) → entries_of_open (open_dirs ++ node ∷ []) ≡ entries_of_open open_dirs ++ placed (map (λ n. n.name) open_dirs) (entries_of_open (node ∷ []))
 opened [] node = sym (placed-root (entries_of_open (node ∷ [])))
-opened (first ∷ spine) node =
-    let rest : Entries = placed (map (λ n. n.name) spine) (entries_of_open (node ∷ [])) in
+opened (first ∷ open_dirs) node =
+    let rest : Entries = placed (map (λ n. n.name) open_dirs) (entries_of_open (node ∷ [])) in
     ap (λ (below : Entries). under first.name (entries_from first.inode below))
-    (ap (λ (below : Entries). first.below ++ below) (opened spine node) ∙ sym (append_assoc first.below (entries_of_open spine) rest))
-    ∙ (under-append first.name (entries_from first.inode (first.below ++ entries_of_open spine)) rest
-    ∙ ap (λ (below : Entries). under first.name (entries_from first.inode (first.below ++ entries_of_open spine)) ++ below) (placed-deeper first.name (map (λ n. n.name) spine) (entries_of_open (node ∷ []))))
+    (ap (λ (below : Entries). first.below ++ below) (opened open_dirs node) ∙ sym (append_assoc first.below (entries_of_open open_dirs) rest))
+    ∙ (under-append first.name (entries_from first.inode (first.below ++ entries_of_open open_dirs)) rest
+    ∙ ap (λ (below : Entries). under first.name (entries_from first.inode (first.below ++ entries_of_open open_dirs)) ++ below) (placed-deeper first.name (map (λ n. n.name) open_dirs) (entries_of_open (node ∷ []))))
 
 -- ---- what is on the way to the last entry
 
-pub inode_on_way-open : (inode : Inode) (spine : List NodeView) (k : ℕ) (d : NodeView) → k < length spine → inode_on_way inode spine (suc k) ≡ (get_or spine k d).inode
+pub inode_on_way-open : (inode : Inode) (open_dirs : List NodeView) (k : ℕ) (d : NodeView) → k < length open_dirs → inode_on_way inode open_dirs (suc k) ≡ (get_or open_dirs k d).inode
 inode_on_way-open inode [] k d inside = absurd (omega arith)
-inode_on_way-open inode (node ∷ spine) zero d inside = refl
-inode_on_way-open inode (node ∷ spine) (suc k) d inside = inode_on_way-open node.inode spine k d (omega arith)
+inode_on_way-open inode (node ∷ open_dirs) zero d inside = refl
+inode_on_way-open inode (node ∷ open_dirs) (suc k) d inside = inode_on_way-open node.inode open_dirs k d (omega arith)
 
 earlier : (name : PathName) (entry : Entry) → is_lt (path_cmp entry.0 (name ∷ [])) ≡ true → entry_in name entry ≡ None
 earlier name ([], inode) before = refl
@@ -183,17 +183,17 @@ nothing_earlier name (entry ∷ entries) all =
     let parts = both {a = is_lt (path_cmp entry.0 (name ∷ []))} {b = list_all (λ e. is_lt (path_cmp e.0 (name ∷ []))) entries} all in
     rw (earlier name entry parts.0) (nothing_earlier name entries parts.1)
 
-pub entry_at-on_way : (inode : Inode) (below : Entries) (spine : List NodeView) (k : ℕ) → ascends entry_cmp (entries_from inode (below ++ entries_of_open spine)) ≡ true → k ≤ length spine → entry_at (entries_from inode (below ++ entries_of_open spine)) (take k (map (λ n. n.name) spine)) ≡ Some (inode_on_way inode spine k)
-entry_at-on_way inode below spine zero up inside = refl
+pub entry_at-on_way : (inode : Inode) (below : Entries) (open_dirs : List NodeView) (k : ℕ) → ascends entry_cmp (entries_from inode (below ++ entries_of_open open_dirs)) ≡ true → k ≤ length open_dirs → entry_at (entries_from inode (below ++ entries_of_open open_dirs)) (take k (map (λ n. n.name) open_dirs)) ≡ Some (inode_on_way inode open_dirs k)
+entry_at-on_way inode below open_dirs zero up inside = refl
 entry_at-on_way inode below [] (suc k) up inside = absurd (omega arith)
-entry_at-on_way inode below (node ∷ spine) (suc k) up inside =
-    let here : Entries = entries_from node.inode (node.below ++ entries_of_open spine) in
-    let path : PathNames = take k (map (λ n. n.name) spine) in
+entry_at-on_way inode below (node ∷ open_dirs) (suc k) up inside =
+    let here : Entries = entries_from node.inode (node.below ++ entries_of_open open_dirs) in
+    let path : PathNames = take k (map (λ n. n.name) open_dirs) in
     let behind : ascends entry_cmp (below ++ under node.name here) ≡ true = ascends-below inode (below ++ under node.name here) up in
-    let none : entries_in node.name below ≡ [] = nothing_earlier node.name below (ascends-across entry_cmp below (node.name ∷ [], node.inode) (under node.name (node.below ++ entries_of_open spine)) behind) in
+    let none : entries_in node.name below ≡ [] = nothing_earlier node.name below (ascends-across entry_cmp below (node.name ∷ [], node.inode) (under node.name (node.below ++ entries_of_open open_dirs)) behind) in
     let seen : entries_in node.name (below ++ under node.name here) ≡ here =
     filter_map-append (entry_in node.name) below (under node.name here)
     ∙ (λ j. none j ++ entries_in-under_same node.name node.name here (name_eq-same node.name) j) in
     entry_at-in (entries_from inode (below ++ under node.name here)) node.name path
     ∙ (ap (λ (entries : Entries). entry_at entries path) seen
-    ∙ entry_at-on_way node.inode node.below spine k (ascends-node node (node.below ++ entries_of_open spine) (ascends-back entry_cmp below (under node.name here) behind)) (omega arith))
+    ∙ entry_at-on_way node.inode node.below open_dirs k (ascends-node node (node.below ++ entries_of_open open_dirs) (ascends-back entry_cmp below (under node.name here) behind)) (omega arith))

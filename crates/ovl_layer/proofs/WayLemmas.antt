@@ -10,7 +10,7 @@ use Rattle.ovl_names.specs.Paths.{PathNames, child_path, path_text, depth_limit,
 use Rattle.ovl_layer.specs.Layers.{is_within_limits}
 use Rattle.ovl_layer.specs.TextPaths.{slashed, AreEnds}
 use Rattle.ovl_layer.proofs.SheetLemmas.{slice_get-front, slice_get-seam, length-child}
-use Rattle.ovl_layer.proofs.SheetDraftLemmas.{take-child, slice_get-take}
+use Rattle.ovl_layer.proofs.SheetBuilderLemmas.{take-child, slice_get-take}
 
 -- the text of a directory's entry
 pub slashed-child : (path : PathNames) (name : List ℕ) → slashed (child_path path name) ≡ slashed path ++ slash ∷ name

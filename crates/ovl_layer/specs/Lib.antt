@@ -3,10 +3,10 @@ pub mod LayerTrees
 pub mod TreeFalls
 pub mod Entries
 pub mod TextPaths
-pub mod Drafts
-pub mod Siblings
+pub mod LayerBuilders
+pub mod SubtreeBuilder
 pub mod Sheets
 pub mod KidLists
 pub mod MarkLists
 pub mod SheetPasses
-pub mod SheetDrafts
+pub mod SheetBuilders

@@ -8,10 +8,10 @@ ghost use Rattle.ovl_layer.specs.TextPaths.{slashed};
 ghost use Rattle.ovl_layer.specs.Entries.{is_statable, stated_pair, entry_after, layer_of_pairs, is_miscounted, first_fault, is_of_first, IsFaultOf};
 ghost use Rattle.ovl_layer.specs.declared.faults.LayerFault.{LayerFault};
 ghost use Rattle.ovl_layer.specs.declared.faults.LayerFault.TheVariants.{Count};
-ghost use Rattle.ovl_layer.specs.Drafts.{draft_entries, IsDraft};
+ghost use Rattle.ovl_layer.specs.LayerBuilders.{builder_entries, IsLayerBuilder};
 
-use crate::drafts::Draft;
 use crate::faults::LayerFault;
+use crate::layer_builders::LayerBuilder;
 use crate::trees::Layer;
 use ovl_inode::{Attrs, Inode, is_directory, overlay, sound};
 use ovl_names::{DEPTH_LIMIT, Name, Path, TEXT_LIMIT};
@@ -41,20 +41,23 @@ pub fn from_entries(alloc: Global, entries: Vec<(Path, Inode)>) -> Result<Layer,
     let Some(root) = entries.next() else {
         return Err(LayerFault::Count);
     };
-    let mut draft = start_draft(alloc, stated(root))?;
+    let mut builder = start_builder(alloc, stated(root))?;
     let mut number = 0;
     for entry in entries {
         number += 1;
-        draft = draft.with_entry(alloc, number, stated(entry))?;
+        builder = builder.with_entry(alloc, number, stated(entry))?;
     }
-    Ok(draft.finish()?)
+    Ok(builder.finish()?)
 }
 
-/// The draft of the first entry, if one is stated.
-pub fn start_draft(alloc: Global, entry: Option<(Path, Inode)>) -> Result<Draft, LayerFault>
+/// The builder of the first entry, if one is stated.
+pub fn start_builder(
+    alloc: Global,
+    entry: Option<(Path, Inode)>,
+) -> Result<LayerBuilder, LayerFault>
     requires { IfSome entry (λ stated. IsTrue (is_statable stated)) }
     ensures { MatchResult result
-        (λ draft. (entry_after [] entry ≡ Ok (draft_entries draft)) × IsDraft draft)
+        (λ builder. (entry_after [] entry ≡ Ok (builder_entries builder)) × IsLayerBuilder builder)
         (λ fault. entry_after [] entry ≡ Err fault) }
 {
     let Some((path, inode)) = entry else {
@@ -66,35 +69,35 @@ pub fn start_draft(alloc: Global, entry: Option<(Path, Inode)>) -> Result<Draft,
     if !path.is_empty() || !is_directory(&inode) {
         return Err(LayerFault::Root);
     }
-    Ok(Draft::start(alloc, inode))
+    Ok(LayerBuilder::start(alloc, inode))
 }
 
-/// The draft of only a root.
-pub fn start_root(alloc: Global, root: Inode) -> Result<Draft, LayerFault>
+/// The builder of only a root.
+pub fn start_root(alloc: Global, root: Inode) -> Result<LayerBuilder, LayerFault>
     ensures { MatchResult result
-        (λ draft. (entry_after [] (stated_pair ([], root)) ≡ Ok (draft_entries draft))
-        × IsDraft draft)
+        (λ builder. (entry_after [] (stated_pair ([], root)) ≡ Ok (builder_entries builder))
+        × IsLayerBuilder builder)
         (λ fault. entry_after [] (stated_pair ([], root)) ≡ Err fault) }
 {
-    start_draft(alloc, stated((Path::root(alloc), root)))
+    start_builder(alloc, stated((Path::root(alloc), root)))
 }
 
-impl Draft {
-    /// The draft with one entry more, that of this number, if one is stated.
+impl LayerBuilder {
+    /// The builder with one entry more, that of this number, if one is stated.
     pub fn with_entry(
         self,
         alloc: Global,
         number: u32,
         entry: Option<(Path, Inode)>,
-    ) -> Result<Draft, LayerFault>
-        requires draft { IsDraft self }
-        requires number { number ≡ length (draft_entries self) }
+    ) -> Result<LayerBuilder, LayerFault>
+        requires builder { IsLayerBuilder self }
+        requires number { number ≡ length (builder_entries self) }
         requires room { number < entry_limit }
         requires stated { IfSome entry (λ stated. IsTrue (is_statable stated)) }
         ensures { MatchResult result
-            (λ more. (entry_after (draft_entries self) entry ≡ Ok (draft_entries more))
-            × IsDraft more)
-            (λ fault. IsFaultOf (entry_after (draft_entries self) entry) fault) }
+            (λ more. (entry_after (builder_entries self) entry ≡ Ok (builder_entries more))
+            × IsLayerBuilder more)
+            (λ fault. IsFaultOf (entry_after (builder_entries self) entry) fault) }
     {
         let Some((path, inode)) = entry else {
             return Err(LayerFault::Entry(number));
@@ -108,9 +111,9 @@ impl Draft {
         if !self.has_parent(&path) {
             return Err(LayerFault::NoParent(number));
         }
-        let mut draft = self;
-        draft.enter(alloc, &path, inode)?;
-        Ok(draft)
+        let mut builder = self;
+        builder.enter(alloc, &path, inode)?;
+        Ok(builder)
     }
 
     /// The same with the entry `name` of a directory, of which no path is made.
@@ -121,16 +124,16 @@ impl Draft {
         directory: &Path,
         name: Name,
         inode: Inode,
-    ) -> Result<Draft, LayerFault>
-        requires draft { IsDraft self }
-        requires number { number ≡ length (draft_entries self) }
+    ) -> Result<LayerBuilder, LayerFault>
+        requires builder { IsLayerBuilder self }
+        requires number { number ≡ length (builder_entries self) }
         requires room { number < entry_limit }
         ensures { MatchResult result
-            (λ more. (entry_after (draft_entries self)
-            (stated_pair (child_path directory.now name, inode)) ≡ Ok (draft_entries more))
-            × IsDraft more)
+            (λ more. (entry_after (builder_entries self)
+            (stated_pair (child_path directory.now name, inode)) ≡ Ok (builder_entries more))
+            × IsLayerBuilder more)
             (λ fault. IsFaultOf
-            (entry_after (draft_entries self)
+            (entry_after (builder_entries self)
             (stated_pair (child_path directory.now name, inode))) fault) }
     {
         if !self.is_within(directory) {
@@ -152,18 +155,18 @@ impl Draft {
         depth: usize,
         name: Name,
         inode: Inode,
-    ) -> Result<Draft, LayerFault>
-        requires draft { IsDraft self }
-        requires number { number ≡ length (draft_entries self) }
+    ) -> Result<LayerBuilder, LayerFault>
+        requires builder { IsLayerBuilder self }
+        requires number { number ≡ length (builder_entries self) }
         requires room { number < entry_limit }
         requires depth { depth ≤ length self.last }
         requires stated { IsTrue (is_statable (child_path (take depth self.last) name, inode)) }
         ensures { MatchResult result
-            (λ more. (entry_after (draft_entries self)
+            (λ more. (entry_after (builder_entries self)
             (Some (child_path (take depth self.last) name, inode))
-            ≡ Ok (draft_entries more)) × IsDraft more)
+            ≡ Ok (builder_entries more)) × IsLayerBuilder more)
             (λ fault. IsFaultOf
-            (entry_after (draft_entries self)
+            (entry_after (builder_entries self)
             (Some (child_path (take depth self.last) name, inode))) fault) }
     {
         if has_escaped_name(&inode.attrs) {
@@ -175,9 +178,9 @@ impl Draft {
         if !self.is_directory_above(depth) {
             return Err(LayerFault::NoParent(number));
         }
-        let mut draft = self;
-        draft.enter_child(alloc, depth, name, inode)?;
-        Ok(draft)
+        let mut builder = self;
+        builder.enter_child(alloc, depth, name, inode)?;
+        Ok(builder)
     }
 }
 

@@ -1,7 +1,7 @@
 //! Why bytes or entries are no layer.
 ghost use Rattle.std.specs.Prelude.{◌≡◌};
 ghost use Rattle.ovl_layer.specs.declared.faults.LayerFault.TheVariants.{Memory};
-ghost use Rattle.ovl_layer.specs.declared.faults.SiblingFault.TheVariants.{Memory as NoMemory};
+ghost use Rattle.ovl_layer.specs.declared.faults.SubtreeFault.TheVariants.{Memory as NoMemory};
 
 use std::alloc::{AllocError, AllocFailed};
 use thiserror::Error;
@@ -52,7 +52,7 @@ impl From<AllocError> for LayerFault {
 
 /// Why entries aren't put together.
 #[derive(Clone, Copy, Debug, PartialEq, Eq, Error)]
-pub enum SiblingFault {
+pub enum SubtreeFault {
     /// No layer has them.
     #[error("no layer")]
     NoLayer,
@@ -61,10 +61,10 @@ pub enum SiblingFault {
     Memory,
 }
 
-impl<T: Drop> From<AllocFailed<T>> for SiblingFault {
+impl<T: Drop> From<AllocFailed<T>> for SubtreeFault {
     ghost from_gives = { λ _ fault. fault ≡ NoMemory };
 
-    fn from(_: AllocFailed<T>) -> SiblingFault {
-        SiblingFault::Memory
+    fn from(_: AllocFailed<T>) -> SubtreeFault {
+        SubtreeFault::Memory
     }
 }

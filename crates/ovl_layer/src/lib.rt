@@ -1,24 +1,24 @@
 //! Layers as trees and as tables, seen as finite maps from paths to inodes.
 #![tactic(auto)]
 
-mod drafts;
 mod entries;
 mod faults;
 mod kid_lists;
+mod layer_builders;
 mod mark_lists;
 mod places;
-mod sheet_drafts;
+mod sheet_builders;
 mod sheets;
-mod siblings;
+mod subtree_builders;
 mod trees;
 
-pub use drafts::Draft;
 pub use entries::{
-    ENTRY_LIMIT, from_entries, has_escaped_name, slashed_len, start_draft, start_root,
+    ENTRY_LIMIT, from_entries, has_escaped_name, slashed_len, start_builder, start_root,
 };
-pub use faults::{LayerFault, SiblingFault};
+pub use faults::{LayerFault, SubtreeFault};
+pub use layer_builders::LayerBuilder;
 pub use places::LayerPlace;
-pub use sheet_drafts::SheetDraft;
+pub use sheet_builders::SheetBuilder;
 pub use sheets::{Sheet, SheetPlace, SheetRow};
-pub use siblings::Siblings;
+pub use subtree_builders::SubtreeBuilder;
 pub use trees::{Cursor, Layer, Node};

@@ -22,7 +22,7 @@ use Rattle.ovl_lookup.specs.Walk.{turn, is_shut, mark_at}
 use Rattle.ovl_lookup.specs.Passes.{IsArrivalAt}
 use Rattle.ovl_lookup.specs.Stacks.{StackView}
 use Rattle.ovl_lookup.specs.Views.{ReachedDirectory, reached, is_reached, entry_in, entered, below_entry, reached_below}
-use Rattle.ovl_lookup.specs.Onwards.{path_on, name_on}
+use Rattle.ovl_lookup.specs.NextLookups.{path_on, name_on}
 use Rattle.ovl_lookup.specs.DirViews.{IsEntryIn, place_below, place_in, places_in, IsPlaceOver}
 use Rattle.ovl_lookup.proofs.ViewLemmas.{views-go_on}
 use Rattle.ovl_lookup.proofs.ViewSteps.{arrives-directory, arrives-past, below-directory}
@@ -207,9 +207,9 @@ module _ (stack : StackView) (name : PathName) (places : List DirPlace) (k : ℕ
       → below_entry entry.mark.now name (reached (drop (own.layer + 1) stack.layers) (own.layer + 1)) (λ other. reached_below stack.layers other (left (k + 1))) ≡ rest
       → places_in stack so_far ++ reached_below stack.layers name (left k) ≡ places_in stack old ++ more
       → places_in stack new ++ rest ≡ places_in stack old ++ more
-  below-step entry is holds old so_far new rest more pushes onward same =
+  below-step entry is holds old so_far new rest more pushes next_lookup same =
       pushed stack old so_far new (place_below own entry) rest more pushes
-      ((λ j. places_in stack so_far ++ entered-there entry is j ∷ sym onward j)
+      ((λ j. places_in stack so_far ++ entered-there entry is j ∷ sym next_lookup j)
       ∙ (ap (λ (ps : List ReachedDirectory). places_in stack so_far ++ ps) (sym (below-directory stack.layers name (places_in stack places) k (place_in stack own) (place-read stack places k inside) entry.inode.now entry.mark.now is.inode holds (sym is.mark)))
       ∙ same))
 
@@ -219,7 +219,7 @@ module _ (stack : StackView) (name : PathName) (places : List DirPlace) (k : ℕ
       → ((rest : List ReachedDirectory) → below_entry entry.mark.now name (reached (drop (own.layer + 1) stack.layers) (own.layer + 1)) (λ other. reached_below stack.layers other (left (k + 1))) ≡ rest → places_in stack new ++ rest ≡ places_in stack old ++ more)
       × (All (IsPlaceOver stack) old → All (IsPlaceOver stack) new)
   below-pushed entry is holds old so_far new more pushes over same = (
-    λ rest onward. below-step entry is holds old so_far new rest more pushes onward same,
+    λ rest next_lookup. below-step entry is holds old so_far new rest more pushes next_lookup same,
     over-below entry is old so_far new pushes over,
   )
 

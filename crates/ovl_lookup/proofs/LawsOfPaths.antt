@@ -15,7 +15,7 @@ use Rattle.ovl_inode.specs.declared.inodes.Inode.{Inode}
 use Rattle.ovl_layer.specs.Layers.{Entries, entry_at, Entry, entry_cmp}
 use Rattle.ovl_layer.proofs.LayerLemmas.{path_cmp-same, path_order}
 use Rattle.ovl_lookup.specs.Words.{is_at_or_under}
-use Rattle.ovl_lookup.specs.Trails.{trail_eq}
+use Rattle.ovl_lookup.specs.PathRopes.{rope_eq}
 
 -- what passes a test passes one that it implies, before or after
 pub filter-filter : {X : Type 0} (one other : X → Bool) (xs : List X) → ((x : X) → one x ≡ true → other x ≡ true) → filter one (filter other xs) ≡ filter one xs
@@ -222,11 +222,11 @@ entries-unique (entry ∷ one) (first ∷ other) up above same =
     by (inr e) (inl f) later = whole (sym ((pointwise_decides bytes_decides first.0 entry.0).0 f)) later
     by (inr e) (inr f) later = let bad : false ≡ true = not_both first.0 entry.0 e f in cc
 
--- trails are equal exactly if their paths are
-pub trail_eq-path : (one other : PathNames) → trail_eq one other ≡ path_eq one other
-trail_eq-path one other = by (trail_eq one other) refl (path_eq one other) refl
+-- ropes are equal exactly if their paths are
+pub rope_eq-path : (one other : PathNames) → rope_eq one other ≡ path_eq one other
+rope_eq-path one other = by (rope_eq one other) refl (path_eq one other) refl
   where
-    by : (b : Bool) → trail_eq one other ≡ b → (c : Bool) → path_eq one other ≡ c → b ≡ c
+    by : (b : Bool) → rope_eq one other ≡ b → (c : Bool) → path_eq one other ≡ c → b ≡ c
     by true e true f = refl
     by false e false f = refl
     by true e false f =

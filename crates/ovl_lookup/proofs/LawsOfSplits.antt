@@ -11,7 +11,7 @@ use Rattle.ovl_inode.specs.Marks.{mark_of, is_directory}
 use Rattle.ovl_layer.specs.Layers.{Entries, IsLayer, entry_at, is_directory_at}
 use Rattle.ovl_lookup.specs.declared.steps.Step.{Step}
 use Rattle.ovl_lookup.specs.Walk.{walk, walk_beyond, mark_at}
-use Rattle.ovl_lookup.specs.Onwards.{next_on, closed_on}
+use Rattle.ovl_lookup.specs.NextLookups.{next_on, closed_on}
 use Rattle.ovl_lookup.specs.WalkSplits.{walk_below, WalksSplit, AbsoluteRedirectsLead, RelativeRedirectsLead}
 use Rattle.ovl_lookup.proofs.LawsOfPaths.{last-name}
 use Rattle.ovl_lookup.proofs.LawsOfWalks.{directory_found, directory-entry, mark-child, walk-child, walk-child_end, walk-whole}

@@ -21,7 +21,7 @@ use Rattle.ovl_layer.proofs.NodeLemmas.{name_eq-same}
 use Rattle.ovl_layer.specs.Sheets.{path_at, path_of}
 use Rattle.ovl_layer.proofs.SheetLemmas.{none-past, entry_at-number}
 use Rattle.ovl_lookup.specs.Walk.{mark_at, origin_path, name_in_lower, is_closing, nothing_found, turn, is_shut, walk, walk_from, walk_beyond, natural_path, walk_to_file}
-use Rattle.ovl_lookup.specs.Onwards.{next_on, closed_on}
+use Rattle.ovl_lookup.specs.NextLookups.{next_on, closed_on}
 use Rattle.ovl_lookup.specs.Passes.{IsPast, entered_path, entered_closed}
 use Rattle.ovl_lookup.specs.declared.steps.Step.{Step}
 use Rattle.ovl_lookup.specs.Words.{SameMarks, SameEntries}
@@ -582,18 +582,18 @@ module _ (layer : Entries) (is : IsLayer layer) (above : PathNames) (name : Path
   }
 
 -- where the walk of a path leads that goes beyond a directory
-pub past-beyond : (layer : Entries) (path : PathNames) → IsLayer layer → Beyond layer path → (onward : PathNames) × (hidden : Bool) × IsPast layer path onward hidden
+pub past-beyond : (layer : Entries) (path : PathNames) → IsLayer layer → Beyond layer path → (next_lookup : PathNames) × (hidden : Bool) × IsPast layer path next_lookup hidden
 past-beyond layer path is b =
     let found = entry_at layer (child_path b.directory b.name) in
-    let onward : PathNames = (walk layer b.directory).next ++ b.name ∷ b.rest in
+    let next_lookup : PathNames = (walk layer b.directory).next ++ b.name ∷ b.rest in
     let hidden : Bool = (walk layer b.directory).closed || is_some found in
-    (onward, hidden, subst (λ (p : PathNames). IsPast layer p onward hidden) b.whole (past-there layer is b.directory b.name b.holds b.stops found refl b.rest hidden refl))
+    (next_lookup, hidden, subst (λ (p : PathNames). IsPast layer p next_lookup hidden) b.whole (past-there layer is b.directory b.name b.holds b.stops found refl b.rest hidden refl))
 
 -- the same of each path that is no directory
-past-at : (layer : Entries) (path : PathNames) → IsLayer layer → is_directory_at layer path ≡ false → (onward : PathNames) × (hidden : Bool) × IsPast layer path onward hidden
+past-at : (layer : Entries) (path : PathNames) → IsLayer layer → is_directory_at layer path ≡ false → (next_lookup : PathNames) × (hidden : Bool) × IsPast layer path next_lookup hidden
 past-at layer path is none = by (walk-end layer path is)
   where
-    by : (is_directory_at layer path ≡ true) ⊎ Beyond layer path → (onward : PathNames) × (hidden : Bool) × IsPast layer path onward hidden
+    by : (is_directory_at layer path ≡ true) ⊎ Beyond layer path → (next_lookup : PathNames) × (hidden : Bool) × IsPast layer path next_lookup hidden
     by (inl holds) = let bad : true ≡ false = sym holds ∙ none in cc
     by (inr b) = past-beyond layer path is b
 
@@ -611,10 +611,10 @@ module _ (layer : Entries) (path : PathNames) (name : PathName) (is : IsLayer la
       passed None closed e = (refl, e)
       passed (Some inode) closed e = let bad : true ≡ false = e in cc
 
-      by : (onward : PathNames) (hidden : Bool) → IsPast layer path onward hidden → Below (walk layer path) (walk layer (child_path path name)) name
-      by onward true past = (ap (λ (s : Step). s.found) (past.below name []), inl (ap (λ (s : Step). s.closed) (past.below name [])))
-      by onward false past =
-          let step : walk layer (child_path path name) ≡ nothing_found (child_path onward name) false = past.below name [] in
+      by : (next_lookup : PathNames) (hidden : Bool) → IsPast layer path next_lookup hidden → Below (walk layer path) (walk layer (child_path path name)) name
+      by next_lookup true past = (ap (λ (s : Step). s.found) (past.below name []), inl (ap (λ (s : Step). s.closed) (past.below name [])))
+      by next_lookup false past =
+          let step : walk layer (child_path path name) ≡ nothing_found (child_path next_lookup name) false = past.below name [] in
           let open_ = passed (walk layer path).found (walk layer path).closed (sym (past.ended ∙ hides-alike layer path is)) in
           (ap (λ (s : Step). s.found) step, inr (open_.0, ap (λ (s : Step). s.closed) step ∙ sym open_.1, ap (λ (s : Step). s.next) step ∙ ap (λ (p : PathNames). child_path p name) (past.next refl)))
 

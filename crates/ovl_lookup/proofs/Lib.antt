@@ -12,7 +12,7 @@ pub mod Longest
 pub mod Turns
 pub mod WalkFacts
 pub mod FoundLemmas
-mod SightLemmas
+mod ShownKindLemmas
 pub mod ListLemmas
 pub mod Notation
 pub mod RowLemmas
@@ -28,6 +28,6 @@ pub mod ViewLookLemmas
 mod PlaceReads
 mod ShownInodeLemmas
 mod Rows
-mod TrailLemmas
-mod TrailNameLemmas
-mod TrailOrderLemmas
+mod RopeLemmas
+mod RopeNameLemmas
+mod RopeOrderLemmas

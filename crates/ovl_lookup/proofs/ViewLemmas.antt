@@ -15,7 +15,7 @@ use Rattle.ovl_lookup.specs.Walk.{walk, nothing_found}
 use Rattle.ovl_lookup.specs.Trace.{things_found}
 use Rattle.ovl_lookup.specs.Merged.{shown_of, is_shown_directory}
 use Rattle.ovl_lookup.specs.Laws.{ViewsGoOn, ViewsFind, ViewsShow}
-use Rattle.ovl_lookup.specs.Onwards.{next_on, closed_on}
+use Rattle.ovl_lookup.specs.NextLookups.{next_on, closed_on}
 use Rattle.ovl_lookup.specs.Passes.{IsPast, entered_path, entered_closed}
 use Rattle.ovl_lookup.specs.Views.{ReachedDirectory, reached, is_reached, entry_in, entered, below_entry, reached_below, found_below}
 use Rattle.ovl_lookup.proofs.LawsOfPaths.{all-first, all-rest}
@@ -140,11 +140,11 @@ module _ (all : List Entries) (layer : Entries) (layers : List Entries) (i : ℕ
         ∙ sym (view-here (Some inode) holds e
         ∙ ap (λ b. cond b (entered name (mark_of inode) place ∷ below_entry (mark_of inode) name (reached (drop (suc i) all) (suc i)) (λ other. reached_below all other rest_of)) []) d))
 
-    view-past : (onward : PathNames) (hidden : Bool) → IsPast layer path onward hidden → reached (layer ∷ layers) i (child_path path name) ≡ reached_below all name (reached (layer ∷ layers) i path)
-    view-past onward hidden past =
-        reached-by layer layers i (child_path path name) None (nothing_found (child_path onward name) hidden) (nothing-below layer path name [] is past.none) (past.below name [])
-        ∙ (goes-on (reached layers (suc i)) (reached_below all) (reached layers (suc i)) (λ n. refl) later hidden onward name
-        ∙ ap (reached_below all name) (sym (reached-past layer layers i path onward hidden past)))
+    view-past : (next_lookup : PathNames) (hidden : Bool) → IsPast layer path next_lookup hidden → reached (layer ∷ layers) i (child_path path name) ≡ reached_below all name (reached (layer ∷ layers) i path)
+    view-past next_lookup hidden past =
+        reached-by layer layers i (child_path path name) None (nothing_found (child_path next_lookup name) hidden) (nothing-below layer path name [] is past.none) (past.below name [])
+        ∙ (goes-on (reached layers (suc i)) (reached_below all) (reached layers (suc i)) (λ n. refl) later hidden next_lookup name
+        ∙ ap (reached_below all name) (sym (reached-past layer layers i path next_lookup hidden past)))
 
   -- ---- what is found with one more name
   module _ (later : (p : PathNames) (n : PathName) → things_found layers (child_path p n) ≡ found_below all n (reached layers (suc i) p)) where
@@ -177,10 +177,10 @@ module _ (all : List Entries) (layer : Entries) (layers : List Entries) (i : ℕ
         ∙ (ap (λ b. found_by (step-at inode b (mark_of inode)) layers) w
         ∙ ap (λ found. inode ∷ found) (mark-on (things_found layers) (found_below all) (reached layers (suc i)) (λ n. refl) later (mark_of inode) (walk layer path).closed (walk layer path).next name)))
 
-    found-past : (onward : PathNames) (hidden : Bool) → IsPast layer path onward hidden → things_found (layer ∷ layers) (child_path path name) ≡ found_below all name (reached (layer ∷ layers) i path)
-    found-past onward hidden past =
-        found-by layer layers (child_path path name) (nothing_found (child_path onward name) hidden) (past.below name [])
-        ∙ (found-on hidden onward ∙ ap (found_below all name) (sym (reached-past layer layers i path onward hidden past)))
+    found-past : (next_lookup : PathNames) (hidden : Bool) → IsPast layer path next_lookup hidden → things_found (layer ∷ layers) (child_path path name) ≡ found_below all name (reached (layer ∷ layers) i path)
+    found-past next_lookup hidden past =
+        found-by layer layers (child_path path name) (nothing_found (child_path next_lookup name) hidden) (past.below name [])
+        ∙ (found-on hidden next_lookup ∙ ap (found_below all name) (sym (reached-past layer layers i path next_lookup hidden past)))
 
 pub reached-child : (all ls : List Entries) (i : ℕ) (path : PathNames) (name : PathName) → ls ≡ drop i all → All IsLayer ls → reached ls i (child_path path name) ≡ reached_below all name (reached ls i path)
 reached-child all [] i path name whole each = refl
@@ -249,19 +249,19 @@ directory-reached data_only (layer ∷ layers) i path each = by (λ p. directory
         ∙ sym (ap is_reached (reached-by layer layers i path (Some entry.0) (walk layer path) entry.1 refl ∙ ap (λ b. cond b (record { layer = i; path = path; next = (walk layer path).next; closed = (walk layer path).closed } ∷ cond (walk layer path).closed [] (reached layers (suc i) (walk layer path).next)) []) (ap directory_found (sym entry.1) ∙ holds)))))
     by later (inr b) = let past = past-beyond layer path is b in ending past.0 past.1 past.2
       where
-        ending : (onward : PathNames) (hidden : Bool) → IsPast layer path onward hidden → is_shown_directory (shown_of data_only (things_found (layer ∷ layers) path)) ≡ is_reached (reached (layer ∷ layers) i path)
-        ending onward hidden past = found (walk layer path).found refl ∙ ap is_reached (sym (reached-past layer layers i path onward hidden past))
+        ending : (next_lookup : PathNames) (hidden : Bool) → IsPast layer path next_lookup hidden → is_shown_directory (shown_of data_only (things_found (layer ∷ layers) path)) ≡ is_reached (reached (layer ∷ layers) i path)
+        ending next_lookup hidden past = found (walk layer path).found refl ∙ ap is_reached (sym (reached-past layer layers i path next_lookup hidden past))
           where
-            goes : (closed : Bool) → (closed ≡ false → onward ≡ next) → is_shown_directory (shown_of data_only (cond closed [] (things_found layers next))) ≡ is_reached (cond closed [] (reached layers (suc i) onward))
+            goes : (closed : Bool) → (closed ≡ false → next_lookup ≡ next) → is_shown_directory (shown_of data_only (cond closed [] (things_found layers next))) ≡ is_reached (cond closed [] (reached layers (suc i) next_lookup))
             goes true on = refl
             goes false on = later next ∙ ap (λ (p : PathNames). is_reached (reached layers (suc i) p)) (sym (on refl))
 
-            found : (o : Option Inode) → (walk layer path).found ≡ o → is_shown_directory (shown_of data_only (things_found (layer ∷ layers) path)) ≡ is_reached (cond hidden [] (reached layers (suc i) onward))
+            found : (o : Option Inode) → (walk layer path).found ≡ o → is_shown_directory (shown_of data_only (things_found (layer ∷ layers) path)) ≡ is_reached (cond hidden [] (reached layers (suc i) next_lookup))
             found (Some inode) finds =
                 let here = (walk-finds layer path inode is finds).0 in
                 first inode finds
                 ∙ (ap directory_found (sym here) ∙ past.none
-                ∙ ap (λ (b : Bool). is_reached (cond b [] (reached layers (suc i) onward))) (sym (past.ended ∙ ap (λ (o : Option Inode). is_some o || (walk layer path).closed) here)))
+                ∙ ap (λ (b : Bool). is_reached (cond b [] (reached layers (suc i) next_lookup))) (sym (past.ended ∙ ap (λ (o : Option Inode). is_some o || (walk layer path).closed) here)))
             found None finds =
                 let shut : (walk layer path).closed ≡ hidden = sym (past.ended ∙ (hides-alike layer path is ∙ ap (λ (o : Option Inode). is_some o || (walk layer path).closed) finds)) in
                 ap (λ things. is_shown_directory (shown_of data_only things))

@@ -23,14 +23,14 @@ use Rattle.ovl_lookup.specs.Stacks.{StackView}
 use Rattle.ovl_lookup.specs.Trace.{things_found}
 use Rattle.ovl_lookup.specs.Merged.{data_of, shown_of, is_nothing, without_blob, place_of_data}
 use Rattle.ovl_lookup.specs.Passes.{data_below, shown_with}
-use Rattle.ovl_lookup.specs.Sights.{sight_of, sight_of_kind}
+use Rattle.ovl_lookup.specs.ShownKinds.{shown_kind_of, shown_kind_of_kind}
 use Rattle.ovl_lookup.specs.Views.{ReachedDirectory, entry_in, below_entry, found_below}
 use Rattle.ovl_lookup.specs.ViewPasses.{First, AreTops, top_told, tops_told, look_from_top, looks_from_tops}
-use Rattle.ovl_lookup.specs.Onwards.{path_on}
+use Rattle.ovl_lookup.specs.NextLookups.{path_on}
 use Rattle.ovl_lookup.specs.DirViews.{place_in, places_in}
 use Rattle.ovl_lookup.proofs.LawsOfInodes.{bare_file}
 use Rattle.ovl_lookup.proofs.LawsOfFound.{data_of-metacopy, data_of-bad, data_below-metacopy, data_below-data, data_below-other, shown_of-full, any_found, shown-any}
-use Rattle.ovl_lookup.proofs.SightLemmas.{sight-first}
+use Rattle.ovl_lookup.proofs.ShownKindLemmas.{shown_kind-first}
 use Rattle.ovl_lookup.proofs.WalkFacts.{take-rest}
 use Rattle.ovl_lookup.proofs.ViewSteps.{found-whiteout, found-entry, looks-next}
 use Rattle.ovl_lookup.specs.NamedLists.{names_of}
@@ -65,13 +65,13 @@ pub slice-places : (stack : StackView) (places : List DirPlace) (i : ℕ) → pl
 slice-places stack places i = ap (places_in stack) (take-rest places i) ∙ sym (drop-map (λ own. place_in stack own) i places)
 
 module _ (data_only layers : List Entries) (name : PathName) (places : List ReachedDirectory) (k : ℕ) (place : ReachedDirectory) (at : slice_get places k ≡ Some place) (inode : Inode) (mark : Mark) (here : entry_in layers name place ≡ Some inode) (marked : mark ≡ mark_of inode) where
-  abbrev onward : List Inode
-  onward = below_entry mark name (things_found (drop (place.layer + 1) layers)) (λ other. found_below layers other (drop (k + 1) places))
+  abbrev next_lookup : List Inode
+  next_lookup = below_entry mark name (things_found (drop (place.layer + 1) layers)) (λ other. found_below layers other (drop (k + 1) places))
 
   abbrev left : List Inode
   left = found_below layers name (drop k places)
 
-  found-here : is_whiteout inode ≡ false → left ≡ inode ∷ onward
+  found-here : is_whiteout inode ≡ false → left ≡ inode ∷ next_lookup
   found-here w = found-entry layers name places k place at inode mark here w (sym marked)
 
   -- what is shown at the name, where that is the first place that has it
@@ -79,33 +79,33 @@ module _ (data_only layers : List Entries) (name : PathName) (places : List Reac
   whiteout-shows w = ap (shown_of data_only) (found-whiteout layers name places k place at inode here w)
 
   pub full-shows : is_whiteout inode ≡ false → (is_regular inode && has_metacopy inode) ≡ false → shown_of data_only left ≡ Shown (visible inode)
-  full-shows w full = ap (shown_of data_only) (found-here w) ∙ shown_of-full data_only inode onward full
+  full-shows w full = ap (shown_of data_only) (found-here w) ∙ shown_of-full data_only inode next_lookup full
 
   pub lacking-shows : is_whiteout inode ≡ false → (is_regular inode && has_metacopy inode) ≡ true → shown_of data_only left ≡ shown_with inode (data_below data_only None left)
   lacking-shows w lacks =
       ap (shown_of data_only) (found-here w)
-      ∙ (shown-lacking data_only inode onward lacks
-      ∙ ap (shown_with inode) (lacking-data data_only inode onward lacks ∙ sym (ap (data_below data_only None) (found-here w))))
+      ∙ (shown-lacking data_only inode next_lookup lacks
+      ∙ ap (shown_with inode) (lacking-data data_only inode next_lookup lacks ∙ sym (ap (data_below data_only None) (found-here w))))
 
   pub entry-shows : is_whiteout inode ≡ false → not (is_nothing (shown_of data_only left)) ≡ true
   entry-shows w = shown-any data_only left ∙ ap any_found (found-here w)
 
-  pub entry-sight : is_whiteout inode ≡ false → sight_of (shown_of data_only left) ≡ sight_of_kind inode.kind
-  entry-sight w = ap (λ (found : List Inode). sight_of (shown_of data_only found)) (found-here w) ∙ sight-first data_only inode onward
+  pub entry-shown_kind : is_whiteout inode ≡ false → shown_kind_of (shown_of data_only left) ≡ shown_kind_of_kind inode.kind
+  entry-shown_kind w = ap (λ (found : List Inode). shown_kind_of (shown_of data_only found)) (found-here w) ∙ shown_kind-first data_only inode next_lookup
 
   -- the data there
   pub whiteout-data : is_whiteout inode ≡ true → data_below data_only None left ≡ None
   whiteout-data w = ap (data_below data_only None) (found-whiteout layers name places k place at inode here w)
 
   pub own-data : is_whiteout inode ≡ false → is_data inode ≡ true → data_below data_only None left ≡ Some inode
-  own-data w holds = ap (data_below data_only None) (found-here w) ∙ data_below-data data_only None inode onward holds
+  own-data w holds = ap (data_below data_only None) (found-here w) ∙ data_below-data data_only None inode next_lookup holds
 
   pub other-data : is_whiteout inode ≡ false → is_data inode ≡ false → is_metacopy_mark mark ≡ false → data_below data_only None left ≡ None
-  other-data w bare meta = ap (data_below data_only None) (found-here w) ∙ data_below-other data_only None inode onward (ap is_metacopy_mark (sym marked) ∙ meta) bare
+  other-data w bare meta = ap (data_below data_only None) (found-here w) ∙ data_below-other data_only None inode next_lookup (ap is_metacopy_mark (sym marked) ∙ meta) bare
 
-  pub onward-data : is_whiteout inode ≡ false → is_metacopy_mark mark ≡ true → data_below data_only None left ≡ data_below data_only (place_of_data mark) onward
-  onward-data w meta = ap (data_below data_only None) (found-here w) ∙ (data_below-metacopy data_only None inode onward (ap is_metacopy_mark (sym marked) ∙ meta)
-      ∙ ap (λ (m : Mark). data_below data_only (place_of_data m) onward) (sym marked))
+  pub next_lookup-data : is_whiteout inode ≡ false → is_metacopy_mark mark ≡ true → data_below data_only None left ≡ data_below data_only (place_of_data mark) next_lookup
+  next_lookup-data w meta = ap (data_below data_only None) (found-here w) ∙ (data_below-metacopy data_only None inode next_lookup (ap is_metacopy_mark (sym marked) ∙ meta)
+      ∙ ap (λ (m : Mark). data_below data_only (place_of_data m) next_lookup) (sym marked))
 
 -- an absolute redirect of a metacopy file says where its data is
 pub place-on : (mark : Mark) → is_metacopy_mark mark ≡ true → place_of_data mark ≡ path_on mark
@@ -120,8 +120,8 @@ place-on DirPlain meta = let bad : false ≡ true = meta in cc
 place-on MetaBad meta = let bad : false ≡ true = meta in cc
 place-on Leaf meta = let bad : false ≡ true = meta in cc
 
-pub onward-placed : (data_only : List Entries) (mark : Mark) (place : Option PathNames) (one other : List Inode) → is_metacopy_mark mark ≡ true → path_on mark ≡ place → one ≡ other → data_below data_only (place_of_data mark) one ≡ data_below data_only place other
-onward-placed data_only mark place one other meta on same = λ j. data_below data_only ((place-on mark meta ∙ on) j) (same j)
+pub next_lookup-placed : (data_only : List Entries) (mark : Mark) (place : Option PathNames) (one other : List Inode) → is_metacopy_mark mark ≡ true → path_on mark ≡ place → one ≡ other → data_below data_only (place_of_data mark) one ≡ data_below data_only place other
+next_lookup-placed data_only mark place one other meta on same = λ j. data_below data_only ((place-on mark meta ∙ on) j) (same j)
 
 -- the place that is first, which has something at a name
 pub first-entry : (layers : List Entries) (name : PathName) (places : List ReachedDirectory) (inode : Inode) → IsSomeAnd (slice_get places zero) (λ place. entry_in layers name place ≡ Some inode) → (place : ReachedDirectory) × (slice_get places zero ≡ Some place) × (entry_in layers name place ≡ Some inode)

@@ -14,7 +14,7 @@ use Rattle.ovl_layer.specs.LayerTrees.{entries_under}
 use Rattle.ovl_layer.specs.Sheets.{path_at}
 use Rattle.ovl_layer.proofs.NodeLemmas.{entry_at-under}
 use Rattle.ovl_lookup.specs.Walk.{nothing_found, walk, walk_beyond}
-use Rattle.ovl_lookup.specs.Onwards.{next_on, closed_on}
+use Rattle.ovl_lookup.specs.NextLookups.{next_on, closed_on}
 use Rattle.ovl_lookup.specs.declared.steps.Descent.{Descent}
 use Rattle.ovl_lookup.specs.declared.steps.OwnDirectory.{OwnDirectory}
 use Rattle.ovl_lookup.specs.declared.steps.Step.{Step}

@@ -13,7 +13,7 @@ use Rattle.ovl_layer.specs.Sheets.{path_at}
 use Rattle.ovl_lookup.specs.declared.steps.Descent.{Descent}
 use Rattle.ovl_lookup.specs.declared.steps.OwnDirectory.{OwnDirectory}
 use Rattle.ovl_lookup.specs.declared.steps.Step.{Step}
-use Rattle.ovl_lookup.specs.declared.steps.TrailStep.{TrailStep}
+use Rattle.ovl_lookup.specs.declared.steps.RopeStep.{RopeStep}
 use Rattle.ovl_lookup.specs.declared.steps.OwnStep.{OwnStep}
 use Rattle.ovl_lookup.specs.declared.steps.Arrival.{Arrival}
 use Rattle.ovl_lookup.specs.declared.looks.Look.{Look}
@@ -63,15 +63,15 @@ pub record IsDescent (layer : Entries) (path : PathNames) (descent : Descent) : 
   pub own : IsOwnDirectory layer above descent.own
   pub stop : IsStop layer above rest descent.number
 
--- the step that a walk along a trail gives, and that what it found has its mark
-abbrev pub step_of : TrailStep → Step
+-- the step that a walk along a rope gives, and that what it found has its mark
+abbrev pub step_of : RopeStep → Step
 step_of step = record {
   found = option_map (λ found. found.inode.now) step.found;
   next = step.next;
   closed = step.closed;
 }
 
-abbrev pub IsMarked : TrailStep → Type 0
+abbrev pub IsMarked : RopeStep → Type 0
 IsMarked step = IfSome step.found (λ found. found.mark.now ≡ mark_of found.inode.now)
 
 -- the same of a walk of this path that says where it goes on only if that is another path
@@ -88,12 +88,12 @@ IsOwnMarked step = IfSome step.found (λ found. found.mark.now ≡ mark_of found
 
 -- where the walk of a path leads that is no directory: nothing is found below, which goes on by its
 -- own names
-pub record IsPast (layer : Entries) (path onward : PathNames) (hidden : Bool) : Type 0 where
+pub record IsPast (layer : Entries) (path next_lookup : PathNames) (hidden : Bool) : Type 0 where
   pub none : is_directory_at layer path ≡ false
   pub ended : hidden ≡ (is_some (entry_at layer path) || (walk layer path).closed)
-  pub next : hidden ≡ false → onward ≡ (walk layer path).next
+  pub next : hidden ≡ false → next_lookup ≡ (walk layer path).next
   pub below : (name : PathName) (names : PathNames)
-      → walk layer (path ++ name ∷ names) ≡ nothing_found (onward ++ name ∷ names) hidden
+      → walk layer (path ++ name ∷ names) ≡ nothing_found (next_lookup ++ name ∷ names) hidden
 
 -- where the walk of a path in a layer leads
 abbrev pub IsArrivalAt : Entries → PathNames → Option ℕ → PathNames → Bool → Type 0

@@ -10,7 +10,7 @@ use Rattle.ovl_inode.specs.Marks.{mark_of, is_directory, is_whiteout}
 use Rattle.ovl_layer.specs.Layers.{Entries, IsLayer, entry_at, is_directory_at}
 use Rattle.ovl_lookup.specs.declared.steps.Step.{Step}
 use Rattle.ovl_lookup.specs.Walk.{walk, walk_beyond, mark_at}
-use Rattle.ovl_lookup.specs.Onwards.{next_on, closed_on}
+use Rattle.ovl_lookup.specs.NextLookups.{next_on, closed_on}
 
 -- what is at one more name says only by its mark where the walk goes on from where that of its
 -- directory does

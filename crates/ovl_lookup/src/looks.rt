@@ -10,14 +10,14 @@ ghost use Rattle.ovl_lookup.specs.Merged as merged;
 ghost use Rattle.ovl_lookup.specs.Walk.{walk};
 ghost use Rattle.ovl_lookup.specs.ShownInodes.{inode_shown};
 ghost use Rattle.ovl_lookup.specs.Passes.{IsMarked, IsHit, step_of, found_on, shown_with, data_below};
-ghost use Rattle.ovl_lookup.specs.Sights.{sight_of};
+ghost use Rattle.ovl_lookup.specs.ShownKinds.{shown_kind_of};
 ghost use Rattle.ovl_lookup.specs.Equal.{look_eq};
 ghost use Rattle.ovl_lookup.specs.Sound as sound;
 ghost use Rattle.ovl_lookup.specs.EqualLaws.{look_eq_equiv};
 
-use crate::steps::{Found, TrailStep, follow};
-use crate::trails::Trail;
-use crate::{Sight, Stack};
+use crate::ropes::PathRope;
+use crate::steps::{Found, RopeStep, follow};
+use crate::{ShownKind, Stack};
 use ovl_inode::{
     Inode, Kind, Mark, Redirect, is_data, is_directory, is_whiteout, overlay, visible,
 };
@@ -91,7 +91,7 @@ impl Look {
 pub(crate) struct Hit<'a> {
     found: Found<'a>,
     below: usize,
-    next: Trail<'a>,
+    next: PathRope<'a>,
     closed: bool,
 }
 
@@ -113,27 +113,27 @@ impl Stack {
         requires { from ≤ length self.now.layers }
         ensures { IfOk result (λ shown. shown ≡ look (from_layer from self.now) path.now) }
     {
-        let trail = Trail::of(alloc, &path.names())?;
-        match self.first_hit(alloc, from, trail)? {
+        let rope = PathRope::of(alloc, &path.names())?;
+        match self.first_hit(alloc, from, rope)? {
             Some(hit) => self.shown(alloc, hit),
             None => Ok(Look::Nothing),
         }
     }
 
     /// Of what kind that is, with nothing copied. Fails only when out of memory.
-    pub fn sight<'a>(
+    pub fn shown_kind<'a>(
         &'a self,
         alloc: Global,
         from: usize,
-        path: Trail<'a>,
-    ) -> Result<Sight, AllocError>
+        path: PathRope<'a>,
+    ) -> Result<ShownKind, AllocError>
         requires { from ≤ length self.now.layers }
         ensures { IfOk result
-            (λ sight. sight ≡ sight_of (look (from_layer from self.now) path.entry)) }
+            (λ shown_kind. shown_kind ≡ shown_kind_of (look (from_layer from self.now) path.entry)) }
     {
         match self.first_hit(alloc, from, path)? {
-            Some(hit) => Ok(Sight::of(hit.found.inode)),
-            None => Ok(Sight::Nothing),
+            Some(hit) => Ok(ShownKind::of(hit.found.inode)),
+            None => Ok(ShownKind::Nothing),
         }
     }
 
@@ -142,7 +142,7 @@ impl Stack {
         &'a self,
         alloc: Global,
         from: usize,
-        path: Trail<'a>,
+        path: PathRope<'a>,
     ) -> Result<Option<Hit<'a>>, AllocError>
         requires { from ≤ length self.now.layers }
         ensures { IfOk result (λ hit. MatchOption hit
@@ -151,40 +151,40 @@ impl Stack {
     {
         let mut next = path;
         for i in from..self.ordinary() {
-            let TrailStep {
+            let RopeStep {
                 found,
-                next: onward,
+                next: next_lookup,
                 closed,
             } = self.followed(alloc, i, next)?;
             if let Some(found) = found {
                 return Ok(Some(Hit {
                     found,
                     below: i + 1,
-                    next: onward,
+                    next: next_lookup,
                     closed,
                 }));
             }
             if closed {
                 return Ok(None);
             }
-            next = onward;
+            next = next_lookup;
         }
         Ok(None)
     }
 
-    // The walk of a trail in layer `i`.
+    // The walk of a rope in layer `i`.
     fn followed<'a>(
         &'a self,
         alloc: Global,
         i: usize,
-        trail: Trail<'a>,
-    ) -> Result<TrailStep<'a>, AllocError>
+        rope: PathRope<'a>,
+    ) -> Result<RopeStep<'a>, AllocError>
         requires { i < length self.now.layers }
         ensures value { IfSome (slice_get self.now.layers i)
-            (λ layer. IfOk result (λ step. step_of step ≡ walk layer trail.entry)) }
+            (λ layer. IfOk result (λ step. step_of step ≡ walk layer rope.entry)) }
         ensures marked { IfOk result IsMarked }
     {
-        follow(alloc, &self.layers[i], trail)
+        follow(alloc, &self.layers[i], rope)
     }
 
     // What is shown where this is the first thing found.
@@ -239,7 +239,7 @@ impl Stack {
         &'a self,
         alloc: Global,
         from: usize,
-        path: Trail<'a>,
+        path: PathRope<'a>,
         place_told: Option<&'a Path>,
     ) -> Result<Option<&'a Inode>, AllocError>
         requires { from ≤ length self.now.layers }
@@ -250,7 +250,7 @@ impl Stack {
         let mut next = path;
         let mut origin = place_told;
         for place in from..self.ordinary() {
-            let TrailStep {
+            let RopeStep {
                 found,
                 next: lower,
                 closed,
@@ -279,10 +279,10 @@ impl Stack {
         ensures { IfOk result
             (λ place. place ≡ place_told (things_found self.now.layers path.now)) }
     {
-        let mut next = Trail::of(alloc, &path.names())?;
+        let mut next = PathRope::of(alloc, &path.names())?;
         let mut told = None;
         for i in 0..self.ordinary() {
-            let TrailStep {
+            let RopeStep {
                 found,
                 next: lower,
                 closed,

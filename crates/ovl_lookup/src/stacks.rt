@@ -10,7 +10,7 @@ ghost use Rattle.ovl_lookup.specs.Stacks.{layer_limit, all_layers, stack_with};
 ghost use Rattle.ovl_lookup.specs.Words.{top_layer};
 
 use crate::steps::directory_in;
-use crate::{OwnDirectory, OwnStep, Trail, TrailStep, follow};
+use crate::{OwnDirectory, OwnStep, PathRope, RopeStep, follow};
 use ovl_inode::Inode;
 use ovl_layer::{Layer, Sheet};
 use ovl_names::{Name, Path};
@@ -216,20 +216,20 @@ impl Stack {
         self.any_sheet(i).children(alloc, path)
     }
 
-    /// The walk of a trail in layer `i`, see [`follow`]; `i` is below the number of layers. Fails
+    /// The walk of a rope in layer `i`, see [`follow`]; `i` is below the number of layers. Fails
     /// only when out of memory.
     pub fn own_walk<'a>(
         &'a self,
         alloc: Global,
         i: usize,
-        trail: Trail<'a>,
-    ) -> Result<TrailStep<'a>, AllocError>
+        rope: PathRope<'a>,
+    ) -> Result<RopeStep<'a>, AllocError>
         requires { i < length (all_layers self.now) }
         ensures value { IfSome (slice_get (all_layers self.now) i)
-            (λ layer. IfOk result (λ step. step_of step ≡ walk layer trail.entry)) }
+            (λ layer. IfOk result (λ step. step_of step ≡ walk layer rope.entry)) }
         ensures marked { IfOk result IsMarked }
     {
-        follow(alloc, self.any_sheet(i), trail)
+        follow(alloc, self.any_sheet(i), rope)
     }
 
     /// The same, with the path for the layer below only if marks turn it, see [`OwnStep::at`].
@@ -237,14 +237,14 @@ impl Stack {
         &'a self,
         alloc: Global,
         i: usize,
-        trail: &Trail<'a>,
+        rope: &PathRope<'a>,
     ) -> Result<OwnStep<'a>, AllocError>
         requires { i < length (all_layers self.now) }
         ensures value { IfSome (slice_get (all_layers self.now) i)
-            (λ layer. IfOk result (λ step. own_step_of trail.now step ≡ walk layer trail.now)) }
+            (λ layer. IfOk result (λ step. own_step_of rope.now step ≡ walk layer rope.now)) }
         ensures marked { IfOk result IsOwnMarked }
     {
-        OwnStep::at(alloc, self.any_sheet(i), trail)
+        OwnStep::at(alloc, self.any_sheet(i), rope)
     }
 
     /// The directory that layer `i` has at a path, with how its walk goes on, and `None` where it

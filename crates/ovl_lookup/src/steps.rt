@@ -5,11 +5,11 @@ ghost use Rattle.ovl_names.specs.Paths.{PathNames, child_path};
 ghost use Rattle.ovl_inode.specs.Marks.{mark_of};
 ghost use Rattle.ovl_layer.specs.Layers.{entry_at, is_directory_at};
 ghost use Rattle.ovl_layer.specs.Sheets.{path_at};
-ghost use Rattle.ovl_lookup.specs.Onwards.{next_on, closed_on};
+ghost use Rattle.ovl_lookup.specs.NextLookups.{next_on, closed_on};
 ghost use Rattle.ovl_lookup.specs.Passes.{IsDescent, IsArrival, IsOwnDirectory, IsOwnEntry, IsMarked, IsOwnMarked, step_of, own_step_of};
 ghost use Rattle.ovl_lookup.specs.Walk as walks;
 
-use crate::trails::Trail;
+use crate::ropes::PathRope;
 use ovl_inode::{Inode, Mark, Redirect, is_directory, is_whiteout};
 use ovl_layer::{Sheet, SheetRow};
 use ovl_names::{Name, Path};
@@ -43,17 +43,17 @@ pub struct Step {
 pub fn walk(alloc: Global, sheet: &Sheet, path: &Path) -> Result<Step, AllocError>
     ensures { IfOk result (λ step. step ≡ walks.walk sheet.now path.now) }
 {
-    let step = follow(alloc, sheet, Trail::of(alloc, &path.names())?)?;
+    let step = follow(alloc, sheet, PathRope::of(alloc, &path.names())?)?;
     step.copied(alloc)
 }
 
 /// What a walk in one layer found, and where it goes on, with nothing copied.
 #[derive(Debug, Drop)]
-pub struct TrailStep<'a> {
+pub struct RopeStep<'a> {
     /// What the layer has at the path; a whiteout isn't found.
     pub found: Option<Found<'a>>,
     /// The path by which the layer below knows this one.
-    pub next: Trail<'a>,
+    pub next: PathRope<'a>,
     /// Whether the layers below are hidden there.
     pub closed: bool,
 }
@@ -81,12 +81,12 @@ impl<'a> Found<'a> {
     }
 }
 
-impl<'a> TrailStep<'a> {
+impl<'a> RopeStep<'a> {
     /// The same, in an inode and a path of its own. Fails only when out of memory.
     pub fn copied(self, alloc: Global) -> Result<Step, AllocError>
         ensures { IfOk result (λ step. step ≡ step_of self.entry) }
     {
-        let TrailStep {
+        let RopeStep {
             found,
             next,
             closed,
@@ -104,24 +104,24 @@ impl<'a> TrailStep<'a> {
     }
 }
 
-/// The walk of a trail in one layer, see [`walk`], with nothing copied. Fails only when out of
+/// The walk of a rope in one layer, see [`walk`], with nothing copied. Fails only when out of
 /// memory.
 pub fn follow<'a>(
     alloc: Global,
     sheet: &'a Sheet,
-    trail: Trail<'a>,
-) -> Result<TrailStep<'a>, AllocError>
-    ensures value { IfOk result (λ step. step_of step ≡ walks.walk sheet.now trail.entry) }
+    rope: PathRope<'a>,
+) -> Result<RopeStep<'a>, AllocError>
+    ensures value { IfOk result (λ step. step_of step ≡ walks.walk sheet.now rope.entry) }
     ensures marked { IfOk result IsMarked }
 {
     let OwnStep {
         found,
         turned,
         closed,
-    } = OwnStep::at(alloc, sheet, &trail)?;
-    Ok(TrailStep {
+    } = OwnStep::at(alloc, sheet, &rope)?;
+    Ok(RopeStep {
         found,
-        next: turned.unwrap_or(trail),
+        next: turned.unwrap_or(rope),
         closed,
     })
 }
@@ -132,29 +132,33 @@ pub struct OwnStep<'a> {
     /// What the layer has at the path; a whiteout isn't found.
     pub found: Option<Found<'a>>,
     /// The path by which the layer below knows this one, where marks turn it from its own.
-    pub turned: Option<Trail<'a>>,
+    pub turned: Option<PathRope<'a>>,
     /// Whether the layers below are hidden there.
     pub closed: bool,
 }
 
 impl<'a> OwnStep<'a> {
-    /// The walk of a trail in one layer, see [`walk`]. Fails only when out of memory.
-    pub fn at(alloc: Global, sheet: &'a Sheet, trail: &Trail<'a>) -> Result<OwnStep<'a>, AllocError>
+    /// The walk of a rope in one layer, see [`walk`]. Fails only when out of memory.
+    pub fn at(
+        alloc: Global,
+        sheet: &'a Sheet,
+        rope: &PathRope<'a>,
+    ) -> Result<OwnStep<'a>, AllocError>
         ensures value { IfOk result
-            (λ step. own_step_of trail.now step ≡ walks.walk sheet.now trail.now) }
+            (λ step. own_step_of rope.now step ≡ walks.walk sheet.now rope.now) }
         ensures marked { IfOk result IsOwnMarked }
     {
-        let Descent { own, depth, number } = descend(alloc, sheet, trail)?;
-        if depth == trail.len() {
+        let Descent { own, depth, number } = descend(alloc, sheet, rope)?;
+        if depth == rope.len() {
             return Ok(own.step(sheet));
         }
         let Some(number) = number else {
             let closed = own.closed;
-            return own.step_past(trail, depth, closed);
+            return own.step_past(rope, depth, closed);
         };
-        if depth + 1 < trail.len() {
+        if depth + 1 < rope.len() {
             // What is no directory hides what the layers below have there.
-            return own.step_past(trail, depth, true);
+            return own.step_past(rope, depth, true);
         }
         let entered = own.enter(alloc, sheet, number, depth)?;
         if is_whiteout(sheet.inode(number)) {
@@ -168,19 +172,19 @@ impl<'a> OwnStep<'a> {
     }
 }
 
-// The path that goes on past this many names of the trail, which lead to a directory that is known
+// The path that goes on past this many names of the rope, which lead to a directory that is known
 // by another path, if marks turn it.
 fn past<'a>(
-    turned: Option<Trail<'a>>,
-    trail: &Trail<'a>,
+    turned: Option<PathRope<'a>>,
+    rope: &PathRope<'a>,
     depth: usize,
-) -> Result<Option<Trail<'a>>, AllocError>
+) -> Result<Option<PathRope<'a>>, AllocError>
     ensures { IfOk result
-        (λ next. unwrap_or next trail.now
-        ≡ unwrap_or turned.entry (take depth trail.now) ++ drop depth trail.now) }
+        (λ next. unwrap_or next rope.now
+        ≡ unwrap_or turned.entry (take depth rope.now) ++ drop depth rope.now) }
 {
     match turned {
-        Some(next) => Ok(Some(trail.onward(next, depth)?)),
+        Some(next) => Ok(Some(rope.redirected(next, depth)?)),
         None => Ok(None),
     }
 }
@@ -191,7 +195,7 @@ pub struct OwnDirectory<'a> {
     /// The number of its row in the layer's sheet.
     pub row: u32,
     /// The path by which the layer below knows it, where marks turn it from its own.
-    pub turned: Option<Trail<'a>>,
+    pub turned: Option<PathRope<'a>>,
     /// Whether the layers below are hidden there.
     pub closed: bool,
 }
@@ -219,21 +223,21 @@ impl<'a> OwnDirectory<'a> {
         }
     }
 
-    // A walk of a trail that finds nothing past this many names of it, which lead here.
+    // A walk of a rope that finds nothing past this many names of it, which lead here.
     fn step_past(
         self,
-        trail: &Trail<'a>,
+        rope: &PathRope<'a>,
         depth: usize,
         closed: bool,
     ) -> Result<OwnStep<'a>, AllocError>
-        ensures value { IfOk result (λ step. own_step_of trail.now step ≡ walks.nothing_found
-            (unwrap_or self.entry.turned (take depth trail.now) ++ drop depth trail.now)
+        ensures value { IfOk result (λ step. own_step_of rope.now step ≡ walks.nothing_found
+            (unwrap_or self.entry.turned (take depth rope.now) ++ drop depth rope.now)
             closed) }
         ensures marked { IfOk result IsOwnMarked }
     {
         Ok(OwnStep {
             found: None,
-            turned: past(self.turned, trail, depth)?,
+            turned: past(self.turned, rope, depth)?,
             closed,
         })
     }
@@ -278,7 +282,7 @@ impl<'a> OwnDirectory<'a> {
         mark: &'a Mark,
         name: &'a Name,
         depth: usize,
-    ) -> Result<(Option<Trail<'a>>, bool), AllocError>
+    ) -> Result<(Option<PathRope<'a>>, bool), AllocError>
         requires inside { self.row < length sheet.now }
         requires depth { depth ≡ length (path_at sheet.now self.row) }
         ensures next { IfOk result
@@ -295,7 +299,7 @@ impl<'a> OwnDirectory<'a> {
         } = self;
         match mark {
             Mark::DirMoved(Redirect::To(origin)) | Mark::Meta(Some(Redirect::To(origin))) => {
-                Ok((Some(Trail::of(alloc, &origin.names())?), false))
+                Ok((Some(PathRope::of(alloc, &origin.names())?), false))
             }
             Mark::DirMoved(Redirect::Beside(own)) | Mark::Meta(Some(Redirect::Beside(own))) => {
                 let next = turned_or_own(alloc, sheet, turned, row, depth)?;
@@ -311,9 +315,9 @@ impl<'a> OwnDirectory<'a> {
 
 // The path of the entry `name` in a directory that is known by this path, if marks turn it.
 fn turned_child<'a>(
-    turned: Option<Trail<'a>>,
+    turned: Option<PathRope<'a>>,
     name: &'a Name,
-) -> Result<Option<Trail<'a>>, AllocError>
+) -> Result<Option<PathRope<'a>>, AllocError>
     ensures { (dir : PathNames)
         → IfOk result
         (λ child. unwrap_or child (child_path dir name.now)
@@ -329,42 +333,42 @@ fn turned_child<'a>(
 fn turned_or_own<'a>(
     alloc: Global,
     sheet: &'a Sheet,
-    turned: Option<Trail<'a>>,
+    turned: Option<PathRope<'a>>,
     row: u32,
     depth: usize,
-) -> Result<Trail<'a>, AllocError>
+) -> Result<PathRope<'a>, AllocError>
     requires inside { row < length sheet.now }
     requires depth { depth ≡ length (path_at sheet.now row) }
     ensures { IfOk result (λ next. next ≡ unwrap_or turned.entry (path_at sheet.now row)) }
 {
     match turned {
         Some(next) => Ok(next),
-        None => trail_of_row(alloc, sheet, row, depth),
+        None => rope_of_row(alloc, sheet, row, depth),
     }
 }
 
 // The path of a row, which lies so deep, in names that the layer holds. A call for each name.
-fn trail_of_row<'a>(
+fn rope_of_row<'a>(
     alloc: Global,
     sheet: &'a Sheet,
     row: u32,
     depth: usize,
-) -> Result<Trail<'a>, AllocError>
+) -> Result<PathRope<'a>, AllocError>
     requires inside { row < length sheet.now }
     requires depth { depth ≡ length (path_at sheet.now row) }
-    ensures { IfOk result (λ trail. trail ≡ path_at sheet.now row) }
+    ensures { IfOk result (λ rope. rope ≡ path_at sheet.now row) }
 {
     if depth == 0 {
-        return Ok(Trail::root(alloc));
+        return Ok(PathRope::root(alloc));
     }
     let Some(SheetRow { name, parent, .. }) = sheet.row(row) else {
-        return Ok(Trail::root(alloc));
+        return Ok(PathRope::root(alloc));
     };
     let Some(name) = name else {
         // Only the root has no name.
-        return Ok(Trail::root(alloc));
+        return Ok(PathRope::root(alloc));
     };
-    trail_of_row(alloc, sheet, *parent, depth - 1)?.child(name.as_str())
+    rope_of_row(alloc, sheet, *parent, depth - 1)?.child(name.as_str())
 }
 
 /// How far a path goes through directories of a layer: the last of them, how many names lead to it,
@@ -380,9 +384,9 @@ pub(crate) struct Descent<'a> {
 pub(crate) fn descend<'a>(
     alloc: Global,
     sheet: &'a Sheet,
-    trail: &Trail<'_>,
+    rope: &PathRope<'_>,
 ) -> Result<Descent<'a>, AllocError>
-    ensures { IfOk result (λ descent. IsDescent sheet.now trail.now descent) }
+    ensures { IfOk result (λ descent. IsDescent sheet.now rope.now descent) }
 {
     let mut own = OwnDirectory {
         row: sheet.root_number(),
@@ -390,7 +394,7 @@ pub(crate) fn descend<'a>(
         closed: false,
     };
     let mut depth = 0;
-    for name in trail.names() {
+    for name in rope.names() {
         let number = sheet.child(own.row, name);
         let Some(child) = number else {
             return Ok(Descent { own, depth, number });
@@ -421,9 +425,9 @@ pub(crate) fn directory_in<'a>(
         (is_directory_at sheet.now path.now ≡ false)
         (IsOwnDirectory sheet.now path.now)) }
 {
-    let trail = Trail::of(alloc, &path.names())?;
-    let Descent { own, depth, .. } = descend(alloc, sheet, &trail)?;
-    if depth < trail.len() {
+    let rope = PathRope::of(alloc, &path.names())?;
+    let Descent { own, depth, .. } = descend(alloc, sheet, &rope)?;
+    if depth < rope.len() {
         return Ok(None);
     }
     Ok(Some(own))
@@ -435,30 +439,34 @@ pub struct Arrival<'a> {
     /// The number of the row of its directory, if the layer has one there.
     pub row: Option<u32>,
     /// The path by which the layer below knows it.
-    pub next: Trail<'a>,
+    pub next: PathRope<'a>,
     /// Whether the layers below are hidden there, and at every path below it.
     pub closed: bool,
 }
 
 impl<'a> Arrival<'a> {
-    /// Where the walk of a trail leads. Fails only when out of memory.
-    pub fn at(alloc: Global, sheet: &'a Sheet, trail: Trail<'a>) -> Result<Arrival<'a>, AllocError>
-        ensures { IfOk result (IsArrival sheet.now trail.entry) }
+    /// Where the walk of a rope leads. Fails only when out of memory.
+    pub fn at(
+        alloc: Global,
+        sheet: &'a Sheet,
+        rope: PathRope<'a>,
+    ) -> Result<Arrival<'a>, AllocError>
+        ensures { IfOk result (IsArrival sheet.now rope.entry) }
     {
-        let Descent { own, depth, number } = descend(alloc, sheet, &trail)?;
+        let Descent { own, depth, number } = descend(alloc, sheet, &rope)?;
         let OwnDirectory {
             row,
             turned,
             closed,
         } = own;
-        if depth == trail.len() {
+        if depth == rope.len() {
             return Ok(Arrival {
                 row: Some(row),
-                next: turned.unwrap_or(trail),
+                next: turned.unwrap_or(rope),
                 closed,
             });
         }
-        let next = past(turned, &trail, depth)?.unwrap_or(trail);
+        let next = past(turned, &rope, depth)?.unwrap_or(rope);
         Ok(Arrival {
             row: None,
             next,

@@ -6,17 +6,17 @@ ghost use Rattle.ovl_names.specs.Paths.{child_path};
 ghost use Rattle.ovl_lookup.specs.Stacks.{from_layer};
 ghost use Rattle.ovl_lookup.specs.Trace.{things_found};
 ghost use Rattle.ovl_lookup.specs.Merged.{AreKids, look, shows, shown_of, is_nothing};
-ghost use Rattle.ovl_lookup.specs.Sights.{sight_of};
+ghost use Rattle.ovl_lookup.specs.ShownKinds.{shown_kind_of};
 ghost use Rattle.ovl_lookup.specs.Passes.{data_below};
 ghost use Rattle.ovl_lookup.specs.Views.{entry_in, found_below};
 ghost use Rattle.ovl_lookup.specs.ViewPasses.{AreLooks};
 ghost use Rattle.ovl_lookup.specs.DirViews.{IsViewOver, IsViewOf, IsPlaceOver, places_in};
 
 use crate::looks::{is_well_formed_metacopy, lacks_contents, metacopy_shown};
+use crate::ropes::PathRope;
 use crate::tops::tops_of;
-use crate::trails::Trail;
 use crate::views::DirPlace;
-use crate::{DirView, Look, Onward, Sight, Stack};
+use crate::{DirView, Look, NextLookup, ShownKind, Stack};
 use ovl_inode::{Inode, is_data, is_whiteout, visible};
 use ovl_names::{Name, Path};
 use std::alloc::{AllocError, Global};
@@ -37,7 +37,7 @@ impl<'a> DirView<'a> {
 
     /// What the stack shows at a name in a directory, by the view of that, which is made with the
     /// first name that is asked for and kept for the others. Fails only when out of memory.
-    pub fn look_kept(
+    pub fn look_cached(
         alloc: Global,
         stack: &'a Stack,
         view: &mut Option<DirView<'a>>,
@@ -64,14 +64,14 @@ impl<'a> DirView<'a> {
     }
 
     /// Of what kind that is, with nothing copied; takes no memory.
-    pub fn sight(&self, stack: &Stack, name: &Name) -> Sight
+    pub fn shown_kind(&self, stack: &Stack, name: &Name) -> ShownKind
         requires { IsViewOver stack.now self.now }
         ensures { result
-            ≡ sight_of
+            ≡ shown_kind_of
             (look (from_layer self.now.from stack.now) (child_path self.now.path name.now)) }
     {
         let _ = &stack.layers;
-        sight_in(stack, &self.places, name)
+        shown_kind_in(stack, &self.places, name)
     }
 
     /// Whether something is shown at a name in this directory; takes no memory.
@@ -80,7 +80,7 @@ impl<'a> DirView<'a> {
         ensures { result
             ≡ shows (from_layer self.now.from stack.now) (child_path self.now.path name.now) }
     {
-        !self.sight(stack, name).is_nothing()
+        !self.shown_kind(stack, name).is_nothing()
     }
 
     /// The data that there is at a name in this directory below a metacopy file that doesn't say
@@ -149,22 +149,22 @@ impl<'a> DirView<'a> {
 
 // Of what kind it is that is shown at a name, by these places: by the first entry, unless that is a
 // whiteout.
-fn sight_in(stack: &Stack, places: &[DirPlace], name: &Name) -> Sight
+fn shown_kind_in(stack: &Stack, places: &[DirPlace], name: &Name) -> ShownKind
     requires { All (IsPlaceOver stack.now) places.now }
     ensures { result
-        ≡ sight_of
+        ≡ shown_kind_of
         (shown_of stack.now.data_only
         (found_below stack.now.layers name.now (places_in stack.now places.now))) }
 {
     for place in places {
         if let Some(entry) = place.entry(stack, name) {
             if is_whiteout(entry.inode) {
-                return Sight::Nothing;
+                return ShownKind::Nothing;
             }
-            return Sight::of(entry.inode);
+            return ShownKind::of(entry.inode);
         }
     }
-    Sight::Nothing
+    ShownKind::Nothing
 }
 
 // Adds a name with what is shown there, where something is.
@@ -258,13 +258,13 @@ fn data_in<'a>(
         if !is_well_formed_metacopy(entry.mark) {
             return Ok(None);
         }
-        match Onward::of(entry.mark, own) {
-            Onward::At(origin) => {
-                let trail = Trail::of(alloc, &origin.names())?;
-                return stack.data(alloc, place.layer + 1, trail, Some(origin));
+        match NextLookup::of(entry.mark, own) {
+            NextLookup::At(origin) => {
+                let rope = PathRope::of(alloc, &origin.names())?;
+                return stack.data(alloc, place.layer + 1, rope, Some(origin));
             }
-            Onward::Beside(other) => own = other,
-            Onward::Nowhere => return Ok(None),
+            NextLookup::Beside(other) => own = other,
+            NextLookup::Nowhere => return Ok(None),
         }
     }
     Ok(None)

@@ -7,7 +7,7 @@ ghost use Rattle.ovl_lookup.specs.Merged.{shows_directory};
 ghost use Rattle.ovl_lookup.specs.Views.{reached, entry_in, reached_below};
 ghost use Rattle.ovl_lookup.specs.DirViews.{IsViewOver, IsViewOf, IsPlaceOver, IsEntryIn, AddsPlaces, place_in, places_in};
 
-use crate::{Arrival, Onward, Stack, Trail};
+use crate::{Arrival, NextLookup, PathRope, Stack};
 use ovl_inode::{Inode, Mark, is_directory};
 use ovl_names::{Name, Path};
 use std::alloc::{AllocError, Global};
@@ -18,7 +18,7 @@ use std::alloc::{AllocError, Global};
 #[derive(Drop)]
 pub struct DirView<'a> {
     from: usize,
-    path: Trail<'a>,
+    path: PathRope<'a>,
     pub(crate) places: Vec<DirPlace>,
 }
 
@@ -72,16 +72,16 @@ impl<'a> DirView<'a> {
             (shows_directory (from_layer from stack.now) path.now ≡ false)
             (λ view. IsViewOf stack.now from path.now view)) }
     {
-        let trail = Trail::of(alloc, &path.names())?;
-        DirView::at(alloc, stack, from, trail)
+        let rope = PathRope::of(alloc, &path.names())?;
+        DirView::at(alloc, stack, from, rope)
     }
 
-    /// The same of the path of a trail.
+    /// The same of the path of a rope.
     pub fn at(
         alloc: Global,
         stack: &'a Stack,
         from: usize,
-        path: Trail<'a>,
+        path: PathRope<'a>,
     ) -> Result<Option<DirView<'a>>, AllocError>
         requires { from ≤ length stack.now.layers }
         ensures { IfOk result (λ found. MatchOption found
@@ -98,7 +98,7 @@ impl<'a> DirView<'a> {
     }
 
     /// The directory's path in the merged tree.
-    pub fn path(&self) -> &Trail<'a>
+    pub fn path(&self) -> &PathRope<'a>
         ensures { result.now ≡ self.now.path }
     {
         &self.path
@@ -139,7 +139,7 @@ fn push_reached<'a>(
     alloc: Global,
     stack: &'a Stack,
     from: usize,
-    path: Trail<'a>,
+    path: PathRope<'a>,
     places: &mut Vec<DirPlace>,
 ) -> Result<(), AllocError>
     requires { from ≤ length stack.now.layers }
@@ -147,16 +147,16 @@ fn push_reached<'a>(
         (AddsPlaces stack.now places.old.items places.new.items
         (reached (drop from stack.now.layers) from path.entry)) }
 {
-    let mut trail = path;
+    let mut rope = path;
     for layer in from..stack.ordinary() {
-        let Arrival { row, next, closed } = Arrival::at(alloc, stack.sheet(layer), trail)?;
+        let Arrival { row, next, closed } = Arrival::at(alloc, stack.sheet(layer), rope)?;
         if let Some(row) = row {
             places.push(DirPlace { layer, row })?;
         }
         if closed {
             return Ok(());
         }
-        trail = next;
+        rope = next;
     }
     Ok(())
 }
@@ -187,13 +187,13 @@ fn push_below(
             layer: place.layer,
             row: entry.row,
         })?;
-        match Onward::of(entry.mark, own) {
-            Onward::At(origin) => {
-                let trail = Trail::of(alloc, &origin.names())?;
-                return push_reached(alloc, stack, place.layer + 1, trail, below);
+        match NextLookup::of(entry.mark, own) {
+            NextLookup::At(origin) => {
+                let rope = PathRope::of(alloc, &origin.names())?;
+                return push_reached(alloc, stack, place.layer + 1, rope, below);
             }
-            Onward::Beside(other) => own = other,
-            Onward::Nowhere => return Ok(()),
+            NextLookup::Beside(other) => own = other,
+            NextLookup::Nowhere => return Ok(()),
         }
     }
     Ok(())

@@ -6,7 +6,7 @@ ghost use Rattle.ovl_names.specs.Paths.{child_path, depth_limit, path_text};
 ghost use Rattle.ovl_inode.specs.Sound.{is_sound_inode};
 ghost use Rattle.ovl_layer.specs.Layers.{IsLayer, entry_limit};
 ghost use Rattle.ovl_layer.specs.TextPaths.{slashed, AreEnds};
-ghost use Rattle.ovl_layer.specs.SheetDrafts.{drafted, last_path, CanEnter, IsSheetDraft};
+ghost use Rattle.ovl_layer.specs.SheetBuilders.{built_entries, last_path, CanEnter, IsSheetBuilder};
 ghost use Rattle.ovl_manifest.specs.Manifest.{read_layer as layer_stated};
 ghost use Rattle.ovl_manifest.specs.Text.{entry_items, layer_value};
 
@@ -15,7 +15,7 @@ use crate::compact_texts::Rest;
 use crate::text_paths::{go_on, place_beside};
 use crate::versions::WRITTEN;
 use ovl_inode::{Inode, is_directory};
-use ovl_layer::{ENTRY_LIMIT, Sheet, SheetDraft, has_escaped_name};
+use ovl_layer::{ENTRY_LIMIT, Sheet, SheetBuilder, has_escaped_name};
 use ovl_names::{DEPTH_LIMIT, Name, TEXT_LIMIT};
 use std::alloc::Global;
 use std::borrow::CowStr;
@@ -61,7 +61,7 @@ fn read_entries(alloc: Global, rest: &mut Rest<'_>) -> Option<Sheet>
 {
     let room = (rest.len() / ENTRY_TEXT).min(ENTRY_LIMIT);
     let (text, root) = read_entry(alloc, rest)?;
-    let mut draft = start(alloc, text.as_str(), root, room)?;
+    let mut builder = start(alloc, text.as_str(), root, room)?;
     let mut last = CowStr::Borrowed("");
     let mut ends = Vec::new(alloc);
     let Ok(()) = ends.push(0) else {
@@ -78,7 +78,7 @@ fn read_entries(alloc: Global, rest: &mut Rest<'_>) -> Option<Sheet>
         };
         add_beside(
             alloc,
-            &mut draft,
+            &mut builder,
             last.as_str(),
             &mut ends,
             path.as_str(),
@@ -88,56 +88,56 @@ fn read_entries(alloc: Global, rest: &mut Rest<'_>) -> Option<Sheet>
         number += 1;
     }
     rest.take("]")?;
-    match draft.finish(alloc) {
+    match builder.finish(alloc) {
         Ok(sheet) => Some(sheet),
         Err(_) => None,
     }
 }
 
-// The draft of the entry of a sound inode, whose path a text spells, if it can be a layer's first;
+// The builder of the entry of a sound inode, whose path a text spells, if it can be a layer's first;
 // it has room for this many.
-fn start(alloc: Global, text: &str, inode: Inode, room: usize) -> Option<SheetDraft>
+fn start(alloc: Global, text: &str, inode: Inode, room: usize) -> Option<SheetBuilder>
     requires { is_sound_inode inode ≡ true }
     ensures root { IfSome result (λ _. text.now ≡ path_text []) }
-    ensures draft { IfSome result (λ draft. IsSheetDraft draft) }
-    ensures entries { IfSome result (λ draft. drafted draft ≡ ([], inode) ∷ []) }
-    ensures last { IfSome result (λ draft. last_path draft ≡ []) }
+    ensures builder { IfSome result (λ builder. IsSheetBuilder builder) }
+    ensures entries { IfSome result (λ builder. built_entries builder ≡ ([], inode) ∷ []) }
+    ensures last { IfSome result (λ builder. last_path builder ≡ []) }
 {
     if text != "/" || has_escaped_name(&inode.attrs) || !is_directory(&inode) {
         return None;
     }
-    match SheetDraft::start(alloc, inode, room) {
-        Ok(draft) => Some(draft),
+    match SheetBuilder::start(alloc, inode, room) {
+        Ok(builder) => Some(builder),
         Err(_) => None,
     }
 }
 
-// Puts the entry of a sound inode, whose path a text spells, into the draft, whose last path has
+// Puts the entry of a sound inode, whose path a text spells, into the builder, whose last path has
 // the text `last`; where in that the paths on the way there end is beside it, and the text of
 // the root is empty here. Gives none of a path or an inode that no layer has there, and when out of
 // memory.
 fn add_beside(
     alloc: Global,
-    draft: &mut SheetDraft,
+    builder: &mut SheetBuilder,
     last: &str,
     ends: &mut Vec<usize>,
     text: &str,
     inode: Inode,
 ) -> Option<()>
-    requires draft { IsSheetDraft draft.old }
-    requires room { length (drafted draft.old) < entry_limit }
-    requires last { slashed (last_path draft.old) ≡ last.now }
-    requires ends { AreEnds (last_path draft.old) ends.old.items }
+    requires builder { IsSheetBuilder builder.old }
+    requires room { length (built_entries builder.old) < entry_limit }
+    requires last { slashed (last_path builder.old) ≡ last.now }
+    requires ends { AreEnds (last_path builder.old) ends.old.items }
     requires sound { is_sound_inode inode ≡ true }
-    ensures draft { IfSome result (λ _. IsSheetDraft draft.new) }
-    ensures last { IfSome result (λ _. slashed (last_path draft.new) ≡ text.now) }
-    ensures ends { IfSome result (λ _. AreEnds (last_path draft.new) ends.new.items) }
-    ensures path { IfSome result (λ _. path_text (last_path draft.new) ≡ text.now) }
+    ensures builder { IfSome result (λ _. IsSheetBuilder builder.new) }
+    ensures last { IfSome result (λ _. slashed (last_path builder.new) ≡ text.now) }
+    ensures ends { IfSome result (λ _. AreEnds (last_path builder.new) ends.new.items) }
+    ensures path { IfSome result (λ _. path_text (last_path builder.new) ≡ text.now) }
     ensures entries { IfSome result
-        (λ _. drafted draft.new ≡ drafted draft.old ++ (last_path draft.new, inode) ∷ []) }
+        (λ _. built_entries builder.new ≡ built_entries builder.old ++ (last_path builder.new, inode) ∷ []) }
 {
-    let (depth, name) = next_place(alloc, draft, last, ends, text, &inode)?;
-    let Ok(()) = draft.enter(alloc, depth, name, inode) else {
+    let (depth, name) = next_place(alloc, builder, last, ends, text, &inode)?;
+    let Ok(()) = builder.enter(alloc, depth, name, inode) else {
         return None;
     };
     match go_on(ends, depth, text.len()) {
@@ -150,21 +150,21 @@ fn add_beside(
 // directory, and its own name.
 fn next_place(
     alloc: Global,
-    draft: &SheetDraft,
+    builder: &SheetBuilder,
     last: &str,
     ends: &[usize],
     text: &str,
     inode: &Inode,
 ) -> Option<(usize, Name)>
-    requires draft { IsSheetDraft draft.now }
-    requires room { length (drafted draft.now) < entry_limit }
-    requires last { slashed (last_path draft.now) ≡ last.now }
-    requires ends { AreEnds (last_path draft.now) ends.now }
+    requires builder { IsSheetBuilder builder.now }
+    requires room { length (built_entries builder.now) < entry_limit }
+    requires last { slashed (last_path builder.now) ≡ last.now }
+    requires ends { AreEnds (last_path builder.now) ends.now }
     requires sound { is_sound_inode inode.now ≡ true }
-    ensures entry { IfSome result (λ place. CanEnter draft.now place.0 place.1 inode.now) }
+    ensures entry { IfSome result (λ place. CanEnter builder.now place.0 place.1 inode.now) }
     ensures depth { IfSome result (λ place. place.0 < depth_limit) }
     ensures text { IfSome result (λ place.
-        text.now ≡ slashed (child_path (take place.0 (last_path draft.now)) place.1)) }
+        text.now ≡ slashed (child_path (take place.0 (last_path builder.now)) place.1)) }
 {
     let (depth, name) = place_beside(last, ends, text)?;
     if depth >= DEPTH_LIMIT || text.len() > TEXT_LIMIT || has_escaped_name(&inode.attrs) {
@@ -173,7 +173,7 @@ fn next_place(
     let Ok(name) = Name::of(alloc, name) else {
         return None;
     };
-    if draft.comes_before_child(depth, &name) && draft.is_directory_above(depth) {
+    if builder.comes_before_child(depth, &name) && builder.is_directory_above(depth) {
         Some((depth, name))
     } else {
         None

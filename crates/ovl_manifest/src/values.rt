@@ -10,7 +10,7 @@ ghost use Rattle.ovl_manifest.specs.Versions.{version_of};
 
 use crate::fields::{has_exactly, read_entry};
 use crate::versions::Version;
-use ovl_layer::{ENTRY_LIMIT, Layer, LayerFault, start_draft};
+use ovl_layer::{ENTRY_LIMIT, Layer, LayerFault, start_builder};
 use serde_json::{Number, Value};
 use std::alloc::Global;
 
@@ -82,12 +82,12 @@ fn read_entries(alloc: Global, version: Version, values: &[Value]) -> Result<Lay
     let Some((root, others)) = values.split_first() else {
         return Err(LayerFault::Count);
     };
-    let mut draft = start_draft(alloc, read_entry(alloc, version, root)?)?;
+    let mut builder = start_builder(alloc, read_entry(alloc, version, root)?)?;
     let mut number = 0;
     for value in others {
         number += 1;
         let entry = read_entry(alloc, version, value)?;
-        draft = draft.with_entry(alloc, number, entry)?;
+        builder = builder.with_entry(alloc, number, entry)?;
     }
-    Ok(draft.finish()?)
+    Ok(builder.finish()?)
 }

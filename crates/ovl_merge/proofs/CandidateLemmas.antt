@@ -28,19 +28,19 @@ use Rattle.ovl_merge.specs.declared.directories.Directory.{Directory}
 use Rattle.ovl_merge.specs.Places.{Merge, two_layers, lower_path, first_hit, shows_own_directory, shows_at, natural, base}
 use Rattle.ovl_merge.specs.MergeDown.{merged_entry, merged_entry_of, new_whiteout}
 use Rattle.ovl_merge.specs.Directories.{named_inode, base_names, entries_in}
-use Rattle.ovl_merge.specs.Stands.{StandsAt, IsRowAt, onward_on, step_onward}
-use Rattle.ovl_merge.specs.Reckoned.{IsBelow, onward_at, upper_onward}
+use Rattle.ovl_merge.specs.Stands.{StandsAt, IsRowAt, next_lookup_on, step_next_lookup}
+use Rattle.ovl_merge.specs.Reckoned.{IsBelow, next_lookup_at, upper_next_lookup}
 use Rattle.ovl_merge.specs.Candidates.{Rowed, AreCandidates, AreRowsOf, IsCandidate, candidate_told, candidates_told, hidden_names, joined, row_at, row_on, unrowed}
 use Rattle.ovl_merge.proofs.Firsts.{first_hit-steps, first_step}
 use Rattle.ovl_merge.proofs.NameLists.{put-none, put-unentered}
 use Rattle.ovl_merge.proofs.RowLists.{names-unrowed, or-nothing, rows-both, rows-unrowed}
-use Rattle.ovl_merge.proofs.StandLemmas.{own-onward, unnamed}
+use Rattle.ovl_merge.proofs.StandLemmas.{own-next_lookup, unnamed}
 use Rattle.ovl_merge.proofs.VisitLemmas.{own-names}
 
 -- ---- in one layer
 
 module _ (layer : Entries) (is : IsLayer layer) (path : PathNames) (name : PathName) (place : PathNames) where
-  opened : (closed : Bool) (next : PathNames) → Some place ≡ onward_on next closed → closed ≡ false
+  opened : (closed : Bool) (next : PathNames) → Some place ≡ next_lookup_on next closed → closed ≡ false
   opened true next e = let bad : Some place ≡ None = e in cc
   opened false next e = refl
 
@@ -50,11 +50,11 @@ module _ (layer : Entries) (is : IsLayer layer) (path : PathNames) (name : PathN
   passed-by row stands none = passed (step row stands)
     where
       Goes : Type 0
-      Goes = (next : PathNames) × (closed : Bool) × (Some place ≡ onward_on next closed) × (walk layer (child_path path name) ≡ nothing_found (child_path next name) closed)
+      Goes = (next : PathNames) × (closed : Bool) × (Some place ≡ next_lookup_on next closed) × (walk layer (child_path path name) ≡ nothing_found (child_path next name) closed)
 
       step : (row : Option ℕ) → StandsAt layer path row (Some place) → Goes
-      step (Some row) stands = ((walk layer path).next, (walk layer path).closed, own-onward layer path row (Some place) stands, walk-child_end layer path name is None stands.arrival.directory none refl [])
-      step None stands = (stands.onward, stands.closed, stands.told, stands.arrival.below name [])
+      step (Some row) stands = ((walk layer path).next, (walk layer path).closed, own-next_lookup layer path row (Some place) stands, walk-child_end layer path name is None stands.arrival.directory none refl [])
+      step None stands = (stands.next_lookup, stands.closed, stands.told, stands.arrival.below name [])
 
       passed : Goes → ((walk layer (child_path path name)).found ≡ None) × ((walk layer (child_path path name)).closed ≡ false)
       passed (next, closed, told, walked) = (ap (λ (s : Step). s.found) walked, ap (λ (s : Step). s.closed) walked ∙ opened closed next told)
@@ -74,12 +74,12 @@ or_true false = refl
 
 module _ (m : Merge) (upper : IsLayer m.upper) (lower : IsLayer m.lower) (dir : PathNames) where
   -- each entry has a name that one of the layers has there
-  module _ (above : Option ℕ) (place : PathNames) (here : StandsAt m.upper dir above (Some place)) (goes : Some place ≡ step_onward (walk m.upper dir))
+  module _ (above : Option ℕ) (place : PathNames) (here : StandsAt m.upper dir above (Some place)) (goes : Some place ≡ step_next_lookup (walk m.upper dir))
       (below : Option ℕ) (rest : PathNames) (there : StandsAt m.lower place below (Some rest)) where
     opened-there : ((walk m.upper dir).closed ≡ false) × (place ≡ lower_path m dir)
     opened-there = by (walk m.upper dir).closed goes
       where
-        by : (closed : Bool) → Some place ≡ onward_on (lower_path m dir) closed → (closed ≡ false) × (place ≡ lower_path m dir)
+        by : (closed : Bool) → Some place ≡ next_lookup_on (lower_path m dir) closed → (closed ≡ false) × (place ≡ lower_path m dir)
         by true e = let bad : Some place ≡ None = e in cc
         by false e = let same : place ≡ lower_path m dir = cc in (refl, same)
 
@@ -128,15 +128,15 @@ module _ (m : Merge) (upper : IsLayer m.upper) (lower : IsLayer m.lower) (dir : 
             by (Some inode) f some = own-entry name inode f
 
   -- the same, by what is kept of the directory
-  pub open-entries : (row : Option ℕ) (next : Option PathNames) → StandsAt m.upper dir row next → next ≡ step_onward (walk m.upper dir) → (below : Option Stand) → IsBelow m.lower next below → is_some (onward_at below) ≡ true
+  pub open-entries : (row : Option ℕ) (next : Option PathNames) → StandsAt m.upper dir row next → next ≡ step_next_lookup (walk m.upper dir) → (below : Option Stand) → IsBelow m.lower next below → is_some (next_lookup_at below) ≡ true
       → filter_map (named_inode m dir) (put_names [] (own_names_along (two_layers m).layers dir)) ≡ entries_in m dir
-  open-entries row next here goes None there onwards = let bad : false ≡ true = onwards in cc
-  open-entries row None here goes (Some below) there onwards = absurd there
-  open-entries row (Some place) here goes (Some below) there onwards = by below.next there onwards
+  open-entries row next here goes None there next_lookups = let bad : false ≡ true = next_lookups in cc
+  open-entries row None here goes (Some below) there next_lookups = absurd there
+  open-entries row (Some place) here goes (Some below) there next_lookups = by below.next there next_lookups
     where
       by : (rest : Option PathNames) → StandsAt m.lower place below.row rest → is_some rest ≡ true → filter_map (named_inode m dir) (put_names [] (own_names_along (two_layers m).layers dir)) ≡ entries_in m dir
-      by None there onwards = let bad : false ≡ true = onwards in cc
-      by (Some rest) there onwards = own-entries row place here goes below.row rest there
+      by None there next_lookups = let bad : false ≡ true = next_lookups in cc
+      by (Some rest) there next_lookups = own-entries row place here goes below.row rest there
 
 -- ---- the rows of one layer
 
@@ -146,17 +146,17 @@ rows-ascend side layer is path told rows = ap (ascends name_cmp) rows.below ∙ 
 -- ---- the names that are hidden
 
 module _ (m : Merge) (directory : Directory) where
-  pub hidden-entries : IsLayer m.upper → IsLayer m.lower → StandsAt m.upper directory.path directory.upper (upper_onward m directory.path) → IsBelow m.lower (upper_onward m directory.path) directory.lower
+  pub hidden-entries : IsLayer m.upper → IsLayer m.lower → StandsAt m.upper directory.path directory.upper (upper_next_lookup m directory.path) → IsBelow m.lower (upper_next_lookup m directory.path) directory.lower
       → filter_map (named_inode m directory.path) (put_names (put_names [] (own_names_along (two_layers m).layers directory.path)) (hidden_names m directory)) ≡ entries_in m directory.path
-  hidden-entries upper lower here below = by (is_some (onward_at directory.lower)) refl
+  hidden-entries upper lower here below = by (is_some (next_lookup_at directory.lower)) refl
     where
-      by : (b : Bool) → is_some (onward_at directory.lower) ≡ b
+      by : (b : Bool) → is_some (next_lookup_at directory.lower) ≡ b
           → filter_map (named_inode m directory.path) (put_names (put_names [] (own_names_along (two_layers m).layers directory.path)) (cond b [] (base_names m.rest (base m directory.path)))) ≡ entries_in m directory.path
-      by true e = open-entries m upper lower directory.path directory.upper (upper_onward m directory.path) here refl directory.lower below e
+      by true e = open-entries m upper lower directory.path directory.upper (upper_next_lookup m directory.path) here refl directory.lower below e
       by false e = refl
 
   pub hidden-ascend : ascends name_cmp (hidden_names m directory) ≡ true
-  hidden-ascend = by (is_some (onward_at directory.lower))
+  hidden-ascend = by (is_some (next_lookup_at directory.lower))
     where
       based : (place : Option PathNames) → ascends name_cmp (base_names m.rest place) ≡ true
       based None = refl
@@ -169,7 +169,7 @@ module _ (m : Merge) (directory : Directory) where
   -- ---- names with their rows
 
   -- only those of the upper layer
-  pub upper-candidates : IsLayer m.upper → upper_onward m directory.path ≡ None → (names : Rowed) → AreRowsOf Upper m.upper directory.path names
+  pub upper-candidates : IsLayer m.upper → upper_next_lookup m directory.path ≡ None → (names : Rowed) → AreRowsOf Upper m.upper directory.path names
       → AreCandidates m directory (put_names [] (own_names_along (two_layers m).layers directory.path)) names
   upper-candidates upper none names are = record {
     all = are.below ∙ (sym (put-none (names_below m.upper directory.path) (kid-names-ascend m.upper directory.path upper.in_order)) ∙ own-names m directory.path None (sym none));
@@ -180,7 +180,7 @@ module _ (m : Merge) (directory : Directory) where
   }
 
   -- and of the lower one
-  pub both-candidates : IsLayer m.upper → IsLayer m.lower → (place : PathNames) → upper_onward m directory.path ≡ Some place → (one other : Rowed) → AreRowsOf Upper m.upper directory.path one → AreRowsOf Lower m.lower place other
+  pub both-candidates : IsLayer m.upper → IsLayer m.lower → (place : PathNames) → upper_next_lookup m directory.path ≡ Some place → (one other : Rowed) → AreRowsOf Upper m.upper directory.path one → AreRowsOf Lower m.lower place other
       → AreCandidates m directory (put_names [] (own_names_along (two_layers m).layers directory.path)) (both_joined joined one other)
   both-candidates upper lower place on one other above beneath = record {
     all =
@@ -205,7 +205,7 @@ module _ (m : Merge) (directory : Directory) where
     all = names_of-both joined own (unrowed hidden) ∙ (λ j. put_names (is.all j) (names-unrowed hidden j));
     rows = λ name. record {
       upper = subst (IsRowAt m.upper (child_path directory.path name)) (sym (kept Upper name)) (is.rows name).upper;
-      lower = subst (λ (row : Option ℕ). IfSome (upper_onward m directory.path) (λ below. IsRowAt m.lower (child_path below name) row)) (sym (kept Lower name)) (is.rows name).lower;
+      lower = subst (λ (row : Option ℕ). IfSome (upper_next_lookup m directory.path) (λ below. IsRowAt m.lower (child_path below name) row)) (sym (kept Lower name)) (is.rows name).lower;
     };
   }
     where
@@ -225,7 +225,7 @@ module _ (m : Merge) (directory : Directory) where
           let rows = is.rows candidate.name.now in
           let one : IsCandidate m directory candidate = record {
             upper = subst (IsRowAt m.upper (child_path directory.path candidate.name.now)) above rows.upper;
-            lower = subst (λ (row : Option ℕ). IfSome (upper_onward m directory.path) (λ below. IsRowAt m.lower (child_path below candidate.name.now) row)) beneath rows.lower;
+            lower = subst (λ (row : Option ℕ). IfSome (upper_next_lookup m directory.path) (λ below. IsRowAt m.lower (child_path below candidate.name.now) row)) beneath rows.lower;
           } in
           (one, by left all.1)
 

@@ -21,7 +21,7 @@ use Rattle.ovl_lookup.specs.declared.steps.Step.{Step}
 use Rattle.ovl_lookup.specs.Walk.{walk, nothing_found}
 use Rattle.ovl_lookup.specs.Trace.{things_found}
 use Rattle.ovl_lookup.specs.Merged.{look, shows, shows_directory, last_place, full_file_in}
-use Rattle.ovl_lookup.specs.Onwards.{next_on, closed_on}
+use Rattle.ovl_lookup.specs.NextLookups.{next_on, closed_on}
 use Rattle.ovl_lookup.specs.WalkLaws.{PassesOver}
 use Rattle.ovl_lookup.proofs.LawsOfPaths.{length-child, parent_path-child, lookup-all, all-first, all-rest, by_child}
 use Rattle.ovl_lookup.proofs.LawsOfFound.{things_found-step, child_found, any_found, starts_directory}

@@ -15,15 +15,15 @@ use Rattle.ovl_lookup.specs.Words.{look_on}
 use Rattle.ovl_lookup.proofs.LawsOfPaths.{length-child}
 use Rattle.ovl_merge.specs.declared.bases.Base.{Base}
 use Rattle.ovl_merge.specs.declared.directories.Directory.{Directory}
-use Rattle.ovl_merge.specs.declared.passages.Passage.{Passage}
+use Rattle.ovl_merge.specs.declared.names_in_both.NameInBoth.{NameInBoth}
 use Rattle.ovl_merge.specs.declared.bases.Base.TheVariants.{Reached, Apart}
 use Rattle.ovl_merge.specs.Places.{Merge, merge_of, first_hit, passes, shows_own_directory, reach, base, child_of, gets_opaque, shows_directory_at}
 use Rattle.ovl_merge.specs.MergeDown.{with_value, redirected_from, merged_directory, merged_metacopy}
-use Rattle.ovl_merge.specs.Reckoned.{IsBase, name_directly_in, onward_at, reached_in}
-use Rattle.ovl_merge.specs.Passages.{IsPassage, first_in}
+use Rattle.ovl_merge.specs.Reckoned.{IsBase, name_directly_in, next_lookup_at, reached_in}
+use Rattle.ovl_merge.specs.NamesInBoth.{IsNameInBoth, first_in}
 use Rattle.ovl_merge.proofs.Core.{last_name-child, natural-child}
 use Rattle.ovl_merge.proofs.BaseLemmas.{directory-on as shown-on}
-use Rattle.ovl_merge.proofs.PassageLemmas.{passage-first}
+use Rattle.ovl_merge.proofs.NameInBothLemmas.{name_in_both-first}
 use Rattle.ovl_merge.proofs.VisitLemmas.{directory-told, metacopy-told}
 
 -- ---- what is shown of one without attributes
@@ -59,12 +59,12 @@ opaque-told m dir name inode hit d none =
     let shown : shows_own_directory m (child_path dir name) ≡ true = ap (passes is_directory) hit ∙ d in
     (λ j. not (length-child dir name j) && shown j && is_none (none j) && shows_directory_at m.rest (natural-child m dir name j))
 
--- ... by the passage of its name, and what is hidden there
-pub hides-told : (m : Merge) (above : Directory) (name : PathName) (inode : Inode) (passage : Passage) → IsPassage m (child_path above.path name) (onward_at above.lower) passage → Some inode ≡ first_in passage → is_directory inode ≡ true
+-- ... by the name in both of its name, and what is hidden there
+pub hides-told : (m : Merge) (above : Directory) (name : PathName) (inode : Inode) (name_in_both : NameInBoth) → IsNameInBoth m (child_path above.path name) (next_lookup_at above.lower) name_in_both → Some inode ≡ first_in name_in_both → is_directory inode ≡ true
     → reach m (child_path above.path name) ≡ None → (hidden : Look) → hidden ≡ look_on m.rest (child_of (base m above.path) name) → (b : Bool) → b ≡ is_shown_directory hidden → gets_opaque m (child_path above.path name) ≡ b
-hides-told m above name inode passage is first d none hidden looked b shown =
+hides-told m above name inode name_in_both is first d none hidden looked b shown =
     let path : PathNames = child_path above.path name in
-    let hit : first_hit m path ≡ Some inode = sym (first ∙ passage-first m path (onward_at above.lower) passage is) in
+    let hit : first_hit m path ≡ Some inode = sym (first ∙ name_in_both-first m path (next_lookup_at above.lower) name_in_both is) in
     opaque-told m above.path name inode hit d none
     ∙ (sym (shown-on m.rest (child_of (base m above.path) name)) ∙ (ap is_shown_directory (sym looked) ∙ sym shown))
 

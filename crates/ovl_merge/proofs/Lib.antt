@@ -17,7 +17,7 @@ pub mod StandLemmas
 pub mod RowLemmas
 pub mod ShownLemmas
 pub mod BaseLemmas
-pub mod PassageLemmas
+pub mod NameInBothLemmas
 pub mod EntryLemmas
 pub mod CandidateLemmas
 pub mod FinishLemmas

@@ -13,11 +13,11 @@ use Rattle.ovl_lookup.proofs.LawsOfWalks.{walk-whole, directory_found}
 use Rattle.ovl_merge.specs.declared.stands.Stand.{Stand}
 use Rattle.ovl_merge.specs.declared.directories.Directory.{Directory}
 use Rattle.ovl_merge.specs.Places.{Merge, merge_of, lower_path, rest_path, first_hit, passes, shows_own_directory, is_open, is_nothing_or, is_shown_regular, reach, reach_of, natural, base, gets_opaque, shows_directory_at}
-use Rattle.ovl_merge.specs.Stands.{IsStand, StandsAt, onward_on, step_onward}
-use Rattle.ovl_merge.specs.Reckoned.{IsBelow, IsVisited, is_inside_at, onward_at, reach_from, upper_onward}
+use Rattle.ovl_merge.specs.Stands.{IsStand, StandsAt, next_lookup_on, step_next_lookup}
+use Rattle.ovl_merge.specs.Reckoned.{IsBelow, IsVisited, is_inside_at, next_lookup_at, reach_from, upper_next_lookup}
 use Rattle.ovl_merge.proofs.Firsts.{first_step, first_hit-steps}
 use Rattle.ovl_merge.proofs.Core.{root-shown, base-none}
-use Rattle.ovl_merge.proofs.StandLemmas.{inside-found, own-onward, past-found, past-onward, past_onward, stand-found}
+use Rattle.ovl_merge.proofs.StandLemmas.{inside-found, own-next_lookup, past-found, past-next_lookup, past_next_lookup, stand-found}
 
 -- ---- in one layer
 
@@ -26,15 +26,15 @@ nothing-or None e = refl
 nothing-or (Some inode) e = e
 
 -- where a walk goes on past a path, nothing is found there and it is open
-shut-past : (found : Option Inode) (next : PathNames) (closed : Bool) → None ≡ past_onward found next closed → true ≡ (is_some found || closed)
+shut-past : (found : Option Inode) (next : PathNames) (closed : Bool) → None ≡ past_next_lookup found next closed → true ≡ (is_some found || closed)
 shut-past (Some inode) next closed e = refl
 shut-past None next true e = refl
 shut-past None next false e = let bad : None ≡ Some next = e in cc
 
-open-past : (found : Option Inode) (next : PathNames) (closed : Bool) (onward : PathNames) → Some onward ≡ past_onward found next closed → (found ≡ None) × (closed ≡ false) × (onward ≡ next)
-open-past (Some inode) next closed onward e = let bad : Some onward ≡ None = e in cc
-open-past None next true onward e = let bad : Some onward ≡ None = e in cc
-open-past None next false onward e = let same : onward ≡ next = cc in (refl, refl, same)
+open-past : (found : Option Inode) (next : PathNames) (closed : Bool) (next_lookup : PathNames) → Some next_lookup ≡ past_next_lookup found next closed → (found ≡ None) × (closed ≡ false) × (next_lookup ≡ next)
+open-past (Some inode) next closed next_lookup e = let bad : Some next_lookup ≡ None = e in cc
+open-past None next true next_lookup e = let bad : Some next_lookup ≡ None = e in cc
+open-past None next false next_lookup e = let same : next_lookup ≡ next = cc in (refl, refl, same)
 
 -- ---- whether the two layers show a directory
 
@@ -62,24 +62,24 @@ module _ (m : Merge) (path : PathNames) where
       ap (passes is_directory) (first_hit-steps m path) ∙ first-directory (walk m.upper path).found (walk m.upper path).closed below_first (inside-found m.upper path here.arrival.directory)
   shown-by None None here None there =
       ap (passes is_directory) (first_hit-steps m path)
-      ∙ first-shut (walk m.upper path).found (walk m.upper path).closed below_first (past-found m.upper path None here) (shut-past (walk m.upper path).found (walk m.upper path).next (walk m.upper path).closed (past-onward m.upper path None here))
+      ∙ first-shut (walk m.upper path).found (walk m.upper path).closed below_first (past-found m.upper path None here) (shut-past (walk m.upper path).found (walk m.upper path).next (walk m.upper path).closed (past-next_lookup m.upper path None here))
   shown-by None None here (Some below) there = absurd there
   shown-by None (Some next) here None there = let bad : Some next ≡ None = there in cc
   shown-by None (Some next) here (Some below) there =
-      let o = open-past (walk m.upper path).found (walk m.upper path).next (walk m.upper path).closed next (past-onward m.upper path (Some next) here) in
+      let o = open-past (walk m.upper path).found (walk m.upper path).next (walk m.upper path).closed next (past-next_lookup m.upper path (Some next) here) in
       ap (passes is_directory) (first_hit-steps m path ∙ (λ j. first_step (o.0 j) (o.1 j) below_first))
       ∙ (first-last (walk m.lower (lower_path m path)).found (walk m.lower (lower_path m path)).closed
       ∙ stand-found m.lower (lower_path m path) below.row below.next (subst (λ (p : PathNames). IsStand m.lower p below) o.2 there))
 
   -- where the lower layer knows a shown directory
   pub lower-by : (row : Option ℕ) (next : Option PathNames) → StandsAt m.upper path row next → (lower : Option Stand) → IsBelow m.lower next lower → (is_some row || is_inside_at lower) ≡ true
-      → next ≡ step_onward (walk m.upper path)
-  lower-by (Some row) next here lower there shown = own-onward m.upper path row next here
+      → next ≡ step_next_lookup (walk m.upper path)
+  lower-by (Some row) next here lower there shown = own-next_lookup m.upper path row next here
   lower-by None None here None there shown = let bad : false ≡ true = shown in cc
   lower-by None None here (Some below) there shown = absurd there
   lower-by None (Some next) here lower there shown =
-      let o = open-past (walk m.upper path).found (walk m.upper path).next (walk m.upper path).closed next (past-onward m.upper path (Some next) here) in
-      λ j. onward_on (o.2 j) (sym o.1 j)
+      let o = open-past (walk m.upper path).found (walk m.upper path).next (walk m.upper path).closed next (past-next_lookup m.upper path (Some next) here) in
+      λ j. next_lookup_on (o.2 j) (sym o.1 j)
 
 -- ---- where it goes on in the rest
 
@@ -103,38 +103,38 @@ module _ (m : Merge) (path : PathNames) where
       low : Step
       low = walk m.lower (lower_path m path)
 
-      inside : (closed : Bool) (found : Option Inode) → is_nothing_or is_directory found ≡ true → cond (not closed && (is_nothing_or is_directory found && shows_directory m.rest low.next)) (Some low.next) None ≡ reach_from m.rest (onward_on low.next closed)
+      inside : (closed : Bool) (found : Option Inode) → is_nothing_or is_directory found ≡ true → cond (not closed && (is_nothing_or is_directory found && shows_directory m.rest low.next)) (Some low.next) None ≡ reach_from m.rest (next_lookup_on low.next closed)
       inside true found e = refl
       inside false found e = ap (λ (b : Bool). cond (b && shows_directory m.rest low.next) (Some low.next) None) e
 
-      past : (closed : Bool) (found : Option Inode) → passes is_directory found ≡ false → cond (not closed && (is_nothing_or is_directory found && shows_directory m.rest low.next)) (Some low.next) None ≡ reach_from m.rest (past_onward found low.next closed)
+      past : (closed : Bool) (found : Option Inode) → passes is_directory found ≡ false → cond (not closed && (is_nothing_or is_directory found && shows_directory m.rest low.next)) (Some low.next) None ≡ reach_from m.rest (past_next_lookup found low.next closed)
       past true None e = refl
       past false None e = refl
       past true (Some inode) e = refl
       past false (Some inode) e = ap (λ (b : Bool). cond (b && shows_directory m.rest low.next) (Some low.next) None) e
 
       by : (row : Option ℕ) → StandsAt m.lower (lower_path m path) row next → cond (not low.closed && (is_nothing_or is_directory low.found && shows_directory m.rest low.next)) (Some low.next) None ≡ reach_from m.rest next
-      by (Some r) is = inside low.closed low.found (nothing-or low.found (inside-found m.lower (lower_path m path) is.arrival.directory)) ∙ ap (reach_from m.rest) (sym (own-onward m.lower (lower_path m path) r next is))
-      by None is = past low.closed low.found (past-found m.lower (lower_path m path) next is) ∙ ap (reach_from m.rest) (sym (past-onward m.lower (lower_path m path) next is))
+      by (Some r) is = inside low.closed low.found (nothing-or low.found (inside-found m.lower (lower_path m path) is.arrival.directory)) ∙ ap (reach_from m.rest) (sym (own-next_lookup m.lower (lower_path m path) r next is))
+      by None is = past low.closed low.found (past-found m.lower (lower_path m path) next is) ∙ ap (reach_from m.rest) (sym (past-next_lookup m.lower (lower_path m path) next is))
 
   shut-goes : (upper lower : Step) → upper.closed ≡ true → goes upper lower ≡ None
   shut-goes upper lower shut = ap (λ (b : Bool). cond ((not b && not lower.closed) && (is_nothing_or is_directory lower.found && shows_directory m.rest lower.next)) (Some lower.next) None) shut
 
-  reach-by : shows_own_directory m path ≡ true → (lower : Option Stand) → IsBelow m.lower (step_onward (walk m.upper path)) lower
-      → reach m path ≡ reach_from m.rest (onward_at lower)
+  reach-by : shows_own_directory m path ≡ true → (lower : Option Stand) → IsBelow m.lower (step_next_lookup (walk m.upper path)) lower
+      → reach m path ≡ reach_from m.rest (next_lookup_at lower)
   reach-by shown lower there = directory-reach shown ∙ by (walk m.upper path).closed refl lower there
     where
-      by : (closed : Bool) → (walk m.upper path).closed ≡ closed → (lower : Option Stand) → IsBelow m.lower (step_onward (walk m.upper path)) lower
-          → goes (walk m.upper path) (walk m.lower (lower_path m path)) ≡ reach_from m.rest (onward_at lower)
+      by : (closed : Bool) → (walk m.upper path).closed ≡ closed → (lower : Option Stand) → IsBelow m.lower (step_next_lookup (walk m.upper path)) lower
+          → goes (walk m.upper path) (walk m.lower (lower_path m path)) ≡ reach_from m.rest (next_lookup_at lower)
       by true shut None there = shut-goes (walk m.upper path) (walk m.lower (lower_path m path)) shut
-      by true shut (Some below) there = absurd (subst (λ (b : Bool). IsBelow m.lower (onward_on (lower_path m path) b) (Some below)) shut there)
-      by false opened None there = let bad : Some (lower_path m path) ≡ None = sym (ap (onward_on (lower_path m path)) opened) ∙ there in cc
+      by true shut (Some below) there = absurd (subst (λ (b : Bool). IsBelow m.lower (next_lookup_on (lower_path m path) b) (Some below)) shut there)
+      by false opened None there = let bad : Some (lower_path m path) ≡ None = sym (ap (next_lookup_on (lower_path m path)) opened) ∙ there in cc
       by false opened (Some below) there =
-          stand-goes (walk m.upper path) opened below.row below.next (subst (λ (b : Bool). IsBelow m.lower (onward_on (lower_path m path) b) (Some below)) opened there)
+          stand-goes (walk m.upper path) opened below.row below.next (subst (λ (b : Bool). IsBelow m.lower (next_lookup_on (lower_path m path) b) (Some below)) opened there)
 
   -- the same where the walk in the lower layer stands where that of the upper one goes on
   pub reach-below : (row : Option ℕ) (next : Option PathNames) → StandsAt m.upper path row next → (lower : Option Stand) → IsBelow m.lower next lower → shows_own_directory m path ≡ true
-      → reach m path ≡ reach_from m.rest (onward_at lower)
+      → reach m path ≡ reach_from m.rest (next_lookup_at lower)
   reach-below row next here lower there shown =
       let inside : (is_some row || is_inside_at lower) ≡ true = sym (shown-by m path row next here lower there) ∙ shown in
       reach-by shown lower (subst (λ (o : Option PathNames). IsBelow m.lower o lower) (lower-by m path row next here lower there inside) there)
@@ -173,5 +173,5 @@ base-unreached m upper lower (name ∷ names) shown none =
 
 -- ---- by what is kept of a directory
 
-pub visited-reach : (stack : StackView) (dir : PathNames) (directory : Directory) → IsVisited stack dir directory → reach (merge_of stack) dir ≡ reach_from (merge_of stack).rest (onward_at directory.lower)
-visited-reach stack dir directory is = reach-below (merge_of stack) dir directory.upper (upper_onward (merge_of stack) dir) is.upper directory.lower is.lower is.shown
+pub visited-reach : (stack : StackView) (dir : PathNames) (directory : Directory) → IsVisited stack dir directory → reach (merge_of stack) dir ≡ reach_from (merge_of stack).rest (next_lookup_at directory.lower)
+visited-reach stack dir directory is = reach-below (merge_of stack) dir directory.upper (upper_next_lookup (merge_of stack) dir) is.upper directory.lower is.lower is.shown

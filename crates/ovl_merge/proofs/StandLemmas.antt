@@ -14,17 +14,17 @@ use Rattle.ovl_layer.specs.Sheets.{path_at}
 use Rattle.ovl_layer.proofs.NodeLemmas.{entry_at-under}
 use Rattle.ovl_lookup.specs.declared.steps.Found.{Found}
 use Rattle.ovl_lookup.specs.declared.steps.Step.{Step}
-use Rattle.ovl_lookup.specs.declared.onward.Onward.{Onward}
-use Rattle.ovl_lookup.specs.declared.onward.Onward.TheVariants.{Beside, At, Nowhere}
-use Rattle.ovl_lookup.specs.Onwards.{IsOnward, path_on, name_on as marked_name, path_told, name_told}
+use Rattle.ovl_lookup.specs.declared.next_lookup.NextLookup.{NextLookup}
+use Rattle.ovl_lookup.specs.declared.next_lookup.NextLookup.TheVariants.{Beside, At, Nowhere}
+use Rattle.ovl_lookup.specs.NextLookups.{IsNextLookup, path_on, name_on as marked_name, path_told, name_told}
 use Rattle.ovl_lookup.specs.Stacks.{StackView}
 use Rattle.ovl_lookup.specs.Walk.{walk, nothing_found}
 use Rattle.ovl_lookup.specs.Passes.{IsArrivalAt}
 use Rattle.ovl_lookup.proofs.LawsOfWalks.{directory_found, entry-of_row, hides-alike, names_below-has, nothing-below, walk-child, walk-child_end, walk-finds, walk-whole}
 use Rattle.ovl_merge.specs.declared.stands.Stand.{Stand}
-use Rattle.ovl_merge.specs.declared.stands.Passing.{Passing}
+use Rattle.ovl_merge.specs.declared.stands.NameWalk.{NameWalk}
 use Rattle.ovl_merge.specs.Places.{merge_of, passes}
-use Rattle.ovl_merge.specs.Stands.{StandsAt, IsStand, IsOver, IsRowAt, IsThing, IsPassing, onward_on, step_onward, name_on, onward_to}
+use Rattle.ovl_merge.specs.Stands.{StandsAt, IsStand, IsOver, IsRowAt, IsThing, IsNameWalk, next_lookup_on, step_next_lookup, name_on, next_lookup_to}
 use Rattle.ovl_merge.specs.Reckoned.{IsBelow}
 use Rattle.ovl_merge.proofs.VisitLemmas.{lower-layer}
 
@@ -42,12 +42,12 @@ pub over-row : (layer : Entries) (path : PathNames) (row : Option ℕ) (next : O
 over-row layer path None next is = tt
 over-row layer path (Some row) next is = is.arrival.inside
 
-pub below-over : (layer : Entries) (onward : Option PathNames) (stand : Stand) → IsBelow layer onward (Some stand) → IsOver layer stand
+pub below-over : (layer : Entries) (next_lookup : Option PathNames) (stand : Stand) → IsBelow layer next_lookup (Some stand) → IsOver layer stand
 below-over layer None stand below = absurd below
 below-over layer (Some path) stand below = over-row layer path stand.row stand.next below
 
 -- where that of the lower layer stands, if it goes on there
-pub below-place : (layer : Entries) (onward : Option PathNames) (stand : Stand) → IsBelow layer onward (Some stand) → (place : PathNames) × (onward ≡ Some place) × IsStand layer place stand
+pub below-place : (layer : Entries) (next_lookup : Option PathNames) (stand : Stand) → IsBelow layer next_lookup (Some stand) → (place : PathNames) × (next_lookup ≡ Some place) × IsStand layer place stand
 below-place layer None stand below = absurd below
 below-place layer (Some place) stand below = (place, refl, below)
 
@@ -71,44 +71,44 @@ stand-found layer path (Some row) next is = inside-found layer path is.arrival.d
 stand-found layer path None next is = past-found layer path next is
 
 -- where its walk goes on, and past what is no directory: a thing hides all under it
-pub own-onward : (layer : Entries) (path : PathNames) (row : ℕ) (next : Option PathNames) → StandsAt layer path (Some row) next → next ≡ step_onward (walk layer path)
-own-onward layer path row next is = is.told ∙ (λ j. onward_on (is.arrival.next j) (is.arrival.closed j))
+pub own-next_lookup : (layer : Entries) (path : PathNames) (row : ℕ) (next : Option PathNames) → StandsAt layer path (Some row) next → next ≡ step_next_lookup (walk layer path)
+own-next_lookup layer path row next is = is.told ∙ (λ j. next_lookup_on (is.arrival.next j) (is.arrival.closed j))
 
-abbrev pub past_onward : Option Inode → PathNames → Bool → Option PathNames
-past_onward found next closed = cond (is_some found) None (onward_on next closed)
+abbrev pub past_next_lookup : Option Inode → PathNames → Bool → Option PathNames
+past_next_lookup found next closed = cond (is_some found) None (next_lookup_on next closed)
 
-pub past-onward : (layer : Entries) (path : PathNames) (next : Option PathNames) → StandsAt layer path None next → next ≡ past_onward (walk layer path).found (walk layer path).next (walk layer path).closed
-past-onward layer path next is = is.told ∙ by (walk layer path).found (walk layer path).closed is.closed (is.arrival.ended ∙ hides-alike layer path is.layered) is.arrival.next
+pub past-next_lookup : (layer : Entries) (path : PathNames) (next : Option PathNames) → StandsAt layer path None next → next ≡ past_next_lookup (walk layer path).found (walk layer path).next (walk layer path).closed
+past-next_lookup layer path next is = is.told ∙ by (walk layer path).found (walk layer path).closed is.closed (is.arrival.ended ∙ hides-alike layer path is.layered) is.arrival.next
   where
-    by : (found : Option Inode) (closed hidden : Bool) → hidden ≡ (is_some found || closed) → (hidden ≡ false → is.onward ≡ (walk layer path).next) → onward_on is.onward hidden ≡ past_onward found (walk layer path).next closed
-    by None true hidden e goes = ap (onward_on is.onward) e
-    by None false hidden e goes = λ j. onward_on (goes e j) (e j)
-    by (Some inode) closed hidden e goes = ap (onward_on is.onward) e
+    by : (found : Option Inode) (closed hidden : Bool) → hidden ≡ (is_some found || closed) → (hidden ≡ false → is.next_lookup ≡ (walk layer path).next) → next_lookup_on is.next_lookup hidden ≡ past_next_lookup found (walk layer path).next closed
+    by None true hidden e goes = ap (next_lookup_on is.next_lookup) e
+    by None false hidden e goes = λ j. next_lookup_on (goes e j) (e j)
+    by (Some inode) closed hidden e goes = ap (next_lookup_on is.next_lookup) e
 
 -- where a walk goes on at a thing of this mark and name
-abbrev onward_among : Option PathNames → Option PathName → Option PathNames → Option PathNames
-onward_among (Some path) own next = Some path
-onward_among None (Some own) next = name_on next own
-onward_among None None next = None
+abbrev next_lookup_among : Option PathNames → Option PathName → Option PathNames → Option PathNames
+next_lookup_among (Some path) own next = Some path
+next_lookup_among None (Some own) next = name_on next own
+next_lookup_among None None next = None
 
-abbrev onward_by : Mark → Option PathNames → PathName → Option PathNames
-onward_by mark next name = onward_among (path_on mark) (marked_name mark name) next
+abbrev next_lookup_by : Mark → Option PathNames → PathName → Option PathNames
+next_lookup_by mark next name = next_lookup_among (path_on mark) (marked_name mark name) next
 
-onward-told : (mark : Mark) (name : PathName) (onward : Onward) → IsOnward mark name onward → (next : Option PathNames) → onward_to next onward ≡ onward_by mark next name
-onward-told mark name onward is next = by onward ∙ (λ j. onward_among (is.at j) (is.by j) next)
+next_lookup-told : (mark : Mark) (name : PathName) (next_lookup : NextLookup) → IsNextLookup mark name next_lookup → (next : Option PathNames) → next_lookup_to next next_lookup ≡ next_lookup_by mark next name
+next_lookup-told mark name next_lookup is next = by next_lookup ∙ (λ j. next_lookup_among (is.at j) (is.by j) next)
   where
-    by : (o : Onward) → onward_to next o ≡ onward_among (path_told o) (name_told o) next
+    by : (o : NextLookup) → next_lookup_to next o ≡ next_lookup_among (path_told o) (name_told o) next
     by (Beside own) = refl
     by (At path) = refl
     by Nowhere = refl
 
 -- by the path and the flag there
-onward-on : (path : Option PathNames) (own : Option PathName) (next : PathNames) (name : PathName) (closed : Bool)
-    → onward_among path own (onward_on next closed) ≡ onward_on (unwrap_or path (child_path next (unwrap_or own name))) (cond (is_some path) false (cond (is_none own) true closed))
-onward-on (Some path) own next name closed = refl
-onward-on None (Some own) next name true = refl
-onward-on None (Some own) next name false = refl
-onward-on None None next name closed = refl
+next_lookup-on : (path : Option PathNames) (own : Option PathName) (next : PathNames) (name : PathName) (closed : Bool)
+    → next_lookup_among path own (next_lookup_on next closed) ≡ next_lookup_on (unwrap_or path (child_path next (unwrap_or own name))) (cond (is_some path) false (cond (is_none own) true closed))
+next_lookup-on (Some path) own next name closed = refl
+next_lookup-on None (Some own) next name true = refl
+next_lookup-on None (Some own) next name false = refl
+next_lookup-on None None next name closed = refl
 
 -- ---- the end of a name's walk
 
@@ -119,43 +119,43 @@ no-row layer path name next is row inside there =
     let bad : None ≡ Some entry.0 = sym (nothing-below layer path name [] is.layered is.arrival.none) ∙ (ap (entry_at layer) (sym there) ∙ entry.1) in cc
 
 -- at a name that the layer doesn't have
-module _ (layer : Entries) (path : PathNames) (name : PathName) (next : Option PathNames) (passing : Passing) (found : passing.found ≡ None) (onward : (n : Option PathNames) → onward_to n passing.onward ≡ name_on n name) where
-  name-onward : (n : PathNames) (closed : Bool) → name_on (onward_on n closed) name ≡ onward_on (child_path n name) closed
-  name-onward n true = refl
-  name-onward n false = refl
+module _ (layer : Entries) (path : PathNames) (name : PathName) (next : Option PathNames) (name_walk : NameWalk) (found : name_walk.found ≡ None) (next_lookup : (n : Option PathNames) → next_lookup_to n name_walk.next_lookup ≡ name_on n name) where
+  name-next_lookup : (n : PathNames) (closed : Bool) → name_on (next_lookup_on n closed) name ≡ next_lookup_on (child_path n name) closed
+  name-next_lookup n true = refl
+  name-next_lookup n false = refl
 
-  passed : (n : PathNames) (closed : Bool) → next ≡ onward_on n closed → walk layer (child_path path name) ≡ nothing_found (child_path n name) closed → IsPassing layer (child_path path name) next passing
+  passed : (n : PathNames) (closed : Bool) → next ≡ next_lookup_on n closed → walk layer (child_path path name) ≡ nothing_found (child_path n name) closed → IsNameWalk layer (child_path path name) next name_walk
   passed n closed told step = record {
     found = ap (option_map (λ (f : Found). f.inode.now)) found ∙ sym (ap (λ (s : Step). s.found) step);
     marked = subst (λ (o : Option Found). IfSome o (λ f. f.mark.now ≡ mark_of f.inode.now)) (sym found) tt;
-    onward = onward next ∙ (ap (λ (o : Option PathNames). name_on o name) told ∙ (name-onward n closed ∙ sym (ap step_onward step)));
+    next_lookup = next_lookup next ∙ (ap (λ (o : Option PathNames). name_on o name) told ∙ (name-next_lookup n closed ∙ sym (ap step_next_lookup step)));
   }
 
-  pub pass-none : (directory : Option ℕ) → StandsAt layer path directory next → entry_at layer (child_path path name) ≡ None → IsPassing layer (child_path path name) next passing
-  pass-none None is nothing = passed is.onward is.closed is.told (is.arrival.below name [])
+  pub pass-none : (directory : Option ℕ) → StandsAt layer path directory next → entry_at layer (child_path path name) ≡ None → IsNameWalk layer (child_path path name) next name_walk
+  pass-none None is nothing = passed is.next_lookup is.closed is.told (is.arrival.below name [])
   pass-none (Some directory) is nothing =
-      passed (walk layer path).next (walk layer path).closed (own-onward layer path directory next is) (walk-child_end layer path name is.layered None is.arrival.directory nothing refl [])
+      passed (walk layer path).next (walk layer path).closed (own-next_lookup layer path directory next is) (walk-child_end layer path name is.layered None is.arrival.directory nothing refl [])
 
 -- at a thing in its row
 pass-thing : (layer : Entries) (path : PathNames) (name : PathName) (directory : ℕ) (next : Option PathNames) → StandsAt layer path (Some directory) next
-    → (row : ℕ) → row < length layer → path_at layer row ≡ child_path path name → (passing : Passing) → IsThing layer row name passing → IsPassing layer (child_path path name) next passing
-pass-thing layer path name directory next is row inside place passing thing =
+    → (row : ℕ) → row < length layer → path_at layer row ≡ child_path path name → (name_walk : NameWalk) → IsThing layer row name name_walk → IsNameWalk layer (child_path path name) next name_walk
+pass-thing layer path name directory next is row inside place name_walk thing =
     let inode : Inode = thing.inode in
     let step = walk-child layer path name is.layered inode (ap (entry_at layer) (sym place) ∙ thing.here) in
     record {
       found = thing.found ∙ ap (λ (s : Step). s.found) (sym step);
       marked = thing.marked;
-      onward =
-          onward-told (mark_of inode) name passing.onward thing.onward next
-          ∙ (ap (λ (o : Option PathNames). onward_by (mark_of inode) o name) (own-onward layer path directory next is)
-          ∙ (onward-on (path_on (mark_of inode)) (marked_name (mark_of inode) name) (walk layer path).next name (walk layer path).closed
-          ∙ ap step_onward (sym step)));
+      next_lookup =
+          next_lookup-told (mark_of inode) name name_walk.next_lookup thing.next_lookup next
+          ∙ (ap (λ (o : Option PathNames). next_lookup_by (mark_of inode) o name) (own-next_lookup layer path directory next is)
+          ∙ (next_lookup-on (path_on (mark_of inode)) (marked_name (mark_of inode) name) (walk layer path).next name (walk layer path).closed
+          ∙ ap step_next_lookup (sym step)));
     }
 
 pub pass-row : (layer : Entries) (path : PathNames) (name : PathName) (directory : Option ℕ) (next : Option PathNames) → StandsAt layer path directory next
-    → (row : ℕ) → row < length layer → path_at layer row ≡ child_path path name → (passing : Passing) → IsThing layer row name passing → IsPassing layer (child_path path name) next passing
-pass-row layer path name None next is row inside there passing thing = absurd (no-row layer path name next is row inside there)
-pass-row layer path name (Some directory) next is row inside there passing thing = pass-thing layer path name directory next is row inside there passing thing
+    → (row : ℕ) → row < length layer → path_at layer row ≡ child_path path name → (name_walk : NameWalk) → IsThing layer row name name_walk → IsNameWalk layer (child_path path name) next name_walk
+pass-row layer path name None next is row inside there name_walk thing = absurd (no-row layer path name next is row inside there)
+pass-row layer path name (Some directory) next is row inside there name_walk thing = pass-thing layer path name directory next is row inside there name_walk thing
 
 -- ---- the rows in a directory
 
@@ -186,5 +186,5 @@ sought-row layer path directory next is name None nothing =
 sought-row layer path directory next is name (Some child) there = (there.0, there.1 ∙ ap (λ (p : PathNames). child_path p name) is.arrival.here)
 
 -- where a walk arrives, it stands
-pub arrival-stands : (layer : Entries) → IsLayer layer → (path : PathNames) (row : Option ℕ) (next : PathNames) (closed : Bool) → IsArrivalAt layer path row next closed → StandsAt layer path row (onward_on next closed)
-arrival-stands layer is path row next closed at = record { layered = is; onward = next; closed = closed; arrival = at; told = refl }
+pub arrival-stands : (layer : Entries) → IsLayer layer → (path : PathNames) (row : Option ℕ) (next : PathNames) (closed : Bool) → IsArrivalAt layer path row next closed → StandsAt layer path row (next_lookup_on next closed)
+arrival-stands layer is path row next closed at = record { layered = is; next_lookup = next; closed = closed; arrival = at; told = refl }

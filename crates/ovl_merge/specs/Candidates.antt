@@ -15,12 +15,12 @@ use Rattle.ovl_merge.specs.declared.directories.Directory.{Directory}
 use Rattle.ovl_merge.specs.Places.{Merge, base}
 use Rattle.ovl_merge.specs.Directories.{base_names, entries_in, named_inode}
 use Rattle.ovl_merge.specs.Stands.{IsRowAt}
-use Rattle.ovl_merge.specs.Reckoned.{onward_at, upper_onward}
+use Rattle.ovl_merge.specs.Reckoned.{next_lookup_at, upper_next_lookup}
 
 -- the names in a directory's base, where the two layers may hide what is shown there
 abbrev pub hidden_names : Merge → Directory → List PathName
 hidden_names m directory =
-    if is_some (onward_at directory.lower) then [] else base_names m.rest (base m directory.path)
+    if is_some (next_lookup_at directory.lower) then [] else base_names m.rest (base m directory.path)
 
 -- ---- names with their rows
 
@@ -78,7 +78,7 @@ pub record AreRowsOf (side : Side) (layer : Entries) (path : PathNames)
 pub record AreRowsBy (m : Merge) (directory : Directory) (name : PathName)
     (rows : Rows) : Type 0 where
   pub upper : IsRowAt m.upper (child_path directory.path name) rows.0
-  pub lower : IfSome (upper_onward m directory.path)
+  pub lower : IfSome (upper_next_lookup m directory.path)
       (λ below. IsRowAt m.lower (child_path below name) rows.1)
 
 abbrev pub IsCandidate : Merge → Directory → Candidate → Type 0

@@ -5,5 +5,5 @@ pub mod Directories
 pub mod Limits
 pub mod Stands
 pub mod Reckoned
-pub mod Passages
+pub mod NamesInBoth
 pub mod Candidates

@@ -77,13 +77,13 @@ is_shown_regular Nothing = false
 is_shown_regular (Shown inode) = is_regular inode
 is_shown_regular (Broken inode) = is_regular inode
 
--- a thing goes on at a place of the rest, where the lower layer has `passed` on the way: each is of
+-- a thing goes on at a place of the rest, where the lower layer has `lower_walk` on the way: each is of
 -- its own sort, a directory for a directory, a regular file for a metacopy file; overlayfs.rst,
 -- "Directories" and "Metadata only copy up"
 abbrev pub goes_on_at : Merge → Inode → Option Inode → PathNames → Bool
-goes_on_at m inode passed place =
-    if is_directory inode then is_nothing_or is_directory passed && shows_directory m.rest place
-    else is_metacopy inode && is_nothing_or is_metacopy passed
+goes_on_at m inode lower_walk place =
+    if is_directory inode then is_nothing_or is_directory lower_walk && shows_directory m.rest place
+    else is_metacopy inode && is_nothing_or is_metacopy lower_walk
     && is_shown_regular (look m.rest place)
 
 -- an open path goes on through the lower layer

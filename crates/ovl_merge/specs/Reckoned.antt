@@ -13,7 +13,7 @@ use Rattle.ovl_merge.specs.declared.bases.Base.TheVariants.{Reached, Apart}
 use Rattle.ovl_merge.specs.declared.directories.Directory.{Directory}
 use Rattle.ovl_merge.specs.declared.directories.Stands.{Stands}
 use Rattle.ovl_merge.specs.Places.{Merge, merge_of, shows_own_directory, shows_directory_at, reach, base, last_name}
-use Rattle.ovl_merge.specs.Stands.{IsStand, StandsAt, step_onward}
+use Rattle.ovl_merge.specs.Stands.{IsStand, StandsAt, step_next_lookup}
 
 -- the name by which a path lies directly in a directory, if there is one
 abbrev pub name_directly_in : Option PathNames → PathNames → Option PathName
@@ -29,22 +29,22 @@ reach_from rest (Some place) = if shows_directory rest place then Some place els
 -- ---- in the lower layer, by the upper one
 
 -- where the walk of a path goes on from the upper one
-abbrev pub upper_onward : Merge → PathNames → Option PathNames
-upper_onward m path = step_onward (walk m.upper path)
+abbrev pub upper_next_lookup : Merge → PathNames → Option PathNames
+upper_next_lookup m path = step_next_lookup (walk m.upper path)
 
 -- where the walk stands, where that of the upper layer goes on
 abbrev pub IsBelow : Entries → Option PathNames → Option Stand → Type 0
-IsBelow layer onward below =
-    MatchOption below (onward ≡ None) (λ stand. IsSomeAnd onward (λ path. IsStand layer path stand))
+IsBelow layer next_lookup below =
+    MatchOption below (next_lookup ≡ None) (λ stand. IsSomeAnd next_lookup (λ path. IsStand layer path stand))
 
 abbrev pub is_inside_at : Option Stand → Bool
 is_inside_at None = false
 is_inside_at (Some stand) = is_some stand.row
 
 -- the path by which the rest knows the directory, where both walks go on
-abbrev pub onward_at : Option Stand → Option PathNames
-onward_at None = None
-onward_at (Some stand) = stand.next
+abbrev pub next_lookup_at : Option Stand → Option PathNames
+next_lookup_at None = None
+next_lookup_at (Some stand) = stand.next
 
 -- ---- in the rest
 
@@ -74,6 +74,6 @@ pub record IsVisited (stack : StackView) (dir : PathNames) (directory : Director
   pub path : directory.path ≡ dir
   pub shown : shows_own_directory (merge_of stack) dir ≡ true
   pub upper : StandsAt (merge_of stack).upper dir directory.upper
-      (upper_onward (merge_of stack) dir)
-  pub lower : IsBelow (merge_of stack).lower (upper_onward (merge_of stack) dir) directory.lower
+      (upper_next_lookup (merge_of stack) dir)
+  pub lower : IsBelow (merge_of stack).lower (upper_next_lookup (merge_of stack) dir) directory.lower
   pub base : IsBase stack dir directory.base

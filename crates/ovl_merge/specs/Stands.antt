@@ -8,33 +8,33 @@ use Rattle.ovl_inode.specs.declared.inodes.Inode.{Inode}
 use Rattle.ovl_inode.specs.Marks.{mark_of, is_whiteout}
 use Rattle.ovl_layer.specs.Layers.{Entries, IsLayer, entry_at}
 use Rattle.ovl_layer.specs.Sheets.{path_at}
-use Rattle.ovl_lookup.specs.declared.onward.Onward.{Onward}
-use Rattle.ovl_lookup.specs.declared.onward.Onward.TheVariants.{Beside, At, Nowhere}
+use Rattle.ovl_lookup.specs.declared.next_lookup.NextLookup.{NextLookup}
+use Rattle.ovl_lookup.specs.declared.next_lookup.NextLookup.TheVariants.{Beside, At, Nowhere}
 use Rattle.ovl_lookup.specs.declared.steps.Step.{Step}
-use Rattle.ovl_lookup.specs.Onwards.{IsOnward}
+use Rattle.ovl_lookup.specs.NextLookups.{IsNextLookup}
 use Rattle.ovl_lookup.specs.Passes.{IsArrivalAt}
 use Rattle.ovl_lookup.specs.Walk.{walk}
 use Rattle.ovl_merge.specs.declared.stands.Stand.{Stand}
-use Rattle.ovl_merge.specs.declared.stands.Passing.{Passing}
+use Rattle.ovl_merge.specs.declared.stands.NameWalk.{NameWalk}
 
 -- ---- where a walk goes on
 
 -- at this path, unless it is closed
-abbrev pub onward_on : PathNames → Bool → Option PathNames
-onward_on next closed = if closed then None else Some next
+abbrev pub next_lookup_on : PathNames → Bool → Option PathNames
+next_lookup_on next closed = if closed then None else Some next
 
-abbrev pub step_onward : Step → Option PathNames
-step_onward step = onward_on step.next step.closed
+abbrev pub step_next_lookup : Step → Option PathNames
+step_next_lookup step = next_lookup_on step.next step.closed
 
 -- a name in a directory that is known by a path, if it is
 abbrev pub name_on : Option PathNames → PathName → Option PathNames
 name_on next name = option_map (λ path. child_path path name) next
 
 -- by where the layer below knows the directory above
-abbrev pub onward_to : Option PathNames → Onward → Option PathNames
-onward_to next (Beside name) = name_on next name.now
-onward_to next (At path) = Some path.now
-onward_to next Nowhere = None
+abbrev pub next_lookup_to : Option PathNames → NextLookup → Option PathNames
+next_lookup_to next (Beside name) = name_on next name.now
+next_lookup_to next (At path) = Some path.now
+next_lookup_to next Nowhere = None
 
 -- ---- where the walk of a directory's path stands
 
@@ -43,10 +43,10 @@ onward_to next Nowhere = None
 pub record StandsAt (layer : Entries) (path : PathNames) (row : Option ℕ)
     (next : Option PathNames) : Type 0 where
   pub layered : IsLayer layer
-  pub onward : PathNames
+  pub next_lookup : PathNames
   pub closed : Bool
-  pub arrival : IsArrivalAt layer path row onward closed
-  pub told : next ≡ onward_on onward closed
+  pub arrival : IsArrivalAt layer path row next_lookup closed
+  pub told : next ≡ next_lookup_on next_lookup closed
 
 abbrev pub IsStand : Entries → PathNames → Stand → Type 0
 IsStand layer path stand = StandsAt layer path stand.row stand.next
@@ -64,17 +64,17 @@ IsRowAt layer path row =
     (λ number. (number < length layer) × (path_at layer number ≡ path))
 
 -- what a layer has in a row, and where a walk goes on there by this name
-pub record IsThing (layer : Entries) (row : ℕ) (name : PathName) (passing : Passing) : Type 0 where
+pub record IsThing (layer : Entries) (row : ℕ) (name : PathName) (name_walk : NameWalk) : Type 0 where
   pub inode : Inode
   pub here : entry_at layer (path_at layer row) ≡ Some inode
-  pub found : option_map (λ found. found.inode.now) passing.found
+  pub found : option_map (λ found. found.inode.now) name_walk.found
       ≡ (if is_whiteout inode then None else Some inode)
-  pub marked : IfSome passing.found (λ found. found.mark.now ≡ mark_of found.inode.now)
-  pub onward : IsOnward (mark_of inode) name passing.onward
+  pub marked : IfSome name_walk.found (λ found. found.mark.now ≡ mark_of found.inode.now)
+  pub next_lookup : IsNextLookup (mark_of inode) name name_walk.next_lookup
 
 -- the walk of a path, by where the layer below knows the directory above
-pub record IsPassing (layer : Entries) (path : PathNames) (next : Option PathNames)
-    (passing : Passing) : Type 0 where
-  pub found : option_map (λ found. found.inode.now) passing.found ≡ (walk layer path).found
-  pub marked : IfSome passing.found (λ found. found.mark.now ≡ mark_of found.inode.now)
-  pub onward : onward_to next passing.onward ≡ step_onward (walk layer path)
+pub record IsNameWalk (layer : Entries) (path : PathNames) (next : Option PathNames)
+    (name_walk : NameWalk) : Type 0 where
+  pub found : option_map (λ found. found.inode.now) name_walk.found ≡ (walk layer path).found
+  pub marked : IfSome name_walk.found (λ found. found.mark.now ≡ mark_of found.inode.now)
+  pub next_lookup : next_lookup_to next name_walk.next_lookup ≡ step_next_lookup (walk layer path)

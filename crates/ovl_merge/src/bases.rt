@@ -1,15 +1,15 @@
 //! Where the names of a directory lie below the two layers.
 ghost use Rattle.std.specs.Prelude.{◌≡◌, ◌<◌, true, length, IfOk};
 ghost use Rattle.ovl_names.specs.Paths.{PathNames};
-ghost use Rattle.ovl_lookup.specs.Sights.{sight_of};
+ghost use Rattle.ovl_lookup.specs.ShownKinds.{shown_kind_of};
 ghost use Rattle.ovl_lookup.specs.Words.{look_on};
 ghost use Rattle.ovl_merge.specs.Places.{merge_of, shows_own_directory, reach, child_of, base, shows_at};
 ghost use Rattle.ovl_merge.specs.Directories.{base_names};
-ghost use Rattle.ovl_merge.specs.Reckoned.{IsBase, onward_at, reach_from};
+ghost use Rattle.ovl_merge.specs.Reckoned.{IsBase, next_lookup_at, reach_from};
 
-use crate::directories::{Directory, onward_of};
+use crate::directories::{Directory, next_lookup_of};
 use crate::stands::Stand;
-use ovl_lookup::{DirView, Sight, Stack};
+use ovl_lookup::{DirView, ShownKind, Stack};
 use ovl_names::Name;
 use std::alloc::{AllocError, Global};
 
@@ -33,12 +33,12 @@ impl<'a> Base<'a> {
         ensures { IfOk result (λ own. (dir : PathNames)
             → shows_own_directory (merge_of stack.now) dir ≡ true
             → reach (merge_of stack.now) dir
-            ≡ reach_from (merge_of stack.now).rest (onward_at lower.now)
+            ≡ reach_from (merge_of stack.now).rest (next_lookup_at lower.now)
             → IsBase stack.now dir own) }
     {
         // Each layer of a stack is one.
         let _layers = stack.ordinary();
-        let Some(next) = onward_of(lower) else {
+        let Some(next) = next_lookup_of(lower) else {
             return Ok(Base::Apart);
         };
         match DirView::at(alloc, stack, 2, next.copy(alloc)?)? {
@@ -50,19 +50,19 @@ impl<'a> Base<'a> {
 
 impl<'a> Directory<'a> {
     /// Of what kind it is that the rest shows at a name in it.
-    pub(crate) fn sight(&self, stack: &Stack, name: &Name) -> Sight
+    pub(crate) fn shown_kind(&self, stack: &Stack, name: &Name) -> ShownKind
         requires several { 1 < length stack.now.layers }
         requires base { IsBase stack.now self.now.path self.now.base }
         ensures { result
-            ≡ sight_of
+            ≡ shown_kind_of
             (look_on (merge_of stack.now).rest
             (child_of (base (merge_of stack.now) self.now.path) name.now)) }
     {
         // Each layer of a stack is one.
         let _layers = stack.ordinary();
         match &self.base {
-            Base::Reached(view) => view.sight(stack, name),
-            Base::Apart => Sight::Nothing,
+            Base::Reached(view) => view.shown_kind(stack, name),
+            Base::Apart => ShownKind::Nothing,
         }
     }
 

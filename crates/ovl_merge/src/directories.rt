@@ -2,11 +2,11 @@
 ghost use Rattle.std.specs.Prelude.{◌≡◌, ◌<◌, ◌||◌, false, length, is_some, IfOk, MatchOption};
 ghost use Rattle.std.specs.Option.{option_map};
 ghost use Rattle.ovl_merge.specs.Places.{merge_of, shows_own_directory};
-ghost use Rattle.ovl_merge.specs.Reckoned.{AreStands, IsVisited, is_inside_at, onward_at};
+ghost use Rattle.ovl_merge.specs.Reckoned.{AreStands, IsVisited, is_inside_at, next_lookup_at};
 
 use crate::bases::Base;
 use crate::stands::Stand;
-use ovl_lookup::{Arrival, Stack, Trail};
+use ovl_lookup::{Arrival, PathRope, Stack};
 use ovl_names::Path;
 use std::alloc::{AllocError, Global};
 
@@ -58,9 +58,9 @@ impl<'a> Directory<'a> {
 
     /// Whether the walks of a name that neither layer has in it go on in the rest.
     pub(crate) fn is_open(&self) -> bool
-        ensures { result ≡ is_some (onward_at self.now.lower) }
+        ensures { result ≡ is_some (next_lookup_at self.now.lower) }
     {
-        onward_of(&self.lower).is_some()
+        next_lookup_of(&self.lower).is_some()
     }
 }
 
@@ -72,8 +72,8 @@ impl<'a> Stands<'a> {
     {
         // Each layer of a stack is one.
         let _layers = stack.ordinary();
-        let trail = Trail::of(alloc, &path.names())?;
-        let Arrival { row, next, closed } = Arrival::at(alloc, stack.sheet(0), trail)?;
+        let rope = PathRope::of(alloc, &path.names())?;
+        let Arrival { row, next, closed } = Arrival::at(alloc, stack.sheet(0), rope)?;
         if closed {
             return Ok(Stands {
                 upper: row,
@@ -90,11 +90,11 @@ impl<'a> Stands<'a> {
 
 /// The path by which the rest knows a directory whose walk in the lower layer stands so, unless it
 /// is hidden there.
-pub(crate) fn onward_of<'l, 'a>(lower: &'l Option<Stand<'a>>) -> Option<&'l Trail<'a>>
-    ensures { option_map (λ path. path.now) result ≡ onward_at lower.now }
+pub(crate) fn next_lookup_of<'l, 'a>(lower: &'l Option<Stand<'a>>) -> Option<&'l PathRope<'a>>
+    ensures { option_map (λ path. path.now) result ≡ next_lookup_at lower.now }
 {
     match lower {
-        Some(lower) => lower.onward(),
+        Some(lower) => lower.next_lookup(),
         None => None,
     }
 }

@@ -10,16 +10,16 @@ ghost use Rattle.ovl_merge.specs.Places.{merge_of};
 ghost use Rattle.ovl_merge.specs.Places as places;
 ghost use Rattle.ovl_merge.specs.MergeDown.{redirected_from, merged_entry};
 ghost use Rattle.ovl_merge.specs.MergeDown as merge_down;
-ghost use Rattle.ovl_merge.specs.Reckoned.{IsVisited, name_directly_in, onward_at, reached_in};
+ghost use Rattle.ovl_merge.specs.Reckoned.{IsVisited, name_directly_in, next_lookup_at, reached_in};
 ghost use Rattle.ovl_merge.specs.Candidates.{IsCandidate};
-ghost use Rattle.ovl_merge.specs.Passages.{IsFirstFound, IsPassage, first_in, place_from};
+ghost use Rattle.ovl_merge.specs.NamesInBoth.{IsFirstFound, IsNameInBoth, first_in, place_from};
 
 use crate::bases::Base;
 use crate::candidates::Candidate;
 use crate::directories::Directory;
-use crate::passages::{Passage, Place};
+use crate::names_in_both::{NameInBoth, Place};
 use ovl_inode::{Attrs, Inode, Kind, is_directory, overlay, visible};
-use ovl_lookup::{DirView, Found, Look, Stack, Trail, is_well_formed_metacopy};
+use ovl_lookup::{DirView, Found, Look, PathRope, Stack, is_well_formed_metacopy};
 use ovl_names::{Name, Path};
 use std::alloc::{AllocError, Global};
 
@@ -40,16 +40,16 @@ pub(crate) fn inode_in<'d>(
         ≡ merged_entry (merge_of stack.now) (child_path above.now.path candidate.now.name.now)) }
     ensures whole { IfSome whole.new (IsViewOf stack.now 0 above.now.path) }
 {
-    let passage = Passage::of(alloc, stack, above, candidate)?;
-    let Some(found) = passage.first() else {
-        return Ok(unfound(alloc, stack, above, &passage));
+    let name_in_both = NameInBoth::of(alloc, stack, above, candidate)?;
+    let Some(found) = name_in_both.first() else {
+        return Ok(unfound(alloc, stack, above, &name_in_both));
     };
     if is_directory(found.inode) {
-        let directory = merged_directory(alloc, stack, above, &passage, found)?;
+        let directory = merged_directory(alloc, stack, above, &name_in_both, found)?;
         return Ok(Some(directory));
     }
     if is_well_formed_metacopy(found.mark) {
-        let metacopy = merged_metacopy(alloc, stack, whole, above, &passage, found)?;
+        let metacopy = merged_metacopy(alloc, stack, whole, above, &name_in_both, found)?;
         return Ok(Some(metacopy));
     }
     let shown = shown_inode(alloc, found.inode)?;
@@ -61,20 +61,20 @@ fn unfound(
     alloc: Global,
     stack: &Stack,
     above: &Directory<'_>,
-    passage: &Passage<'_>,
+    name_in_both: &NameInBoth<'_>,
 ) -> Option<Inode>
     requires several { 1 < length stack.now.layers }
     requires above { IsVisited stack.now above.now.path above.now }
-    requires passage { IsPassage (merge_of stack.now)
-        (child_path above.now.path passage.now.name.now) (onward_at above.now.lower) passage.now }
-    requires none { first_in passage.now ≡ None }
+    requires name_in_both { IsNameInBoth (merge_of stack.now)
+        (child_path above.now.path name_in_both.now.name.now) (next_lookup_at above.now.lower) name_in_both.now }
+    requires none { first_in name_in_both.now ≡ None }
     ensures { result
-        ≡ merged_entry (merge_of stack.now) (child_path above.now.path passage.now.name.now) }
+        ≡ merged_entry (merge_of stack.now) (child_path above.now.path name_in_both.now.name.now) }
 {
-    if passage.lower.rest.is_some() {
+    if name_in_both.lower.rest.is_some() {
         return None;
     }
-    if !above.shows(stack, passage.name) {
+    if !above.shows(stack, name_in_both.name) {
         return None;
     }
     Some(new_whiteout(alloc))
@@ -103,23 +103,23 @@ fn merged_directory(
     alloc: Global,
     stack: &Stack,
     above: &Directory<'_>,
-    passage: &Passage<'_>,
+    name_in_both: &NameInBoth<'_>,
     found: &Found<'_>,
 ) -> Result<Inode, AllocError>
     requires several { 1 < length stack.now.layers }
-    requires first { IsFirstFound stack.now above.now passage.now found.now }
+    requires first { IsFirstFound stack.now above.now name_in_both.now found.now }
     requires directory { marks.is_directory found.now.inode.now ≡ true }
     ensures { IfOk result
         (λ new. new
         ≡ merge_down.merged_directory (merge_of stack.now)
-        (child_path above.now.path passage.now.name.now) found.now.inode.now
-        (places.reach (merge_of stack.now) (child_path above.now.path passage.now.name.now))) }
+        (child_path above.now.path name_in_both.now.name.now) found.now.inode.now
+        (places.reach (merge_of stack.now) (child_path above.now.path name_in_both.now.name.now))) }
 {
     let shown = shown_inode(alloc, found.inode)?;
-    if let Some(place) = passage.reach(alloc, stack, above, found)? {
-        return redirected(alloc, stack, above, passage.name, shown, place);
+    if let Some(place) = name_in_both.reach(alloc, stack, above, found)? {
+        return redirected(alloc, stack, above, name_in_both.name, shown, place);
     }
-    let hidden = above.sight(stack, passage.name);
+    let hidden = above.shown_kind(stack, name_in_both.name);
     if hidden.is_directory() {
         return with_value(shown, overlay::OPAQUE, b"y");
     }
@@ -133,31 +133,31 @@ fn merged_metacopy<'d>(
     stack: &'d Stack,
     whole: &mut Option<DirView<'d>>,
     above: &'d Directory<'_>,
-    passage: &Passage<'_>,
+    name_in_both: &NameInBoth<'_>,
     found: &Found<'_>,
 ) -> Result<Inode, AllocError>
     requires whole { IfSome whole.old (IsViewOf stack.now 0 above.now.path) }
     requires several { 1 < length stack.now.layers }
-    requires first { IsFirstFound stack.now above.now passage.now found.now }
+    requires first { IsFirstFound stack.now above.now name_in_both.now found.now }
     ensures inode { IfOk result
         (λ new. new
         ≡ merge_down.merged_metacopy (merge_of stack.now)
-        (child_path above.now.path passage.now.name.now) found.now.inode.now
-        (places.reach (merge_of stack.now) (child_path above.now.path passage.now.name.now))) }
+        (child_path above.now.path name_in_both.now.name.now) found.now.inode.now
+        (places.reach (merge_of stack.now) (child_path above.now.path name_in_both.now.name.now))) }
     ensures whole { IfSome whole.new (IsViewOf stack.now 0 above.now.path) }
 {
     let shown = visible(alloc, found.inode)?;
-    if let Some(place) = passage.reach(alloc, stack, above, found)? {
+    if let Some(place) = name_in_both.reach(alloc, stack, above, found)? {
         let copied = with_value(shown, overlay::METACOPY, b"")?;
-        return redirected(alloc, stack, above, passage.name, copied, place);
+        return redirected(alloc, stack, above, name_in_both.name, copied, place);
     }
-    let path = above.path.child(alloc, passage.name)?;
+    let path = above.path.child(alloc, name_in_both.name)?;
     if let Some(kept) = kept_place(alloc, stack, &path)? {
         let copied = with_value(shown, overlay::METACOPY, b"")?;
         let text = path_text(alloc, &kept)?;
         return with_value(copied, overlay::REDIRECT, text.as_bytes());
     }
-    let contents = DirView::look_kept(alloc, stack, whole, &above.path, passage.name)?;
+    let contents = DirView::look_cached(alloc, stack, whole, &above.path, name_in_both.name)?;
     with_contents(alloc, shown, &contents)
 }
 
@@ -186,8 +186,8 @@ fn has_data_alone(alloc: Global, stack: &Stack, place: &Path) -> Result<bool, Al
     if stack.full_file(place).is_none() {
         return Ok(false);
     }
-    let trail = Trail::of(alloc, &place.names())?;
-    Ok(stack.sight(alloc, 2, trail)?.is_nothing())
+    let rope = PathRope::of(alloc, &place.names())?;
+    Ok(stack.shown_kind(alloc, 2, rope)?.is_nothing())
 }
 
 // An entry `name` of a directory that goes on at a place: with no redirect where the reach of the
@@ -203,7 +203,7 @@ fn redirected(
 ) -> Result<Inode, AllocError>
     requires several { 1 < length stack.now.layers }
     requires above { IsVisited stack.now above.now.path above.now }
-    requires place { place_from (onward_at above.now.lower) place.now
+    requires place { place_from (next_lookup_at above.now.lower) place.now
         ≡ places.reach (merge_of stack.now) (child_path above.now.path name.now) }
     ensures { IfOk result
         (λ new. (path : PathNames)
@@ -215,7 +215,7 @@ fn redirected(
     let _layers = stack.ordinary();
     match place {
         Place::Beside(own) => renamed(inode, name, own.as_str()),
-        Place::At(trail) => redirected_at(alloc, &above.base, name, inode, &trail.path(alloc)?),
+        Place::At(rope) => redirected_at(alloc, &above.base, name, inode, &rope.path(alloc)?),
     }
 }
 
@@ -254,7 +254,7 @@ fn name_in<'p>(
     let Some((last, above)) = path.names().split_last() else {
         return Ok(None);
     };
-    if Trail::of(alloc, &above)? == *view.path() {
+    if PathRope::of(alloc, &above)? == *view.path() {
         Ok(Some(last))
     } else {
         Ok(None)

@@ -15,7 +15,7 @@ ghost use Rattle.ovl_merge.specs.Limits.{PassesMergeLimit};
 use crate::{MergeFault, MergeWork};
 use ovl_board::Parcel;
 use ovl_inode::Inode;
-use ovl_layer::{Layer, Siblings};
+use ovl_layer::{Layer, SubtreeBuilder};
 use ovl_names::Name;
 use ovl_rewrite::RewriteEnd;
 use std::alloc::{AllocError, Global};
@@ -39,7 +39,7 @@ impl MergeDone {
         ensures lower { IfOk result (λ done. done.lower ≡ lower) }
     {
         let root = lower.root().inode().copy(alloc)?;
-        match Siblings::none(alloc).under(root) {
+        match SubtreeBuilder::none(alloc).under(root) {
             Some(top) => Ok(MergeDone { top, lower }),
             // The root of a layer is one by itself.
             None => unreachable!(),

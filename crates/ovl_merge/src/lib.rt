@@ -8,7 +8,7 @@ mod entries;
 mod faults;
 mod finish;
 pub mod laws;
-mod passages;
+mod names_in_both;
 mod stands;
 mod works;
 

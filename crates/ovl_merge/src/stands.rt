@@ -2,11 +2,11 @@
 ghost use Rattle.std.specs.Prelude.{◌≡◌, ◌<◌, ℕ, Option, None, length, is_some, IfOk, IfSome};
 ghost use Rattle.std.specs.Option.{option_map};
 ghost use Rattle.ovl_names.specs.Paths.{PathNames, child_path};
-ghost use Rattle.ovl_merge.specs.Stands.{IsStand, StandsAt, IsRowAt, IsThing, IsPassing, name_on, onward_to};
+ghost use Rattle.ovl_merge.specs.Stands.{IsStand, StandsAt, IsRowAt, IsThing, IsNameWalk, name_on, next_lookup_to};
 
 use ovl_inode::Mark;
 use ovl_layer::Sheet;
-use ovl_lookup::{Arrival, Found, Onward, Trail};
+use ovl_lookup::{Arrival, Found, NextLookup, PathRope};
 use ovl_names::Name;
 use std::alloc::{AllocError, Global};
 
@@ -17,14 +17,14 @@ pub(crate) struct Stand<'a> {
     // it.
     pub(crate) row: Option<u32>,
     // The path by which the layer below knows the directory, unless it is hidden there.
-    next: Option<Trail<'a>>,
+    next: Option<PathRope<'a>>,
 }
 
 /// How the walk of a name in a directory ends in a layer, with nothing copied.
 #[derive(Drop)]
-pub(crate) struct Passing<'a> {
+pub(crate) struct NameWalk<'a> {
     pub(crate) found: Option<Found<'a>>,
-    pub(crate) onward: Onward<'a>,
+    pub(crate) next_lookup: NextLookup<'a>,
 }
 
 impl<'a> Stand<'a> {
@@ -32,13 +32,13 @@ impl<'a> Stand<'a> {
     pub(crate) fn at(
         alloc: Global,
         sheet: &'a Sheet,
-        trail: Trail<'a>,
+        rope: PathRope<'a>,
     ) -> Result<Stand<'a>, AllocError>
-        ensures { IfOk result (IsStand sheet.now trail.entry) }
+        ensures { IfOk result (IsStand sheet.now rope.entry) }
     {
         // Each sheet is a layer.
         let _root = sheet.root_number();
-        let Arrival { row, next, closed } = Arrival::at(alloc, sheet, trail)?;
+        let Arrival { row, next, closed } = Arrival::at(alloc, sheet, rope)?;
         if closed {
             return Ok(Stand { row, next: None });
         }
@@ -56,7 +56,7 @@ impl<'a> Stand<'a> {
     }
 
     /// The path by which the layer below knows the directory, unless it is hidden there.
-    pub(crate) fn onward(&self) -> Option<&Trail<'a>>
+    pub(crate) fn next_lookup(&self) -> Option<&PathRope<'a>>
         ensures { option_map (λ path. path.now) result ≡ self.now.next }
     {
         self.next.as_ref()
@@ -64,16 +64,16 @@ impl<'a> Stand<'a> {
 }
 
 /// How the walk of a name ends in the directory of a row, if the layer has that.
-pub(crate) fn passing_in<'a>(
+pub(crate) fn name_walk_in<'a>(
     sheet: &'a Sheet,
     directory: Option<u32>,
     name: &'a Name,
-) -> Passing<'a>
+) -> NameWalk<'a>
     requires { IfSome directory (λ row. row < length sheet.now) }
     ensures { (path : PathNames) (next : Option PathNames) → StandsAt sheet.now path directory next
-        → IsPassing sheet.now (child_path path name.now) next result }
+        → IsNameWalk sheet.now (child_path path name.now) next result }
 {
-    passing_at(sheet, name, row_in(sheet, directory, name))
+    name_walk_at(sheet, name, row_in(sheet, directory, name))
 }
 
 // The number of the row that the layer has by a name in it, if it has one.
@@ -92,11 +92,11 @@ fn row_in(sheet: &Sheet, directory: Option<u32>, name: &Name) -> Option<u32>
 
 /// How the walk of a name in a directory ends, by the number of the row that the layer has by it
 /// there, if it has one.
-pub(crate) fn passing_at<'a>(sheet: &'a Sheet, name: &'a Name, row: Option<u32>) -> Passing<'a>
+pub(crate) fn name_walk_at<'a>(sheet: &'a Sheet, name: &'a Name, row: Option<u32>) -> NameWalk<'a>
     requires { IfSome row (λ row. row < length sheet.now) }
     ensures { (path : PathNames) → IsRowAt sheet.now (child_path path name.now) row
         → (directory : Option ℕ) (next : Option PathNames) → StandsAt sheet.now path directory next
-        → IsPassing sheet.now (child_path path name.now) next result }
+        → IsNameWalk sheet.now (child_path path name.now) next result }
 {
     match row {
         Some(row) => thing_at(sheet, row, name),
@@ -105,32 +105,32 @@ pub(crate) fn passing_at<'a>(sheet: &'a Sheet, name: &'a Name, row: Option<u32>)
 }
 
 // The walk's end at a name that the layer doesn't have.
-fn nothing_at(name: &Name) -> Passing<'_>
+fn nothing_at(name: &Name) -> NameWalk<'_>
     ensures found { result.found ≡ None }
-    ensures onward { (next : Option PathNames)
-        → onward_to next result.onward ≡ name_on next name.now }
+    ensures next_lookup { (next : Option PathNames)
+        → next_lookup_to next result.next_lookup ≡ name_on next name.now }
 {
-    Passing {
+    NameWalk {
         found: None,
-        onward: Onward::Beside(name),
+        next_lookup: NextLookup::Beside(name),
     }
 }
 
 // The walk's end at what it has by this name in the row of a number.
-fn thing_at<'a>(sheet: &'a Sheet, row: u32, name: &'a Name) -> Passing<'a>
+fn thing_at<'a>(sheet: &'a Sheet, row: u32, name: &'a Name) -> NameWalk<'a>
     requires { row < length sheet.now }
     ensures { IsThing sheet.now row name.now result }
 {
     let (inode, mark) = (sheet.inode(row), sheet.mark(row));
-    let onward = Onward::of(mark, name);
+    let next_lookup = NextLookup::of(mark, name);
     if matches!(mark, Mark::Whiteout) {
-        return Passing {
+        return NameWalk {
             found: None,
-            onward,
+            next_lookup,
         };
     }
-    Passing {
+    NameWalk {
         found: Some(Found { inode, mark }),
-        onward,
+        next_lookup,
     }
 }

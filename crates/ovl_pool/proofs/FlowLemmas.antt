@@ -14,12 +14,12 @@ use Rattle.ovl_lanes.specs.declared.accounts.Account.{Account}
 use Rattle.ovl_lanes.specs.declared.ends.Lane.{Lane}
 use Rattle.ovl_lanes.specs.declared.ends.Pass.{Pass}
 use Rattle.ovl_lanes.specs.Lanes.{account_of, stolen_by}
-use Rattle.ovl_pool.specs.declared.hauls.Haul.{Haul}
+use Rattle.ovl_pool.specs.declared.worker_outputs.WorkerOutput.{WorkerOutput}
 use Rattle.ovl_pool.specs.declared.workers.Worker.{Worker}
 use Rattle.ovl_pool.specs.declared.workers.Other.{Other}
 use Rattle.ovl_pool.specs.Flows.{lane_pushed, lane_taken, stolen, pushed, taken, all_pushed, all_taken, delivered, below, refused_weight, each_one, indicator, IsPushedOf, IsUntouched, IsTied, IsWithin, AreTied, AreWithin, AreCounted, HaveNothing, HaveGone, AreUntouched, AreSettled}
 use Rattle.ovl_pool.specs.Passes.{HasNone}
-use Rattle.ovl_pool.proofs.CrewLemmas.{IsApart}
+use Rattle.ovl_pool.proofs.WorkerThreadLemmas.{IsApart}
 
 -- pieces that all weigh 1 weigh their number
 pub length_sum : (xs : List Piece) → sum_by each_one xs ≡ length xs
@@ -124,11 +124,11 @@ same_untouched w v lane others h = (omega (arith, ap (lane_taken h) lane, ap (st
 
 -- a worker without passes whose lane is new is one of the workers
 pub nothing_more : (workers : List Worker) (w : Worker) → HaveNothing workers → IsApart w → HaveNothing (workers ++ w ∷ [])
-nothing_more workers w none apart h =
+nothing_more workers w none split_seats h =
     let n = none h in
-    let none_stolen : stolen h w.others.items ≡ 0 = ap (stolen h) apart.1 in
-    let none_taken : lane_taken h w.lane ≡ 0 = ap (λ (v : Account). sum_by h v.taken) apart.0 in
-    let none_pushed : lane_pushed h w.lane ≡ 0 = ap (λ (v : Account). sum_by h v.pushed) apart.0 in
+    let none_stolen : stolen h w.others.items ≡ 0 = ap (stolen h) split_seats.1 in
+    let none_taken : lane_taken h w.lane ≡ 0 = ap (λ (v : Account). sum_by h v.taken) split_seats.0 in
+    let none_pushed : lane_pushed h w.lane ≡ 0 = ap (λ (v : Account). sum_by h v.pushed) split_seats.0 in
     (omega (arith, n.0, none_stolen, none_taken, sum_by_push (taken h) workers w), omega (arith, n.1, none_pushed, sum_by_push (pushed h) workers w))
 
 -- a pass is split off a worker's lane, and another worker takes it up
@@ -214,12 +214,12 @@ pub noted_before : (old new : Lane) (pieces kids : List Piece) (count before aft
 noted_before old new pieces kids count before after push same many noted = omega (arith, (push each_one).0, ap (sum_by each_one) same, length_sum kids, many, noted)
 
 -- parcels in another order, one worker of several, and both halves
-pub within_permuted : {O : Type 0} (w v : Worker) (a b : Haul O) → IsPermutation a.parcels.items b.parcels.items → b.refused ≡ a.refused → IsWithin w v a → IsWithin w v b
+pub within_permuted : {O : Type 0} (w v : Worker) (a b : WorkerOutput O) → IsPermutation a.parcels.items b.parcels.items → b.refused ≡ a.refused → IsWithin w v a → IsWithin w v b
 within_permuted w v a b same refused within h =
     let s = same_parcels a.parcels.items b.parcels.items same h in
     let t = within h in (omega (arith, s.0, t.0, ap (refused_weight h) refused), omega (arith, s.1, t.1))
 
-pub last_within : {O : Type 0} (rest : List Worker) (w v : Worker) (a : Haul O) → IsWithin w v a → AreWithin (rest ++ w ∷ []) (rest ++ v ∷ []) a
+pub last_within : {O : Type 0} (rest : List Worker) (w v : Worker) (a : WorkerOutput O) → IsWithin w v a → AreWithin (rest ++ w ∷ []) (rest ++ v ∷ []) a
 last_within rest w v a within h =
     let t = within h in
     (omega (arith, t.0, sum_by_push (taken h) rest w, sum_by_push (taken h) rest v), omega (arith, t.1, sum_by_push (pushed h) rest w, sum_by_push (pushed h) rest v))
@@ -231,7 +231,7 @@ refused_least : (h : Piece → ℕ) (o p : Option Piece) → refused_weight h (o
 refused_least h None p = omega arith
 refused_least h (Some x) p = omega arith
 
-pub halves_within : {O : Type 0} (all first second ended more : List Worker) (a b both : Haul O) → all ≡ first ++ second → AreWithin first ended a → AreWithin second more b
+pub halves_within : {O : Type 0} (all first second ended more : List Worker) (a b both : WorkerOutput O) → all ≡ first ++ second → AreWithin first ended a → AreWithin second more b
     → IsPermutation (a.parcels.items ++ b.parcels.items) both.parcels.items → both.refused ≡ option_or a.refused b.refused → AreWithin all (ended ++ more) both
 halves_within all first second ended more a b both e left right same refused h =
     let p = parcels_joined a.parcels.items b.parcels.items both.parcels.items same h in

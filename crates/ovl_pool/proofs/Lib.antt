@@ -1,6 +1,6 @@
-pub mod CrewLemmas
+pub mod WorkerThreadLemmas
 pub mod EndLemmas
 pub mod FlowLemmas
 pub mod MergeLemmas
 pub mod ToldLemmas
-pub mod TurnLemmas
+pub mod WorkerStepLemmas

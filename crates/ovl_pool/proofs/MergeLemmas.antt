@@ -1,4 +1,4 @@
--- Hauls in one: two lists merged into a third, in order, and workers of two halves.
+-- Outputs in one: two lists merged into a third, in order, and workers of two halves.
 use Rattle.std.proofs.Common.{◌≡◌, ◌⊎◌, inl, inr, Bool, true, false, cond, ◌||◌, Option, Some, None, List, [], ◌∷◌, ◌++◌, map, refl, sym, ap, ◌∙◌, subst, arith, append-nil, IsPermutation, IsSorted, IfSome}
 use Rattle.std.specs.Option.{option_or}
 use Rattle.std.proofs.lemmas.List.{map-append}
@@ -17,9 +17,9 @@ use Rattle.ovl_board.proofs.LawsOfMembers.{In, Every, Rises, Contains-In, In-cas
 use Rattle.ovl_board.proofs.LawsOfPieces.{piece_cmp_total, before_trans, less_differs, IsAtMost, Rises-sorted, before_unless_same}
 use Rattle.ovl_board.proofs.LawsOfCounts.{mark_cases, mark_itself}
 use Rattle.ovl_board.proofs.LawsOfWalks.{own_permuted}
-use Rattle.ovl_pool.specs.declared.hauls.Haul.{Haul}
+use Rattle.ovl_pool.specs.declared.worker_outputs.WorkerOutput.{WorkerOutput}
 use Rattle.ovl_pool.specs.declared.workers.Worker.{Worker}
-use Rattle.ovl_pool.specs.Hauls.{IsOwnHaul, IsClean, AreInPieceOrder}
+use Rattle.ovl_pool.specs.WorkerOutputs.{IsOwnWorkerOutput, IsClean, AreInPieceOrder}
 use Rattle.ovl_pool.specs.Passes.{post_of}
 
 either : (o p : Option Piece) (P : Piece → Type 0) → IfSome o P → IfSome p P → IfSome (option_or o p) P
@@ -34,10 +34,10 @@ neither : (a b : Bool) → (a || b) ≡ false → (a ≡ false) × (b ≡ false)
 neither true b e = absurd (cc)
 neither false b e = (refl, e)
 
--- where both hauls in one are clean each of them is
-pub clean_both : {O : Type 0} (first second both : Haul O) → both.starved ≡ (first.starved || second.starved) → both.refused ≡ option_or first.refused second.refused → IsClean both → IsClean first × IsClean second
-clean_both first second both starved refused clean =
-    let s = neither first.starved second.starved (sym starved ∙ clean.0) in
+-- where both outputs in one are clean each of them is
+pub clean_both : {O : Type 0} (first second both : WorkerOutput O) → both.out_of_memory ≡ (first.out_of_memory || second.out_of_memory) → both.refused ≡ option_or first.refused second.refused → IsClean both → IsClean first × IsClean second
+clean_both first second both out_of_memory refused clean =
+    let s = neither first.out_of_memory second.out_of_memory (sym out_of_memory ∙ clean.0) in
     let r = none_of_both first.refused second.refused (sym refused ∙ clean.1) in ((s.0, r.0), (s.1, r.1))
 
 module _ {O S : Type 0} (seen : O → S) (kids : Piece → List Piece) (out : Piece → S) where
@@ -46,10 +46,10 @@ module _ {O S : Type 0} (seen : O → S) (kids : Piece → List Piece) (out : Pi
       let own = own_view kids out in
       ap (λ l. l ++ ys) a ∙ ap (λ l. map own (pieces_of xs) ++ l) b ∙ sym (map-append own (pieces_of xs) (pieces_of ys)) ∙ ap (map own) (sym (map-append (λ (v : ParcelView S). v.piece) xs ys))
 
-  -- the work's own hauls in one are its own
-  pub haul_merged : (may_refuse : Piece → Type 0) (first second both : Haul O) → IsOwnHaul seen kids out may_refuse first → IsOwnHaul seen kids out may_refuse second
-      → IsPermutation (first.parcels.items ++ second.parcels.items) both.parcels.items → both.refused ≡ option_or first.refused second.refused → IsOwnHaul seen kids out may_refuse both
-  haul_merged may_refuse first second both a b same refused = (
+  -- the work's own outputs in one are its own
+  pub worker_outputs_merged : (may_refuse : Piece → Type 0) (first second both : WorkerOutput O) → IsOwnWorkerOutput seen kids out may_refuse first → IsOwnWorkerOutput seen kids out may_refuse second
+      → IsPermutation (first.parcels.items ++ second.parcels.items) both.parcels.items → both.refused ≡ option_or first.refused second.refused → IsOwnWorkerOutput seen kids out may_refuse both
+  worker_outputs_merged may_refuse first second both a b same refused = (
     own_permuted seen kids out (first.parcels.items ++ second.parcels.items) both.parcels.items same
         (subst (AreOwn kids out) (sym (map-append (parcel_view seen) first.parcels.items second.parcels.items)) (own_views (parcel_views seen first.parcels.items) (parcel_views seen second.parcels.items) a.0 b.0)),
     subst (λ r. IfSome r may_refuse) (sym refused) (either first.refused second.refused may_refuse a.1 b.1),

@@ -15,13 +15,13 @@ use Rattle.ovl_board.proofs.LawsOfMembers.{In, In-map, In-map-cases, Contains-In
 use Rattle.ovl_board.proofs.LawsOfPieces.{length_below}
 use Rattle.ovl_board.proofs.LawsOfCounts.{mark_cases, mark_itself, In-times, times-In, parcel_of_kid}
 use Rattle.ovl_board.proofs.LawsOfWalks.{reached_by}
-use Rattle.ovl_pool.specs.declared.hauls.Haul.{Haul}
+use Rattle.ovl_pool.specs.declared.worker_outputs.WorkerOutput.{WorkerOutput}
 use Rattle.ovl_pool.specs.declared.workers.Worker.{Worker}
 use Rattle.ovl_pool.specs.declared.runs.RunCount.{RunCount}
 use Rattle.ovl_pool.specs.declared.runs.RunFault.{RunFault}
 use Rattle.ovl_pool.specs.declared.runs.RunFault.TheVariants.{Gate}
 use Rattle.ovl_pool.specs.Flows.{all_pushed, all_taken, each_one, indicator, refused_weight, accounted, below, AreCounted, AreSettled, AreTied, AreWithin, HaveRoot, HaveGone, CountsParcels}
-use Rattle.ovl_pool.specs.Hauls.{IsOwnHaul}
+use Rattle.ovl_pool.specs.WorkerOutputs.{IsOwnWorkerOutput}
 use Rattle.ovl_pool.specs.Runs.{MayBeRefused, IsBoardMemory, IsRunFault}
 use Rattle.ovl_pool.proofs.FlowLemmas.{length_delivered, delivered_pieces, below_kids}
 
@@ -43,16 +43,16 @@ numbers root ended parcels known noted count gone counted knew delivered_so took
     )
 
 -- a run whose fault is the gate's was refused a piece
-pub was_refused : {T : Type 0} (r : Result T RunFault) (refused : Option Piece) (starved : Bool) (count : RunCount) → IfErr r (IsRunFault refused starved count) → r ≡ Err Gate → is_some refused ≡ true
-was_refused (Ok x) refused starved count want e = absurd (cc)
-was_refused (Err f) refused starved count want e = let is : f ≡ Gate = cc in want.gate.0 is
+pub was_refused : {T : Type 0} (r : Result T RunFault) (refused : Option Piece) (out_of_memory : Bool) (count : RunCount) → IfErr r (IsRunFault refused out_of_memory count) → r ≡ Err Gate → is_some refused ≡ true
+was_refused (Ok x) refused out_of_memory count want e = absurd (cc)
+was_refused (Err f) refused out_of_memory count want e = let is : f ≡ Gate = cc in want.gate.0 is
 
 -- a fault of the board is out of memory
-pub board_memory : {T : Type 0} (r : Result T RunFault) (refused : Option Piece) (starved : Bool) (count : RunCount) → IfErr r (IsRunFault refused starved count) → IfErr r IsBoardMemory
-board_memory (Ok x) refused starved count want = tt
-board_memory (Err f) refused starved count want = by (is_some refused) refl starved refl
+pub board_memory : {T : Type 0} (r : Result T RunFault) (refused : Option Piece) (out_of_memory : Bool) (count : RunCount) → IfErr r (IsRunFault refused out_of_memory count) → IfErr r IsBoardMemory
+board_memory (Ok x) refused out_of_memory count want = tt
+board_memory (Err f) refused out_of_memory count want = by (is_some refused) refl out_of_memory refl
   where
-    by : (some : Bool) → is_some refused ≡ some → (hungry : Bool) → starved ≡ hungry → IsBoardMemory f
+    by : (some : Bool) → is_some refused ≡ some → (hungry : Bool) → out_of_memory ≡ hungry → IsBoardMemory f
     by true e hungry h = subst IsBoardMemory (sym (want.gate.1 e)) tt
     by false e true h = subst IsBoardMemory (sym (want.memory e h)) tt
     by false e false h = elim (want.end e h) [
@@ -76,32 +76,32 @@ only_memory root views law lawful balance (Stranger p) is = absurd ((law root vi
 only_memory root views law lawful balance (Missing p) is = absurd ((law root views lawful balance).2 p is.2.0)
 only_memory root views law lawful balance Memory is = refl
 
--- each piece that a haul accounts for is the root or a kid of a parcel, since it was taken from a lane
-module _ {O : Type 0} (root : Piece) (haul : Haul O) (lawful : AllLawful (bare haul.parcels.items))
-    (comes : (p : Piece) → accounted (indicator p) haul ≤ indicator p root + below (indicator p) haul.parcels.items) where
+-- each piece that an output accounts for is the root or a kid of a parcel, since it was taken from a lane
+module _ {O : Type 0} (root : Piece) (worker_output : WorkerOutput O) (lawful : AllLawful (bare worker_output.parcels.items))
+    (comes : (p : Piece) → accounted (indicator p) worker_output ≤ indicator p root + below (indicator p) worker_output.parcels.items) where
   abbrev pub views : List (ParcelView (Unit {0}))
-  views = bare haul.parcels.items
+  views = bare worker_output.parcels.items
 
-  led : (n : ℕ) (p : Piece) → length p.dir < n → 1 ≤ accounted (indicator p) haul → Reached (HasKid views) root p
+  led : (n : ℕ) (p : Piece) → length p.dir < n → 1 ≤ accounted (indicator p) worker_output → Reached (HasKid views) root p
   led zero p short some = absurd (omega arith)
   led (suc n) p short some = elim (mark_cases p root) [
     | inl m ↦ subst (Reached (HasKid views) root) (sym m.1) start
     | inr m ↦
-        let c = parcel_of_kid views p (times-In p (kids_in views) (omega (arith, comes p, m, below_kids (indicator p) haul.parcels.items))) in
+        let c = parcel_of_kid views p (times-In p (kids_in views) (omega (arith, comes p, m, below_kids (indicator p) worker_output.parcels.items))) in
         let law = Every-All (λ (v : ParcelView (Unit {0})). AreLawfulKids v.piece v.kids) views lawful c.0 c.1.0 in
         let longer = length_below c.0.piece p (Every-All (IsOneBelow c.0.piece) c.0.kids law.below p c.1.1) in
         let there = In-times c.0.piece (pieces_of views) (In-map (λ (v : ParcelView (Unit {0})). v.piece) c.0 views c.1.0) in
-        next (led n c.0.piece (omega arith) (omega (arith, there, delivered_pieces (indicator c.0.piece) haul.parcels.items)))
+        next (led n c.0.piece (omega arith) (omega (arith, there, delivered_pieces (indicator c.0.piece) worker_output.parcels.items)))
         (c.0, (Contains-In c.0 views c.1.0, (refl, Contains-In p c.0.kids c.1.1)))
   ]
 
-  pub refused_led : (p : Piece) → haul.refused ≡ Some p → Reached (HasKid views) root p
+  pub refused_led : (p : Piece) → worker_output.refused ≡ Some p → Reached (HasKid views) root p
   refused_led p refused = led (suc (length p.dir)) p (omega arith) (omega (arith, ap (refused_weight (indicator p)) refused, mark_itself p p refl))
 
 -- what was taken from the lanes was pushed to them
-pub comes_from : {O : Type 0} (root : Piece) (first ended : List Worker) (haul : Haul O) (left : List Piece) → HaveRoot root first → AreWithin first ended haul → AreSettled ended left
-    → (p : Piece) → accounted (indicator p) haul ≤ indicator p root + below (indicator p) haul.parcels.items
-comes_from root first ended haul left begun within settled p =
+pub comes_from : {O : Type 0} (root : Piece) (first ended : List Worker) (worker_output : WorkerOutput O) (left : List Piece) → HaveRoot root first → AreWithin first ended worker_output → AreSettled ended left
+    → (p : Piece) → accounted (indicator p) worker_output ≤ indicator p root + below (indicator p) worker_output.parcels.items
+comes_from root first ended worker_output left begun within settled p =
     let b = begun (indicator p) in
     let w = within (indicator p) in omega (arith, b.0, b.1, w.0, w.1, settled p)
 
@@ -127,16 +127,16 @@ module _ {O S : Type 0} (seen : O → S) (kids : Piece → List Piece) (out : Pi
   own_reached parcels own root p r = reached_by (HasKid (bare parcels)) (ToKid kids) (own_step parcels own) root p r
 
   -- so a refused piece is one that the work's kids lead to
-  pub refused_reached : (may_refuse : Piece → Type 0) (root : Piece) (first ended : List Worker) (haul : Haul O) (left : List Piece) → IsOwnHaul seen kids out may_refuse haul → AllLawful (bare haul.parcels.items)
-      → HaveRoot root first → AreWithin first ended haul → AreSettled ended left → is_some haul.refused ≡ true → MayBeRefused kids may_refuse root
-  refused_reached may_refuse root first ended haul left own lawful begun within settled refused = by haul.refused refl refused
+  pub refused_reached : (may_refuse : Piece → Type 0) (root : Piece) (first ended : List Worker) (worker_output : WorkerOutput O) (left : List Piece) → IsOwnWorkerOutput seen kids out may_refuse worker_output → AllLawful (bare worker_output.parcels.items)
+      → HaveRoot root first → AreWithin first ended worker_output → AreSettled ended left → is_some worker_output.refused ≡ true → MayBeRefused kids may_refuse root
+  refused_reached may_refuse root first ended worker_output left own lawful begun within settled refused = by worker_output.refused refl refused
     where
-      by : (o : Option Piece) → haul.refused ≡ o → is_some o ≡ true → MayBeRefused kids may_refuse root
+      by : (o : Option Piece) → worker_output.refused ≡ o → is_some o ≡ true → MayBeRefused kids may_refuse root
       by None e some_one = absurd (cc)
       by (Some p) e some_one = (
         p,
         (
-          own_reached haul.parcels.items own.0 root p (refused_led root haul lawful (comes_from root first ended haul left begun within settled) p e),
+          own_reached worker_output.parcels.items own.0 root p (refused_led root worker_output lawful (comes_from root first ended worker_output left begun within settled) p e),
           subst (λ r. IfSome r may_refuse) e own.1,
         ),
       )

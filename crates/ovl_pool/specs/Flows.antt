@@ -7,7 +7,7 @@ use Rattle.ovl_board.specs.declared.works.Parcel.{Parcel}
 use Rattle.ovl_board.specs.Balance.{is_same, times}
 use Rattle.ovl_lanes.specs.declared.ends.Lane.{Lane}
 use Rattle.ovl_lanes.specs.Lanes.{account_of, stolen_by}
-use Rattle.ovl_pool.specs.declared.hauls.Haul.{Haul}
+use Rattle.ovl_pool.specs.declared.worker_outputs.WorkerOutput.{WorkerOutput}
 use Rattle.ovl_pool.specs.declared.workers.Worker.{Worker}
 use Rattle.ovl_pool.specs.declared.workers.Other.{Other}
 use Rattle.ovl_pool.specs.declared.runs.RunCount.{RunCount}
@@ -49,9 +49,9 @@ abbrev pub refused_weight : (Piece → ℕ) → Option Piece → ℕ
 refused_weight h None = 0
 refused_weight h (Some piece) = h piece
 
--- the pieces that a haul accounts for: those of its parcels, and the refused one
-abbrev pub accounted : {O : Type 0} → (Piece → ℕ) → Haul O → ℕ
-accounted h haul = delivered h haul.parcels.items + refused_weight h haul.refused
+-- the pieces that an output accounts for: those of its parcels, and the refused one
+abbrev pub accounted : {O : Type 0} → (Piece → ℕ) → WorkerOutput O → ℕ
+accounted h worker_output = delivered h worker_output.parcels.items + refused_weight h worker_output.refused
 
 -- these pieces were pushed to the lane, and nothing else was done by its owner
 abbrev pub IsPushed : Lane → Lane → List Piece → Type 0
@@ -105,28 +105,28 @@ KeepsPace old new before after =
     → (taken h new + delivered h before ≡ taken h old + delivered h after)
     × (pushed h new + below h before ≡ pushed h old + below h after)
 
--- while this haul became that one, the worker took at least what the new one accounts for beyond
+-- while this output became that one, the worker took at least what the new one accounts for beyond
 -- the old, and pushed at most the kids of new parcels
-abbrev pub StaysWithin : {O : Type 0} → Worker → Worker → Haul O → Haul O → Type 0
+abbrev pub StaysWithin : {O : Type 0} → Worker → Worker → WorkerOutput O → WorkerOutput O → Type 0
 StaysWithin old new before after =
     (h : Piece → ℕ)
     → (taken h old + accounted h after ≤ taken h new + accounted h before)
     × (pushed h new + below h before.parcels.items ≤ pushed h old + below h after.parcels.items)
 
--- what the worker took since then is at least what the haul accounts for, and what it pushed is at
+-- what the worker took since then is at least what the output accounts for, and what it pushed is at
 -- most the kids of its parcels
-abbrev pub IsWithin : {O : Type 0} → Worker → Worker → Haul O → Type 0
-IsWithin old new haul =
+abbrev pub IsWithin : {O : Type 0} → Worker → Worker → WorkerOutput O → Type 0
+IsWithin old new worker_output =
     (h : Piece → ℕ)
-    → (taken h old + accounted h haul ≤ taken h new)
-    × (pushed h new ≤ pushed h old + below h haul.parcels.items)
+    → (taken h old + accounted h worker_output ≤ taken h new)
+    × (pushed h new ≤ pushed h old + below h worker_output.parcels.items)
 
 -- the same of all workers
-abbrev pub AreWithin : {O : Type 0} → List Worker → List Worker → Haul O → Type 0
-AreWithin old new haul =
+abbrev pub AreWithin : {O : Type 0} → List Worker → List Worker → WorkerOutput O → Type 0
+AreWithin old new worker_output =
     (h : Piece → ℕ)
-    → (all_taken h old + accounted h haul ≤ all_taken h new)
-    × (all_pushed h new ≤ all_pushed h old + below h haul.parcels.items)
+    → (all_taken h old + accounted h worker_output ≤ all_taken h new)
+    × (all_pushed h new ≤ all_pushed h old + below h worker_output.parcels.items)
 
 -- what the workers took since then is the pieces of these parcels, and what they pushed is their
 -- kids

@@ -1,6 +1,6 @@
-pub mod Crews
+pub mod WorkerThreads
 pub mod Flows
-pub mod Hauls
+pub mod WorkerOutputs
 pub mod Passes
 pub mod Runs
-pub mod Turns
+pub mod WorkerSteps

@@ -26,7 +26,7 @@ abbrev pub ends_of : Lane → LaneEnds
 ends_of lane =
     record { id = lane_id lane; split = (account_of lane).split; joined = (account_of lane).joined }
 
--- what labor leaves as it is: the ends of the worker's lane, and the lanes that its passes name
+-- what work leaves as it is: the ends of the worker's lane, and the lanes that its passes name
 pub record Post : Type 0 where
   pub ends : LaneEnds
   pub named : List ℕ
@@ -54,13 +54,13 @@ AreOutBut loose posts =
 
 -- the posts are those of these lanes in their order, and all passes that aren't joined again are
 -- held
-abbrev pub IsCrew : List Post → List LaneId → Type 0
-IsCrew posts ids = (map (λ post. post.ends.id) posts ≡ ids) × AreOutBut [] posts
+abbrev pub AreRunning : List Post → List LaneId → Type 0
+AreRunning posts ids = (map (λ post. post.ends.id) posts ≡ ids) × AreOutBut [] posts
 
 -- the workers hold all passes of their lanes, whose thieves these are
 abbrev pub AreSeated : List Thief → List Worker → Type 0
 AreSeated thieves workers =
-    All (HasPasses thieves) workers × IsCrew (map post_of workers) (map thief_id thieves)
+    All (HasPasses thieves) workers × AreRunning (map post_of workers) (map thief_id thieves)
 
 -- the worker holds no pass
 abbrev pub HasNone : Worker → Type 0

@@ -34,11 +34,11 @@ IsEndFault count fault =
 
 -- a run that gave no walk: that the gate refused a piece goes before a lack of memory of a worker,
 -- and that before all else
-pub record IsRunFault (refused : Option Piece) (starved : Bool) (count : RunCount)
+pub record IsRunFault (refused : Option Piece) (out_of_memory : Bool) (count : RunCount)
     (fault : RunFault) : Type 0 where
   pub gate : (fault ≡ Gate) ↔ (is_some refused ≡ true)
-  pub memory : is_some refused ≡ false → starved ≡ true → fault ≡ Memory
-  pub end : is_some refused ≡ false → starved ≡ false → IsEndFault count fault
+  pub memory : is_some refused ≡ false → out_of_memory ≡ true → fault ≡ Memory
+  pub end : is_some refused ≡ false → out_of_memory ≡ false → IsEndFault count fault
 
 -- this many pieces were known, delivered and taken, and none is left
 abbrev pub CountsAll : ℕ → RunCount → Type 0

@@ -2,15 +2,15 @@
 //! schedule.
 #![tactic(auto)]
 
-mod crews;
 mod gates;
-mod hauls;
 mod merging;
-mod notes;
 mod runs;
 mod seating;
 mod shares;
 mod tallies;
+mod tally_handle;
+mod worker_outputs;
+mod worker_threads;
 mod workers;
 
 pub use gates::{Gate, OpenGate};

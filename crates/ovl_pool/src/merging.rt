@@ -1,6 +1,6 @@
 //! Two ordered lists of parcels as one.
 ghost use Rattle.std.specs.Prelude.{◌++◌, IfOk, IsPermutation};
-ghost use Rattle.ovl_pool.specs.Hauls.{AreInPieceOrder};
+ghost use Rattle.ovl_pool.specs.WorkerOutputs.{AreInPieceOrder};
 
 use itertools::Itertools;
 use ovl_board::Parcel;

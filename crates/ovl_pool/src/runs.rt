@@ -7,16 +7,16 @@ ghost use Rattle.ovl_pool.specs.declared.runs.RunFault.TheVariants.{Workers, Gat
 ghost use Rattle.ovl_board.specs.Balance.{IsBalanced, AllLawful};
 ghost use Rattle.ovl_board.specs.Assembly.{IsInOrder, bare};
 ghost use Rattle.ovl_pool.specs.Flows.{AreSettled, CountsParcels, all_pushed, all_taken, each_one};
-ghost use Rattle.ovl_pool.specs.Hauls.{IsClean};
+ghost use Rattle.ovl_pool.specs.WorkerOutputs.{IsClean};
 ghost use Rattle.ovl_pool.specs.Passes.{AreSeated};
 ghost use Rattle.ovl_pool.specs.Runs.{MayBeRefused, IsBoardMemory, IsEndFault, IsRunFault, CountsAll, no_lanes};
 
 use crate::gates::Gate;
-use crate::hauls::Haul;
 use crate::seating::{close_lanes, seat_workers};
 use crate::shares::Shares;
 use crate::tallies::Tally;
-use crate::workers::{Worker, Workshop};
+use crate::worker_outputs::WorkerOutput;
+use crate::workers::{RunContext, Worker};
 use ovl_board::laws::balanced_parcels_have_no_fault;
 use ovl_board::{BoardFault, Parcel, Piece, Work, assemble};
 use ovl_lanes::{LaneFault, Thief, lanes};
@@ -178,7 +178,7 @@ where
     let (kids, known) = blanks.kids.open::<K>();
     let (parcels, delivered) = blanks.parcels.open::<D>();
     let tally = Mutex::new(Tally::start(kids, parcels));
-    let shop = Workshop {
+    let context = RunContext {
         rt,
         alloc,
         work,
@@ -186,9 +186,9 @@ where
         tally: &tally,
         thieves: &thieves,
     };
-    let (ended, haul, shares) = shop.crew(crowd, Shares { known, delivered })?;
+    let (ended, worker_output, shares) = context.run_workers(crowd, Shares { known, delivered })?;
     let count = run_count(tally.into_inner(), shares, ended, thieves);
-    outcome(alloc, &root, haul, count)
+    outcome(alloc, &root, worker_output, count)
 }
 
 // The numbers of the tally and of the lanes, once all workers ended: it puts the shares together,
@@ -228,29 +228,29 @@ fn run_count<K: Ledger, D: Ledger>(
 fn outcome<T: Drop>(
     alloc: Global,
     root: &Piece,
-    haul: Haul<T>,
+    worker_output: WorkerOutput<T>,
     count: RunCount,
 ) -> Result<(Vec<Parcel<T>>, RunCount), RunFault>
-    requires lawful { AllLawful (bare haul.parcels.items) }
-    requires counted { IsClean haul → CountsParcels haul.parcels.items count }
-    requires left { IsClean haul
+    requires lawful { AllLawful (bare worker_output.parcels.items) }
+    requires counted { IsClean worker_output → CountsParcels worker_output.parcels.items count }
+    requires left { IsClean worker_output
         → (left : List Piece)
-        × ((length left ≡ count.left) × IsBalanced root.now (bare haul.parcels.items) left) }
-    ensures order { IfOk result (λ done. IsInOrder root.now haul.parcels.items done.0.items) }
+        × ((length left ≡ count.left) × IsBalanced root.now (bare worker_output.parcels.items) left) }
+    ensures order { IfOk result (λ done. IsInOrder root.now worker_output.parcels.items done.0.items) }
     ensures balance { IfOk result (λ done. IsBalanced root.now (bare done.0.items) []) }
     ensures counted { IfOk result (λ done. CountsAll (vec_len done.0) done.1) }
-    ensures fault { IfErr result (IsRunFault haul.refused haul.starved count) }
+    ensures fault { IfErr result (IsRunFault worker_output.refused worker_output.out_of_memory count) }
 {
     // Made by hand (1): a growth was refused to a worker.
-    let Haul {
+    let WorkerOutput {
         parcels,
         refused,
-        starved,
-    } = haul;
+        out_of_memory,
+    } = worker_output;
     if refused.is_some() {
         return Err(RunFault::Gate);
     }
-    if starved {
+    if out_of_memory {
         return Err(RunFault::Memory);
     }
     walk_of(alloc, root, parcels, count)

@@ -27,11 +27,11 @@ pub(crate) fn seat_workers(
 {
     // Made by hand (1): a new lane is below its end, so it gives a piece back only when out of
     // memory.
-    let (mut workers, thieves) = apart(alloc, seats)?;
+    let (mut workers, thieves) = split_seats(alloc, seats)?;
     let count = workers.len();
     for number in 0..count {
         for step in 1..count {
-            lend(&mut workers, &thieves, number, (number + step) % count)?;
+            add_pass(&mut workers, &thieves, number, (number + step) % count)?;
         }
     }
     match workers[0].lane.push(root) {
@@ -41,7 +41,7 @@ pub(crate) fn seat_workers(
 }
 
 // A worker without passes for each lane, and the thieves.
-fn apart(alloc: Global, mut seats: Vec<Seat>) -> Result<(Vec<Worker>, Vec<Thief>), AllocError>
+fn split_seats(alloc: Global, mut seats: Vec<Seat>) -> Result<(Vec<Worker>, Vec<Thief>), AllocError>
     requires { All IsNew seats.items }
     ensures seated { IfOk result (λ r. AreSeated r.1.items r.0.items) }
     ensures one_each { IfOk result (λ r. vec_len r.0 ≡ vec_len seats) }
@@ -58,7 +58,7 @@ fn apart(alloc: Global, mut seats: Vec<Seat>) -> Result<(Vec<Worker>, Vec<Thief>
 }
 
 // Splits a pass of the lane off for the worker of that number.
-fn lend(
+fn add_pass(
     workers: &mut [Worker],
     thieves: &[Thief],
     number: usize,
@@ -86,13 +86,13 @@ pub(crate) fn close_lanes(mut workers: Vec<Worker>, thieves: Vec<Thief>) -> (u64
         × ((length left ≡ result.1) × AreSettled workers.items left) }
 {
     for number in 0..workers.len() {
-        give_back(&mut workers, &thieves, number);
+        return_passes(&mut workers, &thieves, number);
     }
     counts_of_lanes(workers, thieves)
 }
 
 // Joins the passes of the worker of that number to their lanes again.
-fn give_back(workers: &mut [Worker], thieves: &[Thief], number: usize)
+fn return_passes(workers: &mut [Worker], thieves: &[Thief], number: usize)
     requires seated { AreSeated thieves.now workers.old }
     requires worker { number < length workers.old }
     requires before { AllWithin HasNone workers.old 0 number }

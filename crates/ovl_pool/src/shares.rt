@@ -1,6 +1,6 @@
 //! A worker's shares of the two ledgers.
 ghost use Rattle.std.specs.Prelude.{◌≡◌, ◌≤◌, ◌+◌};
-ghost use Rattle.ovl_pool.specs.Crews.{AreSharesOfBoth};
+ghost use Rattle.ovl_pool.specs.WorkerThreads.{AreSharesOfBoth};
 
 use std::sync::ledger::{Ledger, Share};
 

@@ -24,7 +24,7 @@ pub struct Tally<K: Ledger, D: Ledger> {
 
 /// That there is nothing more to do. Only a tally says it, and only by it a worker ends.
 #[derive(Drop)]
-pub(crate) struct Over {
+pub(crate) struct Finished {
     told: (),
 }
 
@@ -111,23 +111,23 @@ impl<K: Ledger, D: Ledger> Tally<K, D> {
     }
 
     /// Notes that a worker met a fault, after which there is nothing more to do.
-    pub(crate) fn fail(&mut self) -> Over
+    pub(crate) fn fail(&mut self) -> Finished
         ensures failed { self.new.failed ≡ true }
         ensures same { (self.new.known ≡ self.old.known)
             × (self.new.delivered ≡ self.old.delivered) }
     {
         self.failed = true;
-        Over { told: () }
+        Finished { told: () }
     }
 
     /// Whether there is nothing more to do, exactly: all that is known was delivered, or a worker
     /// met a fault.
-    pub(crate) fn over(&self) -> Option<Over>
+    pub(crate) fn finished(&self) -> Option<Finished>
         ensures { IsSome result
             ↔ ((self.now.failed ≡ true) ⊎ (self.now.delivered ≡ self.now.known)) }
     {
         if self.failed || self.delivered == self.known {
-            return Some(Over { told: () });
+            return Some(Finished { told: () });
         }
         None
     }

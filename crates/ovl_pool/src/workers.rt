@@ -4,10 +4,10 @@ ghost use Rattle.ovl_pool.specs.Flows.{IsPushed, IsPushedOf};
 ghost use Rattle.ovl_pool.specs.Passes.{ends_of};
 
 use crate::gates::Gate;
-use crate::hauls::Haul;
-use crate::notes::{Notes, Prospect};
 use crate::shares::Shares;
 use crate::tallies::Tally;
+use crate::tally_handle::{NextAction, TallyHandle};
+use crate::worker_outputs::WorkerOutput;
 use crossbeam_utils::Backoff;
 use ovl_board::{Parcel, Piece, Work, copies};
 use ovl_lanes::{Lane, Pass, Thief};
@@ -75,7 +75,7 @@ impl Worker {
 /// What the workers of a run share: the work that they do, the gate that they ask, the tally to
 /// which they note it, and the thieves of all lanes.
 #[derive(Drop)]
-pub(crate) struct Workshop<'a, W, G, R, K: Ledger, D: Ledger> {
+pub(crate) struct RunContext<'a, W, G, R, K: Ledger, D: Ledger> {
     pub(crate) rt: &'a R,
     pub(crate) alloc: Global,
     pub(crate) work: &'a W,
@@ -84,54 +84,58 @@ pub(crate) struct Workshop<'a, W, G, R, K: Ledger, D: Ledger> {
     pub(crate) thieves: &'a [Thief],
 }
 
-impl<W: Work, G: Gate, R: Wait, K: Ledger, D: Ledger> Workshop<'_, W, G, R, K, D> {
+impl<W: Work, G: Gate, R: Wait, K: Ledger, D: Ledger> RunContext<'_, W, G, R, K, D> {
     ghost use Rattle.std.specs.Prelude.{IfOk};
-    ghost use Rattle.ovl_pool.specs.Crews.{IsWorkerStart, IsWorkerEnd};
-    ghost use Rattle.ovl_pool.specs.Hauls.{IsClean, AreInPieceOrder};
+    ghost use Rattle.ovl_pool.specs.WorkerThreads.{IsWorkerStart, IsWorkerEnd};
+    ghost use Rattle.ovl_pool.specs.WorkerOutputs.{IsClean, AreInPieceOrder};
     ghost use Rattle.ovl_pool.specs.Passes.{HasPasses};
-    ghost use Rattle.ovl_pool.specs.Turns.{IsHaulOf, IsTurn, IsCleanTurn, IsServed, IsCleanServed};
+    ghost use Rattle.ovl_pool.specs.WorkerSteps.{IsWorkerOutputOf, IsWorkerStep, IsCleanWorkerStep, IsServed, IsCleanServed};
 
     /// Serves pieces until all that are known are delivered, or a worker met a fault, and sorts its
     /// parcels; so each worker sorts its own, beside the others.
-    pub(crate) fn labor(
+    pub(crate) fn run_worker(
         &self,
         worker: Worker,
         shares: Shares<K, D>,
-    ) -> (Worker, Haul<W::Out>, Shares<K, D>)
+    ) -> (Worker, WorkerOutput<W::Out>, Shares<K, D>)
         requires begun { IsWorkerStart self.now.thieves.now worker shares }
         ensures ended { IsWorkerEnd W.seen W.kids_of W.out_of G.may_refuse self.now
             worker shares result.0 result.1 result.2 }
         ensures order { IsClean result.1 → AreInPieceOrder result.1.parcels.items }
     {
-        let (worker, haul, shares) = self.serve_all(worker, shares);
-        (worker, haul.sorted(), shares)
+        let (worker, worker_output, shares) = self.work_loop(worker, shares);
+        (worker, worker_output.sorted(), shares)
     }
 
     // Serves pieces until all that are known are delivered, or a worker met a fault. A worker that
     // finds no piece spins for a moment, then yields its processor, and tries again
     // (`Backoff::snooze`); it doesn't sleep.
-    fn serve_all(
+    fn work_loop(
         &self,
         mut worker: Worker,
         shares: Shares<K, D>,
-    ) -> (Worker, Haul<W::Out>, Shares<K, D>)
+    ) -> (Worker, WorkerOutput<W::Out>, Shares<K, D>)
         requires begun { IsWorkerStart self.now.thieves.now worker shares }
         ensures ended { IsWorkerEnd W.seen W.kids_of W.out_of G.may_refuse self.now
             worker shares result.0 result.1 result.2 }
     {
-        // Made by hand (3): a refused growth: the worker's haul says so, and the others know.
-        let mut haul = Haul::empty(self.alloc);
-        let mut notes = Notes::of(self.rt, self.tally, shares);
+        // Made by hand (3): a refused growth: the worker's output says so, and the others know.
+        let mut worker_output = WorkerOutput::empty(self.alloc);
+        let mut tally_handle = TallyHandle::of(self.rt, self.tally, shares);
         let idle = Backoff::new();
         for _ in self.rt.forever() {
-            match self.turn(&mut worker, &mut notes, &mut haul) {
-                Ok(Prospect::Work) => idle.reset(),
-                Ok(Prospect::Wait) => idle.snooze(),
-                Ok(Prospect::End(over)) => return (worker, haul, notes.into_shares(over)),
+            match self.step(&mut worker, &mut tally_handle, &mut worker_output) {
+                Ok(NextAction::Work) => idle.reset(),
+                Ok(NextAction::Wait) => idle.snooze(),
+                Ok(NextAction::End(finished)) => return (
+                    worker,
+                    worker_output,
+                    tally_handle.into_shares(finished),
+                ),
                 Err(AllocError) => {
-                    haul.starved = true;
-                    let over = notes.fail();
-                    return (worker, haul, notes.into_shares(over));
+                    worker_output.out_of_memory = true;
+                    let finished = tally_handle.fail();
+                    return (worker, worker_output, tally_handle.into_shares(finished));
                 }
             }
         }
@@ -140,24 +144,24 @@ impl<W: Work, G: Gate, R: Wait, K: Ledger, D: Ledger> Workshop<'_, W, G, R, K, D
 
     // Finds a piece and serves it, or notes all that was delivered where it finds none. Fails as
     // these do.
-    fn turn(
+    fn step(
         &self,
         worker: &mut Worker,
-        notes: &mut Notes<'_, R, K, D>,
-        haul: &mut Haul<W::Out>,
-    ) -> Result<Prospect, AllocError>
+        tally_handle: &mut TallyHandle<'_, R, K, D>,
+        worker_output: &mut WorkerOutput<W::Out>,
+    ) -> Result<NextAction, AllocError>
         requires passes { HasPasses self.now.thieves.now worker.old }
-        requires own { IsHaulOf W.seen W.kids_of W.out_of G.may_refuse self.now haul.old }
-        ensures turned { IsTurn W.seen W.kids_of W.out_of G.may_refuse self.now
-            worker.old worker.new notes.old notes.new haul.old haul.new }
-        ensures clean { IfOk result (λ next. IsClean haul.new
-            → IsCleanTurn worker.old worker.new notes.old notes.new haul.old haul.new next) }
+        requires own { IsWorkerOutputOf W.seen W.kids_of W.out_of G.may_refuse self.now worker_output.old }
+        ensures turned { IsWorkerStep W.seen W.kids_of W.out_of G.may_refuse self.now
+            worker.old worker.new tally_handle.old tally_handle.new worker_output.old worker_output.new }
+        ensures clean { IfOk result (λ next. IsClean worker_output.new
+            → IsCleanWorkerStep worker.old worker.new tally_handle.old tally_handle.new worker_output.old worker_output.new next) }
     {
         if let Some(piece) = worker.find(self.thieves) {
             let Worker { lane, others: _ } = worker;
-            return self.serve(lane, notes, haul, piece);
+            return self.serve(lane, tally_handle, worker_output, piece);
         }
-        notes.settle()
+        tally_handle.flush()
     }
 
     // Asks the gate, visits the piece, keeps its parcel, notes it, and only then pushes its kids.
@@ -165,29 +169,29 @@ impl<W: Work, G: Gate, R: Wait, K: Ledger, D: Ledger> Workshop<'_, W, G, R, K, D
     fn serve(
         &self,
         lane: &mut Lane,
-        notes: &mut Notes<'_, R, K, D>,
-        haul: &mut Haul<W::Out>,
+        tally_handle: &mut TallyHandle<'_, R, K, D>,
+        worker_output: &mut WorkerOutput<W::Out>,
         piece: Piece,
-    ) -> Result<Prospect, AllocError>
-        requires { IsHaulOf W.seen W.kids_of W.out_of G.may_refuse self.now haul.old }
+    ) -> Result<NextAction, AllocError>
+        requires { IsWorkerOutputOf W.seen W.kids_of W.out_of G.may_refuse self.now worker_output.old }
         ensures served { IsServed W.seen W.kids_of W.out_of G.may_refuse self.now
-            piece lane.old lane.new notes.old notes.new haul.old haul.new }
-        ensures clean { IfOk result (λ next. IsClean haul.new
+            piece lane.old lane.new tally_handle.old tally_handle.new worker_output.old worker_output.new }
+        ensures clean { IfOk result (λ next. IsClean worker_output.new
             → IsCleanServed (W.kids_of self.now.work.now piece)
-            piece lane.old lane.new notes.old notes.new haul.old haul.new next) }
+            piece lane.old lane.new tally_handle.old tally_handle.new worker_output.old worker_output.new next) }
     {
-        // Made by hand (1): the gate refused the piece: the haul says so, and the others know.
+        // Made by hand (1): the gate refused the piece: the output says so, and the others know.
         if !self.gate.pass(&piece) {
-            haul.refused = Some(piece);
-            return Ok(Prospect::End(notes.fail()));
+            worker_output.refused = Some(piece);
+            return Ok(NextAction::End(tally_handle.fail()));
         }
         let (kids, out) = self.work.visit(self.alloc, &piece)?;
         let below = copies(self.alloc, &kids)?;
         let count = kids.len() as u64;
-        haul.parcels.push(Parcel { piece, kids, out })?;
-        let prospect = notes.deliver(count)?;
+        worker_output.parcels.push(Parcel { piece, kids, out })?;
+        let next_action = tally_handle.deliver(count)?;
         push_all(lane, below)?;
-        Ok(prospect)
+        Ok(next_action)
     }
 }
 

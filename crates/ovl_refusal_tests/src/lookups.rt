@@ -4,7 +4,7 @@ ghost use Rattle.ovl_lookup.specs.Stacks.{all_layers};
 ghost use Rattle.ovl_lookup.specs.DirViews.{IsViewOver};
 
 use crate::samples::moved_stack;
-use ovl_lookup::{DirView, Look, Stack, Trail, walk};
+use ovl_lookup::{DirView, Look, PathRope, Stack, walk};
 use ovl_names::{Name, NameFault, Path, PathFault};
 use ovl_test_rows::expect_so;
 use std::alloc::{AllocError, Global};
@@ -13,9 +13,9 @@ use std::test::Fail;
 fn next_path(alloc: Global, stack: &Stack, path: &Path) -> Result<Path, AllocError>
     requires { 0 < length stack.now.layers }
 {
-    let trail = Trail::of(alloc, &path.names())?;
-    let own = stack.own_step(alloc, 0, &trail)?;
-    own.turned.unwrap_or(trail).path(alloc)
+    let rope = PathRope::of(alloc, &path.names())?;
+    let own = stack.own_step(alloc, 0, &rope)?;
+    own.turned.unwrap_or(rope).path(alloc)
 }
 
 fn has_nothing(alloc: Global, stack: &Stack, path: &Path) -> Result<bool, AllocError>
@@ -28,8 +28,8 @@ fn has_nothing(alloc: Global, stack: &Stack, path: &Path) -> Result<bool, AllocE
 fn goes_to(alloc: Global, stack: &Stack, path: &Path, next: &Path) -> Result<bool, AllocError>
     requires { 0 < length (all_layers stack.now) }
 {
-    let trail = Trail::of(alloc, &path.names())?;
-    let step = stack.own_walk(alloc, 0, trail)?.copied(alloc)?;
+    let rope = PathRope::of(alloc, &path.names())?;
+    let step = stack.own_walk(alloc, 0, rope)?.copied(alloc)?;
     Ok(step.next == *next && step.found.is_some() && !step.closed)
 }
 
@@ -47,9 +47,9 @@ fn is_walked(alloc: Global, stack: &Stack, path: &Path) -> Result<bool, AllocErr
     )
 }
 
-fn is_sighted(alloc: Global, stack: &Stack, path: &Path) -> Result<bool, AllocError> {
-    let trail = Trail::of(alloc, &path.names())?;
-    Ok(stack.sight(alloc, 0, trail)?.is_directory())
+fn has_shown_kind(alloc: Global, stack: &Stack, path: &Path) -> Result<bool, AllocError> {
+    let rope = PathRope::of(alloc, &path.names())?;
+    Ok(stack.shown_kind(alloc, 0, rope)?.is_directory())
 }
 
 fn is_looked_at(alloc: Global, stack: &Stack, path: &Path) -> Result<bool, AllocError> {
@@ -64,7 +64,7 @@ fn is_listed(alloc: Global, stack: &Stack, path: &Path) -> Result<bool, AllocErr
 fn is_shown(alloc: Global, stack: &Stack, path: &Path) -> Result<bool, AllocError> {
     Ok(
         is_looked_at(alloc, stack, path)?
-            && is_sighted(alloc, stack, path)?
+            && has_shown_kind(alloc, stack, path)?
             && is_listed(alloc, stack, path)?,
     )
 }

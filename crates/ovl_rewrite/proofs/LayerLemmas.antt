@@ -6,9 +6,9 @@ use Rattle.ovl_names.specs.Order.{ascends}
 use Rattle.ovl_inode.specs.declared.inodes.Inode.{Inode}
 use Rattle.ovl_layer.specs.Layers.{Entries, entry_cmp, IsLayer}
 use Rattle.ovl_layer.specs.LayerTrees.{entries_from}
-use Rattle.ovl_layer.specs.Siblings.{CanStand}
+use Rattle.ovl_layer.specs.SubtreeBuilder.{CanStand}
 use Rattle.ovl_layer.proofs.NodeLemmas.{placed-root}
-use Rattle.ovl_layer.proofs.SiblingLemmas.{stand-layer}
+use Rattle.ovl_layer.proofs.SubtreeBuilderLemmas.{stand-layer}
 use Rattle.ovl_board.specs.Pieces.{space_root}
 use Rattle.ovl_board.specs.Parcels.{IsPlain}
 use Rattle.ovl_board.proofs.LawsOfWalks.{IsPlain-from_preorder, HasReachedPieces-holds}

@@ -6,9 +6,9 @@ use Rattle.ovl_layer.specs.LayerTrees.{under, entries_from}
 use Rattle.ovl_board.specs.declared.works.Parcel.{Parcel}
 use Rattle.ovl_board.specs.Parcels.{parcel_view, parcel_views}
 use Rattle.ovl_rewrite.specs.Directories.{NamedInode}
-use Rattle.ovl_rewrite.specs.Passes.{InodesParcel, WalksUnder, StopsUnder, failed_siblings}
-use Rattle.ovl_layer.specs.declared.faults.SiblingFault.{SiblingFault}
-use Rattle.ovl_layer.specs.declared.faults.SiblingFault.TheVariants.{NoLayer, Memory as NoMemory}
+use Rattle.ovl_rewrite.specs.Passes.{InodesParcel, WalksUnder, StopsUnder, failed_subtree}
+use Rattle.ovl_layer.specs.declared.faults.SubtreeFault.{SubtreeFault}
+use Rattle.ovl_layer.specs.declared.faults.SubtreeFault.TheVariants.{NoLayer, Memory as NoMemory}
 use Rattle.ovl_rewrite.specs.declared.faults.RewriteFault.{RewriteFault}
 use Rattle.ovl_rewrite.specs.declared.faults.RewriteFault.TheVariants.{LimitOut, Memory}
 use Rattle.ovl_rewrite.proofs.UnderLemmas.{WalksAmong, walk-directory, walk-file, stops-directory}
@@ -72,7 +72,7 @@ pub walks-on : {R : Type 0} (views : R → List InodesParcel) (after : List Inod
 walks-on {R} views after last rest kids below moved same walk = subst (WalksUnder after (views last)) (sym same) (subst (λ (r : R). WalksUnder after (views r) below) (sym moved) walk)
 
 -- entries were refused as those of no layer
-pub no-layer : {T : Type 0} (fault : SiblingFault) (result : Result T RewriteFault) → result ≡ Err (failed_siblings fault) → result ≡ Err LimitOut → fault ≡ NoLayer
+pub no-layer : {T : Type 0} (fault : SubtreeFault) (result : Result T RewriteFault) → result ≡ Err (failed_subtree fault) → result ≡ Err LimitOut → fault ≡ NoLayer
 no-layer NoLayer result told is = refl
 no-layer NoMemory result told is =
     let same = sym told ∙ is in

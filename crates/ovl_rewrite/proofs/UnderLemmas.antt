@@ -9,9 +9,9 @@ use Rattle.ovl_names.specs.Paths.{PathNames, child_path}
 use Rattle.ovl_inode.specs.Marks.{is_directory}
 use Rattle.ovl_layer.specs.Layers.{Entries}
 use Rattle.ovl_layer.specs.LayerTrees.{placed, under, entries_from}
-use Rattle.ovl_layer.specs.Siblings.{CanStand}
+use Rattle.ovl_layer.specs.SubtreeBuilder.{CanStand}
 use Rattle.ovl_layer.proofs.NodeLemmas.{placed-append, placed-under}
-use Rattle.ovl_layer.proofs.SiblingLemmas.{stand-front, stand-back, stand-placed}
+use Rattle.ovl_layer.proofs.SubtreeBuilderLemmas.{stand-front, stand-back, stand-placed}
 use Rattle.ovl_board.specs.declared.pieces.Piece.{Piece}
 use Rattle.ovl_board.specs.Pieces.{piece_in}
 use Rattle.ovl_board.specs.Walks.{preorder}

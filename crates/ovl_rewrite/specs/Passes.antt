@@ -6,9 +6,9 @@ use Rattle.ovl_names.specs.Paths.{PathNames, child_path}
 use Rattle.ovl_inode.specs.Marks.{is_directory}
 use Rattle.ovl_layer.specs.Layers.{Entries}
 use Rattle.ovl_layer.specs.LayerTrees.{placed}
-use Rattle.ovl_layer.specs.Siblings.{CanStand}
-use Rattle.ovl_layer.specs.declared.faults.SiblingFault.{SiblingFault}
-use Rattle.ovl_layer.specs.declared.faults.SiblingFault.TheVariants.{NoLayer, Memory as NoMemory}
+use Rattle.ovl_layer.specs.SubtreeBuilder.{CanStand}
+use Rattle.ovl_layer.specs.declared.faults.SubtreeFault.{SubtreeFault}
+use Rattle.ovl_layer.specs.declared.faults.SubtreeFault.TheVariants.{NoLayer, Memory as NoMemory}
 use Rattle.ovl_board.specs.declared.pieces.Piece.{Piece}
 use Rattle.ovl_board.specs.Pieces.{HasLawfulKids}
 use Rattle.ovl_board.specs.Walks.{preorder}
@@ -69,6 +69,6 @@ StopsUnder before =
     → CanStand (entries_under tree (deepest - length piece.dir) piece.dir) → ⊥
 
 -- what it says that entries aren't put together
-abbrev pub failed_siblings : SiblingFault → RewriteFault
-failed_siblings NoLayer = LimitOut
-failed_siblings NoMemory = Memory
+abbrev pub failed_subtree : SubtreeFault → RewriteFault
+failed_subtree NoLayer = LimitOut
+failed_subtree NoMemory = Memory

@@ -1,9 +1,9 @@
 //! Why no new layer is given.
 ghost use Rattle.std.specs.Prelude.{◌≡◌};
-ghost use Rattle.ovl_rewrite.specs.Passes.{failed_siblings};
+ghost use Rattle.ovl_rewrite.specs.Passes.{failed_subtree};
 ghost use Rattle.ovl_rewrite.specs.declared.faults.RewriteFault.TheVariants.{Memory};
 
-use ovl_layer::SiblingFault;
+use ovl_layer::SubtreeFault;
 use std::alloc::AllocError;
 use thiserror::Error;
 
@@ -27,13 +27,13 @@ impl From<AllocError> for RewriteFault {
     }
 }
 
-impl From<SiblingFault> for RewriteFault {
-    ghost from_gives = { λ fault told. told ≡ failed_siblings fault };
+impl From<SubtreeFault> for RewriteFault {
+    ghost from_gives = { λ fault told. told ≡ failed_subtree fault };
 
-    fn from(fault: SiblingFault) -> RewriteFault {
+    fn from(fault: SubtreeFault) -> RewriteFault {
         match fault {
-            SiblingFault::NoLayer => RewriteFault::LimitOut,
-            SiblingFault::Memory => RewriteFault::Memory,
+            SubtreeFault::NoLayer => RewriteFault::LimitOut,
+            SubtreeFault::Memory => RewriteFault::Memory,
         }
     }
 }

@@ -13,7 +13,7 @@ ghost use Rattle.ovl_rewrite.specs.NewLayers.{NewLayer, IsOf, IsToldBy};
 use crate::RewriteFault;
 use ovl_board::Parcel;
 use ovl_inode::{Inode, is_directory};
-use ovl_layer::{Layer, Siblings};
+use ovl_layer::{Layer, SubtreeBuilder};
 use ovl_names::Name;
 use std::alloc::Global;
 use std::vec::IntoIter;
@@ -49,7 +49,7 @@ pub(crate) fn layer_told(
 fn next_below(
     alloc: Global,
     rest: &mut IntoIter<Parcel<Vec<(Name, Inode)>>>,
-) -> Result<Siblings, RewriteFault>
+) -> Result<SubtreeBuilder, RewriteFault>
     ensures fewer { OnOk result
         (length (into_iter_items rest.new) ≤ length (into_iter_items rest.old)) }
     ensures entries { IfOk result
@@ -61,14 +61,14 @@ fn next_below(
         (λ _. ⊥) }
 {
     let Some(Parcel { out, .. }) = rest.next() else {
-        return Ok(Siblings::none(alloc));
+        return Ok(SubtreeBuilder::none(alloc));
     };
-    let mut siblings = Siblings::with_room(alloc, out.len())?;
+    let mut siblings = SubtreeBuilder::with_room(alloc, out.len())?;
     for (name, inode) in out {
         let below = if is_directory(&inode) {
             next_below(alloc, rest)?
         } else {
-            Siblings::none(alloc)
+            SubtreeBuilder::none(alloc)
         };
         siblings.add(name, inode, below)?;
     }

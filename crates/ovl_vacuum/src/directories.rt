@@ -16,7 +16,7 @@ ghost use Rattle.ovl_vacuum.specs.Visits.{IsTopDirectory, IsBelowTop, is_metacop
 
 use ovl_board::Piece;
 use ovl_inode::{Inode, Mark, is_directory, visible};
-use ovl_lookup::{DirView, Look, OwnDirectory, Stack, Trail};
+use ovl_lookup::{DirView, Look, OwnDirectory, PathRope, Stack};
 use ovl_names::{Name, Path};
 use std::alloc::{AllocError, Global};
 
@@ -183,7 +183,7 @@ impl<'a> TopDirectory<'a> {
             (look self.now.stack.now (child_path self.now.piece.now.dir name.now))) }
         ensures whole { IfSome whole.new (IsViewOf self.now.stack.now 0 self.now.piece.now.dir) }
     {
-        let shown = DirView::look_kept(alloc, self.stack, whole, &self.piece.dir, name)?;
+        let shown = DirView::look_cached(alloc, self.stack, whole, &self.piece.dir, name)?;
         Ok(*lower == shown)
     }
 }
@@ -210,7 +210,7 @@ fn view_below<'a>(
     alloc: Global,
     stack: &'a Stack,
     path: &'a Path,
-    turned: Option<Trail<'a>>,
+    turned: Option<PathRope<'a>>,
     closed: bool,
 ) -> Result<Option<DirView<'a>>, AllocError>
     ensures { IfOk result (IsBelowTop stack.now (unwrap_or turned.entry path.now) closed) }

@@ -6,7 +6,7 @@ ghost use Rattle.ovl_lookup.specs.Words.{top_layer, lower_layers};
 ghost use Rattle.ovl_layer.specs.Layers.{entry_limit};
 ghost use Rattle.ovl_layer.specs.Entries.{entry_after, stated_pair};
 ghost use Rattle.ovl_layer.specs.Sheets.{path_at};
-ghost use Rattle.ovl_layer.specs.Drafts.{draft_entries, IsDraft};
+ghost use Rattle.ovl_layer.specs.LayerBuilders.{builder_entries, IsLayerBuilder};
 ghost use Rattle.ovl_vacuum.specs.Directories.{names_seen, IsVacuumWalk};
 ghost use Rattle.ovl_vacuum.specs.Passes.{idle_flags, gone_flags, names_told, TellsBelow, IsLeftTo};
 ghost use Rattle.ovl_vacuum.specs.Vacuum.{is_idle_throughout, vacuumed_layer, removed_paths};
@@ -15,7 +15,7 @@ use crate::places::{DirectoryAbove, directory_of, path_in};
 use crate::works::VacuumWork;
 use ovl_board::Parcel;
 use ovl_inode::{Inode, is_directory};
-use ovl_layer::{Draft, Layer, start_root};
+use ovl_layer::{Layer, LayerBuilder, start_root};
 use ovl_lookup::Stack;
 use ovl_names::{Name, Path};
 use std::alloc::{AllocError, Global};
@@ -136,13 +136,13 @@ fn layer_left(alloc: Global, stack: &Stack, gone: &[bool]) -> Result<Layer, Allo
             rest = rest.with_row(alloc, stack, number)?;
         }
     }
-    rest.draft.finish()
+    rest.builder.finish()
 }
 
 // The layer of the rows that stay, while it is built.
 #[derive(Drop)]
 struct Remainder {
-    draft: Draft,
+    builder: LayerBuilder,
     // How many entries it has.
     count: u32,
     above: DirectoryAbove,
@@ -155,7 +155,7 @@ impl Remainder {
     {
         let root = stack.top().inode(0).copy(alloc)?;
         Ok(Remainder {
-            draft: begun(alloc, root)?,
+            builder: begun(alloc, root)?,
             count: 1,
             above: DirectoryAbove::root(alloc),
         })
@@ -171,7 +171,7 @@ impl Remainder {
         ensures { IfOk result (IsLeftTo stack.now (number + 1)) }
     {
         let Remainder {
-            draft,
+            builder,
             count,
             mut above,
         } = self;
@@ -180,7 +180,7 @@ impl Remainder {
         let name = sheet.name(number).unwrap().copy(alloc)?;
         let inode = sheet.inode(number).copy(alloc)?;
         Ok(Remainder {
-            draft: with_child(alloc, draft, count, &above.path, name, inode)?,
+            builder: with_child(alloc, builder, count, &above.path, name, inode)?,
             count: count + 1,
             above,
         })
@@ -189,40 +189,40 @@ impl Remainder {
 
 // The layer of only a root. What vacuum leaves is a layer, so this fails only when out
 // of memory.
-fn begun(alloc: Global, root: Inode) -> Result<Draft, AllocError>
+fn begun(alloc: Global, root: Inode) -> Result<LayerBuilder, AllocError>
     ensures { IfOk result
-        (λ draft. (entry_after [] (stated_pair ([], root)) ≡ Ok (draft_entries draft))
-        × IsDraft draft) }
+        (λ builder. (entry_after [] (stated_pair ([], root)) ≡ Ok (builder_entries builder))
+        × IsLayerBuilder builder) }
 {
-    // Made by hand (1): entries of a layer are one, so no other fault of the draft comes.
+    // Made by hand (1): entries of a layer are one, so no other fault of the builder comes.
     match start_root(alloc, root) {
-        Ok(draft) => Ok(draft),
+        Ok(builder) => Ok(builder),
         Err(_) => Err(AllocError),
     }
 }
 
-// The draft with the entry `name` of a directory, after this many others. This too fails only
+// The builder with the entry `name` of a directory, after this many others. This too fails only
 // when out of memory.
 fn with_child(
     alloc: Global,
-    draft: Draft,
+    builder: LayerBuilder,
     count: u32,
     directory: &Path,
     name: Name,
     inode: Inode,
-) -> Result<Draft, AllocError>
-    requires draft { IsDraft draft }
-    requires count { count ≡ length (draft_entries draft) }
+) -> Result<LayerBuilder, AllocError>
+    requires builder { IsLayerBuilder builder }
+    requires count { count ≡ length (builder_entries builder) }
     requires room { count < entry_limit }
     ensures { IfOk result
         (λ more.
-        (entry_after (draft_entries draft) (stated_pair (child_path directory.now name, inode))
-        ≡ Ok (draft_entries more))
-        × IsDraft more) }
+        (entry_after (builder_entries builder) (stated_pair (child_path directory.now name, inode))
+        ≡ Ok (builder_entries more))
+        × IsLayerBuilder more) }
 {
-    // Made by hand (1): entries of a layer are one, so no other fault of the draft comes.
-    match draft.with_child(alloc, count, directory, name, inode) {
-        Ok(draft) => Ok(draft),
+    // Made by hand (1): entries of a layer are one, so no other fault of the builder comes.
+    match builder.with_child(alloc, count, directory, name, inode) {
+        Ok(builder) => Ok(builder),
         Err(_) => Err(AllocError),
     }
 }

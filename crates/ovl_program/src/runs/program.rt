@@ -29,7 +29,7 @@ pub fn run<
         + Wait
         + Sync,
 >(rt: &R) -> u8 {
-    match obey(rt) {
+    match dispatch(rt) {
         Ok(ending) => ending.status(),
         Err(fault) => {
             tell(rt, &fault);
@@ -38,7 +38,7 @@ pub fn run<
     }
 }
 
-fn obey<
+fn dispatch<
     R: Env
         + Files
         + SharedFiles

@@ -92,7 +92,7 @@ loop-name-preserved-then-matches c =
 pub overflow_add-depth : goal.overflow_add-depth
 overflow_add-depth c =
     let way = c.loop-name.invariant in
-    let whole : length c.args.trail.now ≡ length way.0 + 1 + length c.next.new.self = sym (ap length (ap (λ (names : PathNames). way.0 ++ names) (sym c.in-Some.ensures.steps) ∙ way.1)) ∙ length-seam way.0 c.in-Some.name.now c.next.new.self in
+    let whole : length c.args.rope.now ≡ length way.0 + 1 + length c.next.new.self = sym (ap length (ap (λ (names : PathNames). way.0 ++ names) (sym c.in-Some.ensures.steps) ∙ way.1)) ∙ length-seam way.0 c.in-Some.name.now c.next.new.self in
     omega (arith, whole, way.2, c.names-name-items.ensures.few)
 
 pub enter-requires-clause-depth : goal.enter-requires-clause-depth

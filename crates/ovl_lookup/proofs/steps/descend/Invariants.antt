@@ -6,5 +6,5 @@ use Rattle.ovl_lookup.proofs.steps.descend.Given as goal
 -- the names so far lead to a directory, that of the row
 abbrev pub invariant-loop-name : goal.invariant-loop-name
 invariant-loop-name l =
-    (above : PathNames) × (above ++ l.name-iterator ≡ l.trail) × (l.depth ≡ length above)
+    (above : PathNames) × (above ++ l.name-iterator ≡ l.rope) × (l.depth ≡ length above)
     × IsOwnDirectory l.sheet above l.own

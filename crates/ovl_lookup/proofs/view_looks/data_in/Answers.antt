@@ -40,7 +40,7 @@ returns-in-At c =
     let stack : StackView = c.args.stack.now in
     let origin : PathNames = c.in-At.origin.now in
     let from_root = things_found (drop ((place_read c.args.places.now c.loop-place.place-index).layer + 1) stack.layers) in
-    let same = ap (λ (p : PathNames). data_below stack.data_only (Some origin) (from_root p)) (c.in_ok-trail-in-At.ensures ∙ c.names.ensures.value)
+    let same = ap (λ (p : PathNames). data_below stack.data_only (Some origin) (from_root p)) (c.in_ok-rope-in-At.ensures ∙ c.names.ensures.value)
     ∙ sym (sym c.loop-place.invariant ∙ path-holds c.args.stack.now c.loop-place.own.now c.args.places.now c.loop-place.place-index c.loop-place-test.true c.in-Some.entry c.in-Some.ensures (sym c.is_whiteout.ensures ∙ c.if-is_whiteout.false) (sym c.is_well_formed_metacopy.ensures ∙ c.if-not-is_well_formed_metacopy.false) origin (sym c.in-At.ensures.at)) in
     subst (λ (wanted : Option Inode). IfOk c.data.result (λ found. option_map (λ inode. inode.now) found ≡ wanted)) same c.data.ensures
 

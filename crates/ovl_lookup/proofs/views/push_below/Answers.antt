@@ -52,7 +52,7 @@ returns-in-At c =
     let from_root : PathNames → List ReachedDirectory = λ path. let own : DirPlace = place_read places c.loop-place.place-index in reached (drop (own.layer + 1) stack.layers) (own.layer + 1) path in
     on_ok_weaker c.push_reached.result
     (λ adds. record {
-      places = adds.places ∙ ap (λ (path : PathNames). places_in stack c.push.new.self.items ++ from_root path) (c.in_ok-trail-in-At.ensures ∙ c.names.ensures.value) ∙ pushed.0 (from_root origin) (on-path c.loop-place.own.now _ _ c.in-Some.entry.mark.now origin (sym c.in-At.ensures.at));
+      places = adds.places ∙ ap (λ (path : PathNames). places_in stack c.push.new.self.items ++ from_root path) (c.in_ok-rope-in-At.ensures ∙ c.names.ensures.value) ∙ pushed.0 (from_root origin) (on-path c.loop-place.own.now _ _ c.in-Some.entry.mark.now origin (sym c.in-At.ensures.at));
       over = λ all. adds.over (pushed.1 all);
     }) c.push_reached.ensures
 

@@ -12,7 +12,7 @@ returns-then-closed c =
       | in-Some+in_ok-push w ↦ ap (λ v. v.items) w.places-is ∙ w.in_ok-push.ensures.items ∙ ap (λ (row : Option ℕ). c.loop-layer.places.items ++ places_of c.loop-layer.layer row) (sym w.in-Some.is)
       | in_default w ↦ ap (λ v. v.items) w.places-is ∙ sym (append-nil c.loop-layer.places.items) ∙ ap (λ (row : Option ℕ). c.loop-layer.places.items ++ places_of c.loop-layer.layer row) (sym w.in_default.is)
     ] in
-    let step = arrival-step c.args.stack.now c.loop-layer.layer c.sheet.result.now c.loop-layer.trail at.row at.next at.closed true c.sheet.ensures c.in_ok-row.ensures c.if-closed.true c.args.places.now.items c.loop-layer.places.items c.match-row.places.items _ items c.loop-layer.invariant.over c.loop-layer.invariant.places in
+    let step = arrival-step c.args.stack.now c.loop-layer.layer c.sheet.result.now c.loop-layer.rope at.row at.next at.closed true c.sheet.ensures c.in_ok-row.ensures c.if-closed.true c.args.places.now.items c.loop-layer.places.items c.match-row.places.items _ items c.loop-layer.invariant.over c.loop-layer.invariant.places in
     record { places = sym (append-nil (places_in c.args.stack.now c.match-row.places.items)) ∙ step.0; over = step.1 }
 
 pub loop-layer-preserved : goal.loop-layer-preserved
@@ -22,5 +22,5 @@ loop-layer-preserved c =
       | in-Some+in_ok-push w ↦ ap (λ v. v.items) w.places-is ∙ w.in_ok-push.ensures.items ∙ ap (λ (row : Option ℕ). c.loop-layer.places.items ++ places_of c.loop-layer.layer row) (sym w.in-Some.is)
       | in_default w ↦ ap (λ v. v.items) w.places-is ∙ sym (append-nil c.loop-layer.places.items) ∙ ap (λ (row : Option ℕ). c.loop-layer.places.items ++ places_of c.loop-layer.layer row) (sym w.in_default.is)
     ] in
-    let step = arrival-step c.args.stack.now c.loop-layer.layer c.sheet.result.now c.loop-layer.trail at.row at.next at.closed false c.sheet.ensures c.in_ok-row.ensures c.if-closed.false c.args.places.now.items c.loop-layer.places.items c.match-row.places.items _ items c.loop-layer.invariant.over c.loop-layer.invariant.places in
+    let step = arrival-step c.args.stack.now c.loop-layer.layer c.sheet.result.now c.loop-layer.rope at.row at.next at.closed false c.sheet.ensures c.in_ok-row.ensures c.if-closed.false c.args.places.now.items c.loop-layer.places.items c.match-row.places.items _ items c.loop-layer.invariant.over c.loop-layer.invariant.places in
     record { places = step.0; over = step.1 }

@@ -16,13 +16,13 @@ redirected-requires-clause-place c = rw c.in-Some.is at c.in_ok-place.ensures.re
 pub returns-in-Some-clause-inode : goal.returns-in-Some-clause-inode
 returns-in-Some-clause-inode c =
     let m = merge_of c.args.stack.now in
-    IfOk-weaker c.redirected.result _ _ (λ new h. metacopy-on m c.args.above.now.path c.args.passage.now.name.now c.args.found.now.inode.now c.in_ok-shown.shown c.in_ok-shown.ensures new
+    IfOk-weaker c.redirected.result _ _ (λ new h. metacopy-on m c.args.above.now.path c.args.name_in_both.now.name.now c.args.found.now.inode.now c.in_ok-shown.shown c.in_ok-shown.ensures new
     (rw c.in-Some.is at c.in_ok-place.ensures.goes) c.in_ok-copied.copied c.in_ok-copied.ensures h) c.redirected.ensures
 
 pub returns-in-Some-2-clause-inode : goal.returns-in-Some-2-clause-inode
 returns-in-Some-2-clause-inode c =
     let m = merge_of c.args.stack.now in
-    let path : PathNames = child_path c.args.above.now.path c.args.passage.now.name.now in
+    let path : PathNames = child_path c.args.above.now.path c.args.name_in_both.now.name.now in
     let none : reach m path ≡ None = sym (rw (not-some c.in_ok-place.field-0 c.in_default.not-Some) at c.in_ok-place.ensures.reach) in
     let kept = c.in_ok-kept.ensures ∙ ap (kept_place m) c.in_ok-path.ensures in
     subst (λ (i : Inode). IfOk c.with_value-in-Some-2-2.result (λ new. new ≡ i))
@@ -32,7 +32,7 @@ returns-in-Some-2-clause-inode c =
 pub returns-clause-inode : goal.returns-clause-inode
 returns-clause-inode c =
     let m = merge_of c.args.stack.now in
-    let path : PathNames = child_path c.args.above.now.path c.args.passage.now.name.now in
+    let path : PathNames = child_path c.args.above.now.path c.args.name_in_both.now.name.now in
     let none : reach m path ≡ None = sym (rw (not-some c.in_ok-place.field-0 c.in_default.not-Some) at c.in_ok-place.ensures.reach) in
     let kept = c.in_ok-kept.ensures ∙ ap (kept_place m) c.in_ok-path.ensures in
     subst (λ (i : Inode). IfOk c.with_contents.result (λ new. new ≡ i))

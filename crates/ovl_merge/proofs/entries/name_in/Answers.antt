@@ -1,15 +1,15 @@
 use Rattle.std.proofs.Common.{◌≡◌, ◌∙◌, Bool, true, false, sym, ap}
 use Rattle.ovl_names.specs.Paths.{PathNames, path_eq}
-use Rattle.ovl_lookup.specs.Trails.{trail_eq}
-use Rattle.ovl_lookup.proofs.LawsOfPaths.{trail_eq-path}
+use Rattle.ovl_lookup.specs.PathRopes.{rope_eq}
+use Rattle.ovl_lookup.proofs.LawsOfPaths.{rope_eq-path}
 use Rattle.ovl_merge.specs.declared.bases.Base.{Base}
 use Rattle.ovl_merge.specs.Reckoned.{name_directly_in, reached_in}
 use Rattle.ovl_merge.proofs.VisitLemmas.{name-in}
 use Rattle.ovl_merge.proofs.entries.name_in.Goals as goal
 
--- whether the trails are equal is whether the paths are
-same-path : (trail above view own : PathNames) → trail ≡ above → own ≡ view → (b : Bool) → trail_eq trail own ≡ b → path_eq above view ≡ b
-same-path trail above view own is there b e = sym (trail_eq-path above view) ∙ ((λ j. trail_eq (sym is j) (sym there j)) ∙ e)
+-- whether the ropes are equal is whether the paths are
+same-path : (rope above view own : PathNames) → rope ≡ above → own ≡ view → (b : Bool) → rope_eq rope own ≡ b → path_eq above view ≡ b
+same-path rope above view own is there b e = sym (rope_eq-path above view) ∙ ((λ j. rope_eq (sym is j) (sym there j)) ∙ e)
 
 pub returns-then-eq : goal.returns-then-eq
 returns-then-eq c =

@@ -5,7 +5,7 @@ use Rattle.std.proofs.lemmas.Iterator.Adapters.{YieldsList-from_vec}
 use Rattle.std.proofs.lemmas.Result.{IfOk-weaker}
 use Rattle.itertools.specs.List.{merge_by}
 use Rattle.itertools.proofs.TwoLemmas.{YieldsList-from_gives_of_both}
-use Rattle.ovl_pool.specs.Hauls.{AreInPieceOrder}
+use Rattle.ovl_pool.specs.WorkerOutputs.{AreInPieceOrder}
 use Rattle.ovl_pool.proofs.MergeLemmas.{is_first, merge-in_order, merge-permuted}
 use Rattle.ovl_pool.proofs.merging.merge.Goals as goal
 

@@ -1,6 +1,6 @@
 use Rattle.std.proofs.Common.{rules, ◌≤◌, length, arith}
 use Rattle.ovl_pool.specs.Flows.{indicator}
-use Rattle.ovl_pool.proofs.CrewLemmas.{whole_lanes}
+use Rattle.ovl_pool.proofs.WorkerThreadLemmas.{whole_lanes}
 use Rattle.ovl_pool.proofs.seating.close_lanes.Goals as goal
 
 pub counts_of_lanes-requires-clause-whole : goal.counts_of_lanes-requires-clause-whole

@@ -31,7 +31,7 @@ loop-number-preserved c =
       left = elim c.if-not-gone-number.branch [
         | then-not-gone-number+in_ok-rest-2 w ↦ subst (IsLeftTo stack (number + 1)) (sym w.rest-is) w.in_ok-rest-2.ensures
         | else-not-gone-number w ↦ subst (IsLeftTo stack (number + 1)) (sym w.rest-is) (record {
-          draft = left.draft;
+          builder = left.builder;
           entries = left-passed stack is number inside _ (sym (goes-flag stack number inside c.args.gone.now c.requires) ∙ w.if-not-gone-number.false) left.entries;
           count = left.count;
           above = left.above;

@@ -4,7 +4,7 @@ use Rattle.ovl_names.specs.Names.{PathName}
 use Rattle.ovl_names.specs.Paths.{child_path}
 use Rattle.ovl_layer.specs.Sheets.{last_name}
 use Rattle.ovl_layer.proofs.SheetLemmas.{last_name-child}
-use Rattle.ovl_lookup.specs.Onwards.{next_on, closed_on}
+use Rattle.ovl_lookup.specs.NextLookups.{next_on, closed_on}
 use Rattle.ovl_lookup.proofs.WalkFacts.{entry-entered}
 use Rattle.ovl_lookup.proofs.steps.OwnDirectory.enter.Goals as goal
 

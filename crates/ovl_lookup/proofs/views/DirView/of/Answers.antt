@@ -5,4 +5,4 @@ use Rattle.ovl_lookup.specs.DirViews.{IsSought}
 use Rattle.ovl_lookup.proofs.views.DirView.of.Goals as goal
 
 pub returns : goal.returns
-returns c = subst (λ (path : PathNames). IfOk c.at.result (IsSought c.args.stack.now c.args.from path)) (c.in_ok-trail.ensures ∙ c.names.ensures.value) c.at.ensures
+returns c = subst (λ (path : PathNames). IfOk c.at.result (IsSought c.args.stack.now c.args.from path)) (c.in_ok-rope.ensures ∙ c.names.ensures.value) c.at.ensures

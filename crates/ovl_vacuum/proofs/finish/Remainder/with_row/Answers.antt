@@ -6,7 +6,7 @@ use Rattle.ovl_inode.specs.declared.inodes.Inode.{Inode}
 use Rattle.ovl_layer.specs.Layers.{Entries, entry_at, entry_limit}
 use Rattle.ovl_layer.specs.Sheets.{path_at, last_name}
 use Rattle.ovl_layer.specs.Entries.{stated_pair}
-use Rattle.ovl_layer.specs.Drafts.{draft_entries}
+use Rattle.ovl_layer.specs.LayerBuilders.{builder_entries}
 use Rattle.ovl_layer.proofs.EntryLemmas.{one_more}
 use Rattle.ovl_lookup.specs.Stacks.{StackView}
 use Rattle.ovl_lookup.specs.Words.{top_layer}
@@ -39,9 +39,9 @@ returns c =
     sym (c.name.ensures ∙ (λ j. last_name (path_at (same j) c.args.number))) ∙ (ap (option_map (λ name. name.now)) c.unwrap.ensures ∙ ap (λ (n : PathName). Some n) (sym c.in_ok-name.ensures)) in
     let taken = c.in_ok-with_child.ensures in
     record {
-      draft = taken.1;
-      entries = left-child stack is c.args.number c.requires.inside (draft_entries c.args.self.draft) (draft_entries c.in_ok-with_child.field-0) c.go_to.new.self.path c.in_ok-name.name c.in_ok-inode.inode
+      builder = taken.1;
+      entries = left-child stack is c.args.number c.requires.inside (builder_entries c.args.self.builder) (builder_entries c.in_ok-with_child.field-0) c.go_to.new.self.path c.in_ok-name.name c.in_ok-inode.inode
           c.requires.stays c.requires.left.entries parent named at taken.0;
-      count = omega (arith, c.requires.left.count, one_more (draft_entries c.args.self.draft) (stated_pair (child_path c.go_to.new.self.path c.in_ok-name.name, c.in_ok-inode.inode)) (draft_entries c.in_ok-with_child.field-0) taken.0);
+      count = omega (arith, c.requires.left.count, one_more (builder_entries c.args.self.builder) (stated_pair (child_path c.go_to.new.self.path c.in_ok-name.name, c.in_ok-inode.inode)) (builder_entries c.in_ok-with_child.field-0) taken.0);
       above = subst (λ (l : Entries). IsDirectoryAbove l c.go_to.new.self) same c.in_ok-go_to.ensures.path;
     }

@@ -1,9 +1,0 @@
-use Rattle.std.proofs.Common.{◌∷◌, [], ◌++◌, ◌∙◌, ap}
-use Rattle.ovl_board.specs.Machine.{start_desks}
-use Rattle.ovl_board.proofs.CoreLemmas.{start_desks-more}
-use Rattle.ovl_board.proofs.cores.start_desks.Goals as goal
-
-pub loop-preserved : goal.loop-preserved
-loop-preserved c =
-    c.in_ok-push-2.ensures.items ∙ (ap (λ ds. ds ++ c.new.result ∷ []) c.loop.invariant
-    ∙ (ap (λ d. start_desks c.args.root c.loop.counter ++ d ∷ []) c.new.ensures ∙ start_desks-more c.args.root c.loop.counter c.loop.auto.counter))

@@ -1,0 +1,19 @@
+use Rattle.std.proofs.Common.{◌∙◌, List, sym, ap, subst}
+use Rattle.std.specs.List.{All}
+use Rattle.ovl_inode.specs.declared.inodes.Inode.{Inode}
+use Rattle.ovl_layer.specs.Layers.{IsLayer}
+use Rattle.ovl_lookup.specs.Stacks.{StackView}
+use Rattle.ovl_lookup.specs.Merged.{shown_of}
+use Rattle.ovl_lookup.specs.ShownKinds.{shown_kind_of}
+use Rattle.ovl_lookup.specs.Views.{found_below}
+use Rattle.ovl_lookup.specs.DirViews.{places_in}
+use Rattle.ovl_lookup.proofs.ViewLemmas.{views-find}
+use Rattle.ovl_lookup.proofs.views.DirView.shown_kind.Goals as goal
+
+pub returns : goal.returns
+returns c =
+    let stack : StackView = c.args.stack.now in
+    let each : All IsLayer stack.layers = subst (λ (s : StackView). All IsLayer s.layers) c.stack.view_is c.stack.invariant.2 in
+    let same = ap (found_below stack.layers c.args.name.now) (ap (places_in stack) c.deref.ensures.value ∙ c.requires.reached)
+    ∙ sym (views-find stack each c.args.self.now.from c.args.self.now.path c.args.name.now) in
+    c.shown_kind_in.ensures ∙ ap (λ (found : List Inode). shown_kind_of (shown_of stack.data_only found)) same
