@@ -33,7 +33,7 @@ CLAUSES = ["IsOutcome", "is_outside", "request_of", "makes_layers", "KeepsTree",
 # The words of code that make by hand, or are matched by, a fault for being out of memory, or of reading or writing.
 MADE = (
     r"\bAllocError\b(?!\s*[>{;])|\bAllocFailed\b(?!\s*[<>{;])|Fault::Memory\b|\bOutOfMemory\b|\bUnread\b(?!\s*[>{;(])"
-    r"|\bstarved (?:=|: true)|\.fail\(\)"
+    r"|\bout_of_memory (?:=|: true)|\.fail\(\)"
     r"|\bReadFault::(?:Device|TooLong)\b|\bProgramFault::(?:Input|Unread|Unwritten|Output)\b|\bErr\(\w*PartFault::"
 )
 TESTS = {"ovl_test_rows", "ovl_pool_tests", "ovl_engine_tests", "ovl_program_tests", "ovl_refusal_tests"}

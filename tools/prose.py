@@ -2,8 +2,7 @@
 """Looks at the words of documents and comments: turns that are refused, and how long each document may be.
 
 A turn is refused in prose and in comments of the crates: not in code, not in what a script makes, not in a word that is
-explained. A word counts if it
-has a letter or a digit; blocks of code, comments and what a script makes don't count.
+explained. A word counts if it has a letter or a digit; blocks of code, comments and what a script makes don't count.
 
     python3 -B tools/prose.py             # what is refused, and what is too long
     python3 -B tools/prose.py --lengths   # the words of each document
@@ -20,7 +19,7 @@ TOP = Path(__file__).resolve().parent.parent
 # The most words of each document, and of all together.
 LENGTHS = {
     "README.md": 1_100, "docs/TUTORIAL.md": 2_000, "docs/ARCHITECTURE.md": 1_500, "docs/DEVELOPING.md": 1_200,
-    "docs/HEADLINE.md": 2_500, "docs/PROVED.md": 1_200, "docs/GLOSSARY.md": 1_200, "docs/GATE.md": 400,
+    "docs/HEADLINE.md": 2_500, "docs/PROVED.md": 1_200, "docs/GLOSSARY.md": 900, "docs/GATE.md": 400,
     "docs/DECISIONS.md": 5_200, "docs/PROFILE.md": 5_300, "docs/FORMATS.md": 2_700,
     "convert/README.md": 4_350, "bench/README.md": 600, "bench/FIGURES.md": 2_200, "examples/README.md": 600,
     "tests/README.md": 600, "docs/CI.md": 200,

@@ -51,7 +51,7 @@ impl Model for SubtreeBuilder {
 }
 
 impl SubtreeBuilder {
-    /// None.
+    /// No entries yet.
     pub fn none(alloc: Global) -> SubtreeBuilder
         ensures { result ≡ [] }
     {
@@ -61,7 +61,7 @@ impl SubtreeBuilder {
         }
     }
 
-    /// None, with room for this many in the directory; fails only when out of memory.
+    /// No entries yet, with room for this many in the directory; fails only when out of memory.
     pub fn with_room(alloc: Global, siblings: usize) -> Result<SubtreeBuilder, AllocError>
         ensures { IfOk result (λ none. none ≡ []) }
     {

@@ -20,7 +20,7 @@ pub enum ShownKind {
 }
 
 impl ShownKind {
-    /// That of an inode that is shown.
+    /// The kind of an inode that is shown.
     pub(crate) fn of(inode: &Inode) -> ShownKind
         ensures { result ≡ shown_kind_of_kind inode.now.kind }
     {

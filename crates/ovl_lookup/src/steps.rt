@@ -172,8 +172,8 @@ impl<'a> OwnStep<'a> {
     }
 }
 
-// The path that goes on past this many names of the rope, which lead to a directory that is known
-// by another path, if marks turn it.
+// The rope with the path by which its first `depth` names are known one layer down in their place,
+// if marks turn it.
 fn past<'a>(
     turned: Option<PathRope<'a>>,
     rope: &PathRope<'a>,
