@@ -5,6 +5,7 @@ import io
 import json
 import os
 import shutil
+import signal
 import subprocess
 import sys
 import tempfile
@@ -24,6 +25,7 @@ from convert.common import progress  # noqa: E402
 from convert.image import ahead  # noqa: E402
 from convert.model.attributes import can_read_trusted  # noqa: E402
 
+signal.signal(signal.SIGHUP, signal.SIG_DFL)  # tests send it, and nohup has it ignored
 progress._EVERY_LINE = 1_000_000.0  # so that on a slow machine no step prints lines that no test waits for
 
 _SIDE_BY_SIDE = """
