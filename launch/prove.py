@@ -229,7 +229,7 @@ def report_what_it_takes(is_first: bool) -> None:
     if not is_first:
         say("what has changed since the last build is proved anew, which takes minutes or longer.")
         return
-    say("nothing was proved here before: this takes some 65 minutes of processor time, 25 to 40 minutes on 4 processors.")
+    say("nothing was proved here before: this takes some 75 minutes of processor time, 25 to 40 minutes on 4 processors.")
     say("meanwhile, with --unproved as the first word, ./layers and ./ovl_layers run the program without proofs.")
 
 
