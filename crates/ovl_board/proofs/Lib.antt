@@ -12,3 +12,4 @@ pub mod TreeLemmas
 pub mod LawLemmas
 pub mod SubtreeLemmas
 pub mod DescentLemmas
+pub mod LawsOfChildren

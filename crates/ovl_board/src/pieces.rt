@@ -1,5 +1,6 @@
 //! A piece of work. It must not know what a piece means to a work.
-ghost use Rattle.std.specs.Prelude.{◌≡◌, IfOk, IsTrue, ◌↔◌};
+ghost use Rattle.std.specs.Prelude.{◌≡◌, IfOk, IsTrue, ◌↔◌, map};
+ghost use Rattle.std.specs.Iterator.{Drains, IsFinite};
 ghost use Rattle.ovl_board.specs.Trees.{is_child};
 
 use ovl_names::{Name, Path};
@@ -46,6 +47,26 @@ impl Piece {
             space: self.space,
             dir: self.dir.child(alloc, name)?,
         })
+    }
+
+    /// The pieces of the entries of these names in its directory, in their order; fails only when
+    /// out of memory.
+    pub fn children<'n, N: Iterator<Item = &'n Name> + Drop>(
+        &self,
+        alloc: Global,
+        names: N,
+    ) -> Result<Vec<Piece>, AllocError>
+        requires can { N.can_next names }
+        requires finite { IsFinite (N.remaining names) }
+        ensures { IfOk result
+            (λ kids. (given : _) × Drains N.next_gives names given
+            × (kids.items ≡ map (λ name. piece_in self.now name.now) given)) }
+    {
+        let mut kids = Vec::new(alloc);
+        for name in names {
+            kids.push(self.child(alloc, name)?)?;
+        }
+        Ok(kids)
     }
 
     /// Whether `kid` lies one name below this piece, in its space.

@@ -14,7 +14,7 @@ use Rattle.ovl_inode.specs.declared.marks.Mark.{Mark}
 use Rattle.ovl_inode.specs.Marks.{mark_of, is_directory, has_attribute}
 use Rattle.ovl_layer.specs.Layers.{Entries, IsLayer, entry_at, is_directory_at, names_below, has_parent}
 use Rattle.ovl_layer.specs.Sheets.{path_at}
-use Rattle.ovl_layer.proofs.SheetLemmas.{last_name-child}
+use Rattle.ovl_layer.specs.RowsBelow.{NamedRow, LiesBelow}
 use Rattle.ovl_lookup.proofs.LawsOfPaths.{length-child, parent_path-child}
 use Rattle.ovl_board.specs.declared.pieces.Piece.{Piece}
 use Rattle.ovl_board.proofs.LawsOfMembers.{In, In-map, In-flat_map-cases, get_or-In}
@@ -22,7 +22,7 @@ use Rattle.ovl_check.specs.declared.directories.Child.{Child}
 use Rattle.ovl_check.specs.declared.findings.Finding.{Finding}
 use Rattle.ovl_check.specs.Checks.{CheckView, layer_at, findings_alone, findings_at_path}
 use Rattle.ovl_check.specs.Conditions.{has_origin_at}
-use Rattle.ovl_check.specs.Facts.{held, held_in, child_seen, seen_at, found_at_child}
+use Rattle.ovl_check.specs.Facts.{held, held_in, child_seen, found_at_child}
 use Rattle.ovl_check.proofs.Ascent.{list_all-Every}
 use Rattle.ovl_check.proofs.ListFacts.{filter-map, any-map}
 use Rattle.ovl_check.proofs.LayerFacts.{below-In}
@@ -108,14 +108,15 @@ module _ (layer : Entries) (directory : PathNames) where
       by [] from = refl
       by (name ∷ names) from = absurd (never name (from name (inl refl)))
 
--- ---- by the rows of a sheet
+-- ---- by the rows of a sheet, one after another
 
-pub held-numbers : (layer : Entries) (directory : PathNames) (kids : List ℕ) → map (path_at layer) kids ≡ map (child_path directory) (names_below layer directory) → flat_map (λ kid. seen_at layer (path_at layer kid)) kids ≡ held_in layer directory
-held-numbers layer directory kids same =
-    sym (flat_map-map (seen_at layer) (path_at layer) kids)
-    ∙ (ap (flat_map (seen_at layer)) same
-    ∙ (flat_map-map (seen_at layer) (child_path directory) (names_below layer directory)
-    ∙ (λ j. flat_map (λ name. elim (last_name-child directory name j) as (λ _. List (PathName × Inode)) [ Some own ↦ held own (entry_at layer (child_path directory name)) | None ↦ [] ]) (names_below layer directory))))
+-- what these rows directly below a directory hold
+abbrev pub held_rows : Entries → PathNames → List NamedRow → List (PathName × Inode)
+held_rows layer directory rows = flat_map (λ name. held name (entry_at layer (child_path directory name))) (map (λ row. row.1) rows)
+
+pub held-row : (layer : Entries) (directory : PathNames) (row : NamedRow) (rows : List NamedRow) (inode : Inode) → LiesBelow layer directory row → entry_at layer (path_at layer row.0) ≡ Some inode → held_rows layer directory (row ∷ rows) ≡ ((row.1, inode) ∷ []) ++ held_rows layer directory rows
+held-row layer directory row rows inode below there =
+    ap (λ found. held row.1 found ++ held_rows layer directory rows) (ap (entry_at layer) (sym below.1) ∙ there)
 
 -- the mark of a row
 pub marked-row : (layer : Entries) (path : PathNames) (inode : Inode) (mark : Mark) → entry_at layer path ≡ Some inode → option_map mark_of (entry_at layer path) ≡ Some mark → mark ≡ mark_of inode

@@ -12,7 +12,6 @@ use Rattle.ovl_inode.specs.Attributes.{opaque_name, redirect_name, impure_name}
 use Rattle.ovl_inode.specs.Kinds.{size_of, blob_of}
 use Rattle.ovl_inode.specs.Marks.{mark_of, has_attribute, attribute_is, is_directory, is_regular, is_whiteout}
 use Rattle.ovl_layer.specs.Layers.{Entries, IsLayer, entry_at, names_below}
-use Rattle.ovl_layer.specs.Sheets.{last_name}
 use Rattle.ovl_lookup.specs.declared.looks.Look.{Look}
 use Rattle.ovl_lookup.specs.declared.steps.Step.{Step}
 use Rattle.ovl_lookup.specs.Walk.{mark_at, walk, natural_path}
@@ -59,11 +58,6 @@ held_in layer directory =
 
 abbrev pub child_seen : Child → PathName × Inode
 child_seen child = (child.name.now, child.inode.now)
-
--- what is at a path, under its last name
-abbrev pub seen_at : Entries → PathNames → List (PathName × Inode)
-seen_at layer path =
-    elim (last_name path) [ Some name ↦ held name (entry_at layer path) | None ↦ [] ]
 
 -- its mark is that of its inode
 abbrev pub IsChildMarked : Child → Type 0

@@ -1,5 +1,5 @@
 //! A directory of a layer, gathered once for all in it. It must not know codes.
-ghost use Rattle.std.specs.Prelude.{◌≡◌, ◌<◌, ◌++◌, false, None, All, length, map, filter, IfOk, OnOk, MatchOption};
+ghost use Rattle.std.specs.Prelude.{◌≡◌, ◌<◌, false, None, All, length, map, filter, IfOk, MatchOption};
 ghost use Rattle.std.specs.List.{list_any};
 ghost use Rattle.ovl_lookup.specs.Stacks.{all_layers};
 ghost use Rattle.ovl_inode.specs.declared.marks.Mark.TheVariants.{DirPlain};
@@ -9,7 +9,7 @@ ghost use Rattle.ovl_layer.specs.Layers.{is_directory_at};
 ghost use Rattle.ovl_layer.specs.Sheets.{path_at};
 ghost use Rattle.ovl_board.specs.Pieces.{piece_in};
 ghost use Rattle.ovl_check.specs.Checks.{layer_at};
-ghost use Rattle.ovl_check.specs.Facts.{IsGathered, IsBelowOf, IsChildMarked, child_seen, seen_at, held_in};
+ghost use Rattle.ovl_check.specs.Facts.{IsGathered, IsBelowOf, IsChildMarked, child_seen, held_in};
 
 use crate::below::below_children;
 use crate::marks::{attribute_is, has_attribute};
@@ -96,34 +96,16 @@ fn children_in(alloc: Global, sheet: &Sheet, row: u32) -> Result<Vec<Child<'_>>,
         (λ children. map child_seen children.items ≡ held_in sheet.now (path_at sheet.now row)) }
     ensures marks { IfOk result (λ children. All IsChildMarked children.items) }
 {
-    let kids = sheet.kids(row);
-    let mut children = Vec::with_capacity(alloc, kids.len())?;
-    for kid in kids {
-        push_child(sheet, *kid, &mut children)?;
+    let rows = sheet.below(row);
+    let mut children = Vec::with_capacity(alloc, rows.len())?;
+    for (number, name) in rows {
+        children.push(Child {
+            name,
+            inode: sheet.inode(number),
+            mark: sheet.mark(number),
+        })?;
     }
     Ok(children)
-}
-
-// Adds the entry of a row; the root has no name.
-fn push_child<'a>(
-    sheet: &'a Sheet,
-    number: u32,
-    children: &mut Vec<Child<'a>>,
-) -> Result<(), AllocError>
-    requires { number < length sheet.now }
-    ensures seen { OnOk result
-        (map child_seen children.new.items
-        ≡ map child_seen children.old.items ++ seen_at sheet.now (path_at sheet.now number)) }
-    ensures marks { OnOk result
-        (All IsChildMarked children.old.items → All IsChildMarked children.new.items) }
-{
-    let Some(name) = sheet.name(number) else {
-        return Ok(());
-    };
-    let inode = sheet.inode(number);
-    let mark = sheet.mark(number);
-    children.push(Child { name, inode, mark })?;
-    Ok(())
 }
 
 /// Whether one of these has `origin`.
@@ -146,15 +128,6 @@ pub(crate) fn kids_of(
         ≡ map (λ child. piece_in piece.now child.name.now)
         (filter (λ child. marks.is_directory child.inode.now) children.now)) }
 {
-    let count = children
-        .iter()
-        .filter(|child| is_directory(child.inode))
-        .count();
-    let mut kids = Vec::with_capacity(alloc, count)?;
-    for child in children {
-        if is_directory(child.inode) {
-            kids.push(piece.child(alloc, child.name)?)?;
-        }
-    }
-    Ok(kids)
+    let directories = children.iter().filter(|child| is_directory(child.inode));
+    piece.children(alloc, directories.map(|child| child.name))
 }

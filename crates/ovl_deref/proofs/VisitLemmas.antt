@@ -1,10 +1,9 @@
 -- What the passes of a visit keep, and what it finds in its directory.
-use Rattle.std.proofs.Common.{◌≡◌, ℕ, zero, suc, ◌+◌, ◌<◌, Bool, true, false, cond, Option, Some, None, List, [], ◌∷◌, ◌++◌, length, get_or, take, drop, map, refl, sym, ap, ◌∙◌, subst, append_assoc, arith}
-use Rattle.std.specs.Prelude.{◌||◌, not, All, unwrap_or}
+use Rattle.std.proofs.Common.{◌≡◌, ℕ, ◌<◌, Bool, true, false, cond, Option, Some, None, List, [], ◌∷◌, ◌++◌, length, map, refl, sym, ap, ◌∙◌, subst, append_assoc}
+use Rattle.std.specs.Prelude.{◌||◌, not, All}
 use Rattle.std.specs.Option.{option_map}
 use Rattle.std.specs.List.{list_all, cons_option, filter_map}
-use Rattle.std.proofs.lemmas.List.{append-nil, take_more}
-use Rattle.std.proofs.lemmas.List.Elements.{filter_map-append}
+use Rattle.std.proofs.lemmas.List.{append-nil}
 use Rattle.ovl_names.specs.Names.{PathName, name_eq}
 use Rattle.ovl_names.specs.Order.{ascends}
 use Rattle.ovl_names.specs.Paths.{PathNames, child_path}
@@ -15,8 +14,9 @@ use Rattle.ovl_inode.specs.Marks.{mark_of}
 use Rattle.ovl_layer.specs.Layers.{Entries, IsLayer, entry_at, names_below}
 use Rattle.ovl_layer.specs.LayerTrees.{entries_in, entries_under}
 use Rattle.ovl_layer.proofs.NodeLemmas.{entry_at-under}
-use Rattle.ovl_layer.specs.Sheets.{path_at, last_name}
-use Rattle.ovl_layer.proofs.SheetLemmas.{entries_under-child, last_name-child}
+use Rattle.ovl_layer.specs.Sheets.{path_at}
+use Rattle.ovl_layer.specs.RowsBelow.{NamedRow, LiesBelow, AreRowsBelow}
+use Rattle.ovl_layer.proofs.SheetLemmas.{entries_under-child}
 use Rattle.ovl_inode.proofs.AttributeLemmas.{put-last}
 use Rattle.ovl_lookup.specs.Walk.{mark_at}
 use Rattle.ovl_lookup.specs.Stacks.{StackView}
@@ -27,7 +27,6 @@ use Rattle.ovl_lookup.specs.Words.{top_layer, lower_layers}
 use Rattle.ovl_lookup.proofs.LawsOfWalks.{mark-child}
 use Rattle.ovl_deref.specs.Deref.{full_attributes, dereferenced_inode}
 use Rattle.ovl_deref.specs.Directories.{is_at_moved, new_at, names_in, named_inode, inodes_in}
-use Rattle.ovl_deref.specs.Visits.{IsKid, named_under, named_at}
 use Rattle.ovl_deref.proofs.DerefLemmas.{any_prefix-child, any_prefix-under}
 use Rattle.ovl_deref.proofs.DirectoryLemmas.{new-moved, new-own}
 
@@ -96,73 +95,22 @@ module _ (stack : StackView) (path : PathNames) where
 
 -- ---- the rows directly below a directory, one after another
 
--- where the path of a row's directory is known, so are those below it
-pub rows-below : (sheet top : Entries) → sheet ≡ top → (row : ℕ) (dir : PathNames) → path_at top row ≡ dir → (kids : List ℕ) → map (path_at sheet) kids ≡ map (child_path (path_at sheet row)) (names_below sheet (path_at sheet row)) → map (path_at top) kids ≡ map (child_path dir) (names_below top dir)
-rows-below sheet top same row dir here kids paths =
-    subst (λ (p : PathNames). map (path_at top) kids ≡ map (child_path p) (names_below top p)) here
-    (subst (λ (l : Entries). map (path_at l) kids ≡ map (child_path (path_at l row)) (names_below l (path_at l row))) same paths)
-
-pub each-kid : (top : Entries) (dir : PathNames) (kids : List ℕ) (names : List PathName) → map (path_at top) kids ≡ map (child_path dir) names → (k d : ℕ) → k < length kids → IsKid dir (path_at top (get_or kids k d))
-each-kid top dir [] names same k d inside = absurd (omega (arith, inside))
-each-kid top dir (kid ∷ kids) [] same k d inside = absurd (omega (arith, ap length same))
-each-kid top dir (kid ∷ kids) (name ∷ names) same zero d inside = (name, ap (λ (ps : List PathNames). get_or ps 0 []) same)
-each-kid top dir (kid ∷ kids) (name ∷ names) same (suc k) d inside = each-kid top dir kids names (ap (drop 1) same) k d (omega (arith, inside))
-
--- the path of a kid's row ends with its name, and its entry is there
-pub row-entry : (sheet top : Entries) → sheet ≡ top → (dir : PathNames) (number : ℕ) → IsKid dir (path_at top number) → (name : PathName) (inode : Inode) → Some name ≡ last_name (path_at sheet number) → entry_at sheet (path_at sheet number) ≡ Some inode
-    → (Some name ≡ last_name (path_at top number)) × (path_at top number ≡ child_path dir name) × (entry_at top (child_path dir name) ≡ Some inode)
-row-entry sheet top same dir number kid name inode told there =
-    let last : Some name ≡ last_name (path_at top number) = told ∙ ap (λ (l : Entries). last_name (path_at l number)) same in
-    let own : Some name ≡ Some kid.0 = last ∙ (ap last_name kid.1 ∙ last_name-child dir kid.0) in
-    let here : path_at top number ≡ child_path dir name = kid.1 ∙ ap (child_path dir) (sym (ap (λ (o : Option PathName). unwrap_or o name) own)) in (
-      last,
-      here,
-      ap (entry_at top) (sym here) ∙ subst (λ (l : Entries). entry_at l (path_at l number) ≡ Some inode) same there,
-    )
-
-pub none-named : (stack : StackView) (path : PathNames) → None ≡ last_name path → [] ≡ cons_option (named_at stack path) []
-none-named stack path last = ap (λ (own : Option PathName). cons_option (named_under stack path own) []) last
-
 module _ (stack : StackView) (dir : PathNames) (free : is_at_moved (top_layer stack) dir ≡ false) where
-  abbrev top : Entries
-  top = top_layer stack
+  -- the entries that become of the rows that are left
+  pub all-listed : (rows : List NamedRow) → AreRowsBelow (top_layer stack) dir rows → filter_map (named_inode stack dir) (map (λ row. row.1) rows) ≡ inodes_in stack dir
+  all-listed rows are = ap (filter_map (named_inode stack dir)) (are.names ∙ sym (own-names stack dir free))
 
-  -- what becomes of an entry, by its row
-  pub named-own : All IsLayer stack.layers → 0 < length stack.layers → (path : PathNames) (name : PathName) (inode new : Inode) → Some name ≡ last_name path → path ≡ child_path dir name → entry_at top (child_path dir name) ≡ Some inode → new ≡ dereferenced_inode top (lower_layers stack) (child_path dir name) inode → (name, new) ∷ [] ≡ cons_option (named_at stack path) []
-  named-own each some path name inode new last here there is =
-      let made : new_at stack path ≡ Some new =
-      ap (new_at stack) here
-      ∙ (new-own stack each some dir name free
-      ∙ (ap (option_map (dereferenced_inode top (lower_layers stack) (child_path dir name))) there ∙ ap (λ (i : Inode). Some i) (sym is))) in
-      sym (ap (λ (found : Option Inode). cons_option (option_map (λ i. (name, i)) found) []) made)
-      ∙ ap (λ (own : Option PathName). cons_option (named_under stack path own) []) last
+  pub row-listed : All IsLayer stack.layers → 0 < length stack.layers → (row : NamedRow) (rows : List NamedRow) (inode new : Inode) → entry_at (top_layer stack) (child_path dir row.1) ≡ Some inode → new ≡ dereferenced_inode (top_layer stack) (lower_layers stack) (child_path dir row.1) inode
+      → filter_map (named_inode stack dir) (map (λ own. own.1) (row ∷ rows)) ≡ ((row.1, new) ∷ []) ++ filter_map (named_inode stack dir) (map (λ own. own.1) rows)
+  row-listed each some row rows inode new there is =
+      let made : new_at stack (child_path dir row.1) ≡ Some new =
+      new-own stack each some dir row.1 free
+      ∙ (ap (option_map (dereferenced_inode (top_layer stack) (lower_layers stack) (child_path dir row.1))) there ∙ ap (λ (i : Inode). Some i) (sym is)) in
+      ap (λ (found : Option Inode). cons_option (option_map (λ i. (row.1, i)) found) (filter_map (named_inode stack dir) (map (λ (own : NamedRow). own.1) rows))) made
 
-  by-name : (name : PathName) → named_at stack (child_path dir name) ≡ named_inode stack dir name
-  by-name name = ap (named_under stack (child_path dir name)) (last_name-child dir name)
-
-  by-child : (names : List PathName) → filter_map (named_at stack) (map (child_path dir) names) ≡ filter_map (named_inode stack dir) names
-  by-child [] = refl
-  by-child (name ∷ names) = λ j. cons_option (by-name name j) (by-child names j)
-
-  by-row : (kids : List ℕ) → filter_map (λ kid. named_at stack (path_at top kid)) kids ≡ filter_map (named_at stack) (map (path_at top) kids)
-  by-row [] = refl
-  by-row (kid ∷ kids) = ap (cons_option (named_at stack (path_at top kid))) (by-row kids)
-
-  -- all of them are the entries of the directory
-  pub rows-listed : (kids : List ℕ) → map (path_at top) kids ≡ map (child_path dir) (names_below top dir) → filter_map (λ kid. named_at stack (path_at top kid)) kids ≡ inodes_in stack dir
-  rows-listed kids paths =
-      by-row kids
-      ∙ (ap (filter_map (named_at stack)) paths
-      ∙ (by-child (names_below top dir)
-      ∙ sym (ap (filter_map (named_inode stack dir)) (own-names stack dir free))))
-
--- the loop over them
-pub kept-more : {X Y : Type 0} (f : X → Option Y) (xs : List X) (i : ℕ) (d : X) (old new : List Y) → i < length xs → old ≡ filter_map f (take i xs) → new ≡ old ++ cons_option (f (get_or xs i d)) [] → new ≡ filter_map f (take (i + 1) xs)
-kept-more f xs i d old new inside so_far added =
-    added
-    ∙ (ap (λ ys. ys ++ cons_option (f (get_or xs i d)) []) so_far
-    ∙ (sym (filter_map-append f (take i xs) (get_or xs i d ∷ []))
-    ∙ ap (filter_map f) (sym (take_more xs i d inside))))
+-- the entry of a row is at its name
+pub row-entry : (sheet top : Entries) (dir : PathNames) (row : NamedRow) (inode : Inode) → sheet ≡ top → LiesBelow top dir row → entry_at sheet (path_at sheet row.0) ≡ Some inode → entry_at top (child_path dir row.1) ≡ Some inode
+row-entry sheet top dir row inode same below there = ap (entry_at top) (sym below.1) ∙ subst (λ (l : Entries). entry_at l (path_at l row.0) ≡ Some inode) same there
 
 -- ---- what is shown in a directory
 

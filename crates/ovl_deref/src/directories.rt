@@ -1,16 +1,14 @@
 //! The names in a directory of the dereferenced layer, each with its inode.
-ghost use Rattle.std.specs.Prelude.{◌≡◌, ◌<◌, ◌++◌, [], false, Some, length, IfOk, IfSome, OnOk};
-ghost use Rattle.std.specs.List.{cons_option};
+ghost use Rattle.std.specs.Prelude.{◌≡◌, Some, IfOk, IfSome};
 ghost use Rattle.ovl_names.specs.Paths.{child_path};
 ghost use Rattle.ovl_inode.specs.Marks.{mark_of};
 ghost use Rattle.ovl_layer.specs.Layers.{entry_at};
-ghost use Rattle.ovl_layer.specs.Sheets.{path_at};
 ghost use Rattle.ovl_lookup.specs.DirViews.{IsViewOf};
 ghost use Rattle.ovl_lookup.specs.Words.{top_layer, lower_layers};
 ghost use Rattle.ovl_deref.specs.declared.directories.OwnPlace.TheVariants.{Row};
 ghost use Rattle.ovl_deref.specs.Deref.{dereferenced_inode};
 ghost use Rattle.ovl_deref.specs.Directories as directories;
-ghost use Rattle.ovl_deref.specs.Visits.{IsOwnPlace, IsKid, named_at};
+ghost use Rattle.ovl_deref.specs.Visits.{IsOwnPlace};
 
 use crate::inodes::{filled, unfolded};
 use ovl_inode::{Inode, Mark};
@@ -77,45 +75,15 @@ fn own_inodes(
     ensures { IfOk result (λ inodes. inodes.items ≡ directories.inodes_in stack.now dir.now) }
 {
     let sheet = stack.top();
-    let kids = sheet.kids(row);
+    let rows = sheet.below(row);
     let mut view = None;
-    let mut inodes = Vec::with_capacity(alloc, kids.len())?;
-    for kid in kids {
-        push_own(alloc, stack, &mut view, dir, *kid, &mut inodes)?;
+    let mut inodes = Vec::with_capacity(alloc, rows.len())?;
+    for (number, name) in rows {
+        let entry = Found::in_row(sheet, number);
+        let inode = dereferenced(alloc, stack, &mut view, dir, name, &entry)?;
+        inodes.push((name.copy(alloc)?, inode))?;
     }
     Ok(inodes)
-}
-
-// Adds what becomes of the entry of a row, which lies directly in such a directory, by the view of
-// that.
-fn push_own<'a>(
-    alloc: Global,
-    stack: &'a Stack,
-    view: &mut Option<DirView<'a>>,
-    dir: &'a Path,
-    number: u32,
-    inodes: &mut Vec<(Name, Inode)>,
-) -> Result<(), AllocError>
-    requires free { directories.is_at_moved (top_layer stack.now) dir.now ≡ false }
-    requires inside { number < length (top_layer stack.now) }
-    requires kid { IsKid dir.now (path_at (top_layer stack.now) number) }
-    requires view { IfSome view.old (IsViewOf stack.now 0 dir.now) }
-    ensures inodes { OnOk result (inodes.new.items
-        ≡ inodes.old.items
-        ++ cons_option (named_at stack.now (path_at (top_layer stack.now) number)) []) }
-    ensures view { IfSome view.new (IsViewOf stack.now 0 dir.now) }
-{
-    // Each layer of a stack is one.
-    let _layers = stack.ordinary();
-    let sheet = stack.top();
-    // Only the root has no name.
-    let Some(name) = sheet.name(number) else {
-        return Ok(());
-    };
-    let entry = Found::in_row(sheet, number);
-    let inode = dereferenced(alloc, stack, view, dir, name, &entry)?;
-    inodes.push((name.copy(alloc)?, inode))?;
-    Ok(())
 }
 
 // What becomes of the entry at a name in a directory, by the view of that.

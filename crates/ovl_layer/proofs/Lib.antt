@@ -10,5 +10,6 @@ pub mod OpenLemmas
 pub mod PlaceLemmas
 pub mod SheetBuilderLemmas
 pub mod SheetLemmas
+pub mod RowBelowLemmas
 pub mod SheetPassLemmas
 pub mod WayLemmas

@@ -11,7 +11,7 @@ use Rattle.std.specs.declared.cmp.Ordering.TheVariants.{Less, Equal, Greater}
 use Rattle.std.proofs.lemmas.Bool.{ltb-true, ltb-false, cases_lt}
 use Rattle.std.proofs.lemmas.Bool.Decides.{nat_tests}
 use Rattle.std.proofs.lemmas.Option.{slice_get_within, slice_get_past, slice_get_read, slice_get-map}
-use Rattle.std.proofs.lemmas.List.{length-map, map-append, take_more}
+use Rattle.std.proofs.lemmas.List.{length-map}
 use Rattle.std.proofs.lemmas.List.Sorted.{searchable_from_sorted}
 use Rattle.std.proofs.Math.Seq.{take-append_seam}
 use Rattle.ovl_names.specs.Names.{PathName, name_cmp, name_eq}
@@ -699,7 +699,3 @@ pub own-numbers : (rows : List SheetRow) (below : List (List ℕ)) (marked : Lis
     → (directory : ℕ) (own : List ℕ) → directory < length (entries_of_rows rows) → slice_get below directory ≡ Some own → own ≡ kid_numbers 1 (parents_of rows) directory
 own-numbers rows below marked is directory own inside at =
     some-same own (kid_numbers 1 (parents_of rows) directory) (sym at ∙ is.kids directory (omega (arith, inside, count rows below marked is)))
-
-pub kid-names-more : (rows : List SheetRow) (numbers : List ℕ) (i : ℕ) → i < length numbers → map (own_name rows) (take (i + 1) numbers) ≡ map (own_name rows) (take i numbers) ++ own_name rows (get_or numbers i 0) ∷ []
-kid-names-more rows numbers i inside =
-    ap (map (own_name rows)) (take_more numbers i 0 inside) ∙ map-append (own_name rows) (take i numbers) (get_or numbers i 0 ∷ [])

@@ -6,6 +6,7 @@ pub mod TextPaths
 pub mod LayerBuilders
 pub mod SubtreeBuilder
 pub mod Sheets
+pub mod RowsBelow
 pub mod KidLists
 pub mod MarkLists
 pub mod SheetPasses

@@ -7,6 +7,7 @@ mod kid_lists;
 mod layer_builders;
 mod mark_lists;
 mod places;
+mod rows_below;
 mod sheet_builders;
 mod sheets;
 mod subtree_builders;
@@ -18,6 +19,7 @@ pub use entries::{
 pub use faults::{LayerFault, SubtreeFault};
 pub use layer_builders::LayerBuilder;
 pub use places::LayerPlace;
+pub use rows_below::RowsBelow;
 pub use sheet_builders::SheetBuilder;
 pub use sheets::{Sheet, SheetPlace, SheetRow};
 pub use subtree_builders::SubtreeBuilder;

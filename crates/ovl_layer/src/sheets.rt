@@ -8,12 +8,14 @@ ghost use Rattle.ovl_inode.specs.Marks.{mark_of};
 ghost use Rattle.ovl_layer.specs.Layers.{IsLayer, entry_at, names_below, entry_limit};
 ghost use Rattle.ovl_layer.specs.LayerTrees.{entries_under, entries_of_nodes, IsPlaceAt};
 ghost use Rattle.ovl_layer.specs.Sheets.{IsRowOf, AreRows, path_at, last_name, entries_of_rows, afters_from};
+ghost use Rattle.ovl_layer.specs.RowsBelow.{AreRowsBelow};
 ghost use Rattle.ovl_layer.specs.SheetPasses.{AddsParents, IsRoomFor, rows_from, kid_order, with_afters};
 ghost use Rattle.ovl_layer.specs.SheetPasses as sheet_passes;
 
 use crate::kid_lists::KidLists;
 use crate::mark_lists::MarkList;
 use crate::places::{LayerPlace, names_at, place_at};
+use crate::rows_below::RowsBelow;
 use crate::trees::{Layer, Node};
 use ovl_inode::{Inode, Mark};
 use ovl_names::{Name, Path};
@@ -160,16 +162,12 @@ impl Sheet {
         self.marks.at(number)
     }
 
-    /// The numbers of the rows directly below the row of a number, in the order of their names;
-    /// takes no memory.
-    pub fn kids(&self, directory: u32) -> &[u32]
+    /// The rows directly below the row of a number, in the order of their names; takes no memory.
+    pub fn below(&self, directory: u32) -> RowsBelow<'_>
         requires { directory < length self.now }
-        ensures inside { All (λ kid. kid < length self.now) result.now }
-        ensures paths { map (path_at self.now) result.now
-            ≡ map (child_path (path_at self.now directory))
-            (names_below self.now (path_at self.now directory)) }
+        ensures { AreRowsBelow self.now (path_at self.now directory) result }
     {
-        self.kids.below(directory)
+        RowsBelow::of(self, self.kids.below(directory))
     }
 
     /// The number of the entry `name` in the directory of a number, and `None` where there is none;
@@ -271,13 +269,10 @@ impl<'a> LayerPlace for SheetPlace<'a> {
     }
 
     fn names(&self, alloc: Global) -> Result<Vec<Name>, AllocError> {
-        let sheet = self.sheet;
-        let kids = sheet.kids.below(self.number);
-        let mut names = Vec::with_capacity(alloc, kids.len())?;
-        for kid in kids {
-            if let Some(name) = &sheet.rows[*kid as usize].name {
-                names.push(name.copy(alloc)?)?;
-            }
+        let rows = self.sheet.below(self.number);
+        let mut names = Vec::with_capacity(alloc, rows.len())?;
+        for (_, name) in rows {
+            names.push(name.copy(alloc)?)?;
         }
         Ok(names)
     }

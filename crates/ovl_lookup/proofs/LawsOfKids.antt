@@ -1,11 +1,9 @@
 -- Laws of the names in a directory of the merged tree.
-use Rattle.std.proofs.Common.{◌≡◌, ℕ, Bool, true, false, cond, Option, Some, None, List, [], ◌∷◌, map, refl, sym, ap, ◌∙◌, suc, ◌+◌, ◌*◌, ◌≤◌, length, ◌++◌, arith, append_assoc, length-append, zero, ◌<◌}
-use Rattle.std.specs.Prelude.{slice_get, ◌||◌, ◌&&◌, not, filter}
+use Rattle.std.proofs.Common.{◌≡◌, ℕ, Bool, true, false, cond, Option, Some, None, List, [], ◌∷◌, refl, sym, ap, ◌∙◌, suc, ◌+◌, ◌*◌, ◌≤◌, length, ◌++◌, arith, append_assoc, length-append, zero, ◌<◌}
+use Rattle.std.specs.Prelude.{◌||◌, ◌&&◌, not, filter}
 use Rattle.std.specs.List.{list_all, cons_option, list_any, All}
-use Rattle.std.specs.Option.{option_map}
 use Rattle.std.specs.Ordering.{is_lt, ordering_reverse, match_ordering, ordering_then}
 use Rattle.std.specs.Cmp.Lexicographic.{bytes_decides, nat_list_cmp_total}
-use Rattle.std.proofs.lemmas.Option.{slice_get-map}
 use Rattle.std.proofs.lemmas.List.{append-nil}
 use Rattle.std.proofs.lemmas.List.Folds.{list_all-append}
 use Rattle.std.proofs.Math.Bool.{and-false, or-false}
@@ -20,7 +18,6 @@ use Rattle.ovl_names.specs.Paths.{PathNames, child_path, path_cmp, path_eq, dept
 use Rattle.ovl_names.proofs.Ascending.{both, list_all-before, ascends-filter, is_lt-Less}
 use Rattle.ovl_inode.specs.declared.inodes.Inode.{Inode}
 use Rattle.ovl_layer.specs.Layers.{Entry, Entries, entry_cmp, name_below, names_below, IsLayer, entry_at}
-use Rattle.ovl_layer.specs.Sheets.{path_at}
 use Rattle.ovl_layer.proofs.SheetLemmas.{path_cmp-beside}
 use Rattle.ovl_layer.proofs.NodeLemmas.{name_eq-cmp}
 use Rattle.ovl_lookup.specs.declared.steps.Step.{Step}
@@ -36,22 +33,6 @@ use Rattle.ovl_lookup.proofs.LawsOfPaths.{all-first}
 use Rattle.ovl_lookup.proofs.LawsOfWalks.{walk-whole}
 use Rattle.ovl_lookup.proofs.LawsOfFound.{any_found, child_found, found_of, starts-directory_found, starts_directory, things_found-step}
 use Rattle.ovl_lookup.proofs.LawsOfLooks.{ShowsParents-holds, shows-found, shows-limited}
-
-module _ (layer : Entries) (directory : PathNames) (kids : List ℕ) (paths : map (path_at layer) kids ≡ map (child_path directory) (names_below layer directory)) where
-  pub kid-path : (j kid : ℕ) → slice_get kids j ≡ Some kid → (name : PathName) × (slice_get (names_below layer directory) j ≡ Some name) × (path_at layer kid ≡ child_path directory name)
-  kid-path j kid here = by (slice_get (names_below layer directory) j) refl
-    where
-      same : Some (path_at layer kid) ≡ option_map (child_path directory) (slice_get (names_below layer directory) j)
-      same =
-          sym (slice_get-map (path_at layer) kids j ∙ ap (option_map (path_at layer)) here)
-          ∙ (ap (λ (ps : List PathNames). slice_get ps j) paths
-          ∙ slice_get-map (child_path directory) (names_below layer directory) j)
-
-      by : (found : Option PathName) → slice_get (names_below layer directory) j ≡ found → (name : PathName) × (slice_get (names_below layer directory) j ≡ Some name) × (path_at layer kid ≡ child_path directory name)
-      by None e = let bad : Some (path_at layer kid) ≡ None = same ∙ ap (option_map (child_path directory)) e in cc
-      by (Some name) e =
-          let one : Some (path_at layer kid) ≡ Some (child_path directory name) = same ∙ ap (option_map (child_path directory)) e in
-          (name, e, cc)
 
 -- ---- the names directly below a path of a layer, in order
 

@@ -1,11 +1,11 @@
 -- What is shown at a name in a view, place by place.
-use Rattle.std.proofs.Common.{◌≡◌, ℕ, ◌+◌, ◌-◌, ◌<◌, ◌≤◌, length, arith, Bool, true, false, cond, Option, Some, None, List, [], ◌∷◌, ◌++◌, get_or, take, drop, map, refl, sym, ap, ◌∙◌, subst, zero, suc}
-use Rattle.std.specs.Prelude.{◌&&◌, not, slice_get, unwrap_or, IsSomeAnd}
-use Rattle.std.proofs.lemmas.List.{length-map, map-append, drop-map, take_all, take_more}
+use Rattle.std.proofs.Common.{◌≡◌, ℕ, ◌+◌, ◌-◌, ◌<◌, length, arith, Bool, true, false, cond, Option, Some, None, List, [], ◌∷◌, ◌++◌, get_or, take, drop, map, refl, sym, ap, ◌∙◌, subst, zero}
+use Rattle.std.specs.Prelude.{◌&&◌, not, slice_get, IsSomeAnd}
+use Rattle.std.proofs.lemmas.List.{length-map, map-append, drop-map, take_more}
 use Rattle.ovl_names.specs.Names.{PathName}
 use Rattle.std.specs.Option.{option_map}
-use Rattle.std.proofs.lemmas.Option.{slice_get_read, slice_get_within, get_or_from_slice_get, slice_get-map}
-use Rattle.ovl_names.specs.Paths.{PathNames, child_path}
+use Rattle.std.proofs.lemmas.Option.{slice_get_read, get_or_from_slice_get, slice_get-map}
+use Rattle.ovl_names.specs.Paths.{PathNames}
 use Rattle.ovl_inode.specs.declared.inodes.Inode.{Inode}
 use Rattle.ovl_inode.specs.declared.marks.Mark.{Mark}
 use Rattle.ovl_inode.specs.declared.marks.Mark.TheVariants.{Whiteout, DirOpaque, DirMoved, DirBad, DirPlain, Meta, MetaBad, Leaf}
@@ -13,8 +13,8 @@ use Rattle.ovl_inode.specs.declared.marks.Redirect.TheVariants.{To, Beside}
 use Rattle.ovl_inode.specs.Inodes.{visible}
 use Rattle.ovl_inode.specs.Marks.{mark_of, is_whiteout, is_data, is_metacopy, is_metacopy_mark, is_regular, has_metacopy}
 use Rattle.ovl_layer.specs.Layers.{Entries, entry_at, names_below}
-use Rattle.ovl_layer.specs.Sheets.{last_name, path_at}
-use Rattle.ovl_layer.proofs.SheetLemmas.{last_name-child}
+use Rattle.ovl_layer.specs.Sheets.{path_at}
+use Rattle.ovl_layer.specs.RowsBelow.{NamedRow, LiesBelow}
 use Rattle.ovl_lookup.specs.declared.looks.Look.{Look}
 use Rattle.ovl_lookup.specs.declared.looks.Look.TheVariants.{Nothing, Shown, Broken}
 use Rattle.ovl_lookup.specs.declared.tops.Top.{Top}
@@ -36,7 +36,6 @@ use Rattle.ovl_lookup.proofs.ViewSteps.{found-whiteout, found-entry, looks-next}
 use Rattle.ovl_lookup.specs.NamedLists.{names_of}
 use Rattle.ovl_lookup.proofs.TopLemmas.{IsFirst, all-first, names_in, StandHere, stand-more}
 use Rattle.ovl_lookup.proofs.DirViewLemmas.{entry-here}
-use Rattle.ovl_lookup.proofs.LawsOfKids.{kid-path}
 
 -- ---- a file that lacks its contents
 
@@ -142,61 +141,24 @@ names-next stack places tops top shown is =
 
 -- ---- the names of a place
 
-names-here : (stack : StackView) (place : DirPlace) (layer : Entries) → slice_get stack.layers place.layer ≡ Some layer → names_in stack.layers (place_in stack place) ≡ names_below layer (path_at layer place.row)
+pub names-here : (stack : StackView) (place : DirPlace) (layer : Entries) → slice_get stack.layers place.layer ≡ Some layer → names_in stack.layers (place_in stack place) ≡ names_below layer (path_at layer place.row)
 names-here stack place layer at = λ j. elim (at j) as (λ _. List PathName) [ Some own ↦ names_below own (elim (at j) as (λ _. PathNames) [ Some entries ↦ path_at entries place.row | None ↦ [] ]) | None ↦ [] ]
 
-get_or-any : (xs : List ℕ) (i d e : ℕ) → i < length xs → get_or xs i e ≡ get_or xs i d
-get_or-any [] i d e inside = absurd (omega (arith, inside))
-get_or-any (x ∷ xs) zero d e inside = refl
-get_or-any (x ∷ xs) (suc i) d e inside = get_or-any xs i d e (omega (arith, inside))
+-- a row directly below a place
+module _ (stack : StackView) (place : DirPlace) (layer : Entries) (at : slice_get stack.layers place.layer ≡ Some layer) where
+  -- its inode is at its name
+  pub row-stands : (row : NamedRow) (inode : Inode) → LiesBelow layer (path_at layer place.row) row → entry_at layer (path_at layer row.0) ≡ Some inode → entry_in stack.layers row.1 (place_in stack place) ≡ Some inode
+  row-stands row inode below stands = entry-here stack row.1 place layer at ∙ (ap (entry_at layer) (sym below.1) ∙ stands)
 
-kid-at : (kids : List ℕ) (j : ℕ) → j < length kids → slice_get kids j ≡ Some (get_or kids j 0)
-kid-at kids j inside = slice_get_read kids (length kids) j (get_or kids j 0) refl inside (sym (get_or-any kids j 0 (get_or kids j 0) inside))
+  pub row-told : (number : ℕ) (tops : List Top) (top : Top) → StandHere stack.layers number (place_in stack place) (tops_told tops) → top.place ≡ number → entry_in stack.layers top.name.now (place_in stack place) ≡ Some top.inode.now
+      → StandHere stack.layers number (place_in stack place) (tops_told (tops ++ top ∷ []))
+  row-told number tops top stand placed own =
+      subst (StandHere stack.layers number (place_in stack place)) (sym (map-append top_told tops (top ∷ [])))
+      (subst (λ n. StandHere stack.layers number (place_in stack place) (tops_told tops ++ (top.name.now, record { place = n; inode = top.inode.now }) ∷ [])) (sym placed)
+      (stand-more stack.layers number (place_in stack place) (tops_told tops) top.name.now top.inode.now stand own))
 
--- the row of number `j` below a place has a name
-module _ (stack : StackView) (place : DirPlace) (layer : Entries) (at : slice_get stack.layers place.layer ≡ Some layer) (kids : List ℕ) (paths : map (path_at layer) kids ≡ map (child_path (path_at layer place.row)) (names_below layer (path_at layer place.row))) where
-  abbrev names : List PathName
-  names = names_in stack.layers (place_in stack place)
-
-  pub kid-named : (j : ℕ) → j < length kids → (name : PathName) × (last_name (path_at layer (get_or kids j 0)) ≡ Some name)
-  kid-named j inside =
-      let own = kid-path layer (path_at layer place.row) kids paths j (get_or kids j 0) (kid-at kids j inside) in
-      (own.0, ap last_name own.2 ∙ last_name-child (path_at layer place.row) own.0)
-
-  -- and its inode is at that in the place
-  pub kid-stands : (j : ℕ) → j < length kids → (name : PathName) → Some name ≡ last_name (path_at layer (get_or kids j 0)) → (inode : Inode) → entry_at layer (path_at layer (get_or kids j 0)) ≡ Some inode
-      → (slice_get names j ≡ Some name) × (entry_in stack.layers name (place_in stack place) ≡ Some inode)
-  kid-stands j inside name named inode stands =
-      let own = kid-path layer (path_at layer place.row) kids paths j (get_or kids j 0) (kid-at kids j inside) in
-      let same : Some name ≡ Some own.0 = named ∙ (ap last_name own.2 ∙ last_name-child (path_at layer place.row) own.0) in
-      let is : own.0 ≡ name = sym (ap (λ o. unwrap_or o name) same) in (
-        ap (λ (ns : List PathName). slice_get ns j) (names-here stack place layer at) ∙ (own.1 ∙ ap (λ (n : PathName). Some n) is),
-        entry-here stack name place layer at ∙ (ap (entry_at layer) (ap (child_path (path_at layer place.row)) (sym is) ∙ sym own.2) ∙ stands),
-      )
-
-  -- one more row
-  pub kid-more : (j : ℕ) (name : PathName) → slice_get names j ≡ Some name → take (j + 1) names ≡ take j names ++ name ∷ []
-  kid-more j name here = take_more names j name (slice_get_within names j name here) ∙ ap (λ (n : PathName). take j names ++ n ∷ []) (get_or_from_slice_get names j name name here)
-
-  pub kid-told : (number j : ℕ) (tops : List Top) (top : Top) → names_of (tops_told tops) ≡ take j names → StandHere stack.layers number (place_in stack place) (tops_told tops) → top.place ≡ number
-      → (slice_get names j ≡ Some top.name.now) × (entry_in stack.layers top.name.now (place_in stack place) ≡ Some top.inode.now)
-      → (names_of (tops_told (tops ++ top ∷ [])) ≡ take (j + 1) names) × StandHere stack.layers number (place_in stack place) (tops_told (tops ++ top ∷ []))
-  kid-told number j tops top so_far stand placed own = (
-    ap names_of longer ∙ (map-append (λ t. t.0) (tops_told tops) (top_told top ∷ []) ∙ ((λ k. so_far k ++ top.name.now ∷ []) ∙ sym (kid-more j top.name.now own.0))),
-    subst (StandHere stack.layers number (place_in stack place)) (sym longer)
-        (subst (λ n. StandHere stack.layers number (place_in stack place) (tops_told tops ++ (top.name.now, record { place = n; inode = top.inode.now }) ∷ [])) (sym placed)
-        (stand-more stack.layers number (place_in stack place) (tops_told tops) top.name.now top.inode.now stand own.1)),
-  )
-    where
-      longer : tops_told (tops ++ top ∷ []) ≡ tops_told tops ++ top_told top ∷ []
-      longer = map-append top_told tops (top ∷ [])
-
-  -- the names are as many as the rows
-  pub kids-all : (n : ℕ) → length kids ≤ n → take n names ≡ names
-  kids-all n past =
-      let many : length names ≡ length kids =
-      ap length (names-here stack place layer at) ∙ sym (sym (length-map kids (path_at layer)) ∙ (ap length paths ∙ length-map (names_below layer (path_at layer place.row)) (child_path (path_at layer place.row)))) in
-      take_all n names (omega (arith, many, past))
+pub row-named : (tops : List Top) (top : Top) → names_of (tops_told (tops ++ top ∷ [])) ≡ names_of (tops_told tops) ++ top.name.now ∷ []
+row-named tops top = ap names_of (map-append top_told tops (top ∷ [])) ∙ map-append (λ t. t.0) (tops_told tops) (top_told top ∷ [])
 
 -- ---- the pass over the names
 

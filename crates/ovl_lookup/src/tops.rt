@@ -80,16 +80,14 @@ fn tops_in<'a>(
 {
     let _ = &stack.layers;
     let sheet = stack.sheet(place.layer);
-    let kids = sheet.kids(place.row);
-    let mut tops = Vec::with_capacity(alloc, kids.len())?;
-    for kid in kids {
-        if let Some(name) = sheet.name(*kid) {
-            tops.push(Top {
-                name,
-                inode: sheet.inode(*kid),
-                place: number,
-            })?;
-        }
+    let rows = sheet.below(place.row);
+    let mut tops = Vec::with_capacity(alloc, rows.len())?;
+    for (row, name) in rows {
+        tops.push(Top {
+            name,
+            inode: sheet.inode(row),
+            place: number,
+        })?;
     }
     Ok(tops)
 }

@@ -1,17 +1,17 @@
 -- The rows in a directory of a layer, one after another.
-use Rattle.std.proofs.Common.{◌≡◌, ℕ, zero, suc, ◌+◌, ◌<◌, length, get_or, Bool, true, false, cond, Option, Some, None, List, [], ◌∷◌, ◌++◌, take, drop, map, refl, sym, ap, ◌∙◌, subst, arith}
+use Rattle.std.proofs.Common.{◌≡◌, ℕ, ◌<◌, length, Bool, true, false, cond, Option, Some, None, List, [], ◌∷◌, ◌++◌, refl, sym, ap, ◌∙◌, subst}
 use Rattle.std.specs.Prelude.{◌||◌}
 use Rattle.std.specs.List.{AllByRecursion, cons_option, list_all, list_any}
 use Rattle.std.specs.Map.{lookup}
 use Rattle.std.specs.Option.{option_and_then}
 use Rattle.std.specs.Cmp.Lexicographic.{bytes_decides}
-use Rattle.std.proofs.lemmas.List.{length-map, map-append, take_more}
+use Rattle.std.proofs.lemmas.List.{map-append}
 use Rattle.ovl_names.specs.Names.{PathName, name_eq}
 use Rattle.ovl_names.specs.Paths.{PathNames, child_path}
 use Rattle.ovl_names.proofs.Ascending.{both}
 use Rattle.ovl_layer.specs.Layers.{Entries, has_parent, is_directory_at, name_below, names_below}
-use Rattle.ovl_layer.specs.Sheets.{last_name, path_at}
-use Rattle.ovl_layer.proofs.SheetLemmas.{last_name-child}
+use Rattle.ovl_layer.specs.Sheets.{path_at}
+use Rattle.ovl_layer.specs.RowsBelow.{NamedRow, LiesBelow}
 use Rattle.ovl_lookup.proofs.LawsOfPaths.{length-child, parent_path-child}
 use Rattle.ovl_lookup.proofs.LawsOfWalks.{nothing-below}
 use Rattle.ovl_lookup.specs.NamedLists.{names_of}
@@ -89,49 +89,25 @@ all-more : {X : Type 0} (P : X → Type 0) (xs : List X) (x : X) → AllByRecurs
 all-more P [] x all holds = (holds, tt)
 all-more P (y ∷ xs) x all holds = (all.0, all-more P xs x all.1 holds)
 
-at-kid : (layer : Entries) (path : PathNames) (kids : List ℕ) (names : List PathName) → map (path_at layer) kids ≡ map (child_path path) names → (j : ℕ) → j < length kids → path_at layer (get_or kids j 0) ≡ child_path path (get_or names j [])
-at-kid layer path [] names same j inside = absurd (omega (arith, inside))
-at-kid layer path (kid ∷ kids) [] same j inside = absurd (omega (arith, ap length same))
-at-kid layer path (kid ∷ kids) (name ∷ names) same zero inside = ap (λ (paths : List PathNames). get_or paths 0 []) same
-at-kid layer path (kid ∷ kids) (name ∷ names) same (suc j) inside = at-kid layer path kids names (ap (drop 1) same) j (omega (arith, inside))
+module _ (side : Side) (layer : Entries) (path : PathNames) (rows : List Candidate) (candidate : Candidate) (row : NamedRow) (told : candidate_told candidate ≡ (row.1, rows_on side row.0)) where
+  longer : candidates_told (rows ++ candidate ∷ []) ≡ candidates_told rows ++ candidate_told candidate ∷ []
+  longer = map-append candidate_told rows (candidate ∷ [])
 
-module _ (side : Side) (layer : Entries) (path : PathNames) (kids : List ℕ) (paths : map (path_at layer) kids ≡ map (child_path path) (names_below layer path)) where
-  pub kids-many : length (names_below layer path) ≡ length kids
-  kids-many = sym (sym (length-map kids (path_at layer)) ∙ (ap length paths ∙ length-map (names_below layer path) (child_path path)))
+  pub named-more : names_of (candidates_told (rows ++ candidate ∷ [])) ≡ names_of (candidates_told rows) ++ row.1 ∷ []
+  named-more =
+      ap names_of longer
+      ∙ (map-append (λ own. own.0) (candidates_told rows) (candidate_told candidate ∷ [])
+      ∙ ap (λ (own : PathName × Rows). names_of (candidates_told rows) ++ own.0 ∷ []) told)
 
-  kid-there : (j : ℕ) → j < length kids → path_at layer (get_or kids j 0) ≡ child_path path (get_or (names_below layer path) j [])
-  kid-there j inside = at-kid layer path kids (names_below layer path) paths j inside
-
-  -- each has a name
-  pub kid-named : (j : ℕ) → j < length kids → None ≡ last_name (path_at layer (get_or kids j 0)) → ⊥
-  kid-named j inside none =
-      let bad : None ≡ Some (get_or (names_below layer path) j []) = none ∙ (ap last_name (kid-there j inside) ∙ last_name-child path (get_or (names_below layer path) j [])) in cc
-
-  pub row-more : (j : ℕ) → j < length kids → (rows : List Candidate) (candidate : Candidate) (name : PathName) → names_of (candidates_told rows) ≡ take j (names_below layer path) → AllByRecursion (IsOwnRow side layer path) (candidates_told rows)
-      → Some name ≡ last_name (path_at layer (get_or kids j 0)) → get_or kids j 0 < length layer → candidate_told candidate ≡ (name, rows_on side (get_or kids j 0))
-      → (names_of (candidates_told (rows ++ candidate ∷ [])) ≡ take (j + 1) (names_below layer path)) × AllByRecursion (IsOwnRow side layer path) (candidates_told (rows ++ candidate ∷ []))
-  row-more j inside rows candidate name so_far all named within told = (
-    ap names_of longer ∙ (map-append (λ own. own.0) (candidates_told rows) (candidate_told candidate ∷ []) ∙ ((λ k. so_far k ++ same k ∷ []) ∙ sym (take_more (names_below layer path) j [] (omega (arith, inside, kids-many))))),
-    subst (AllByRecursion (IsOwnRow side layer path)) (sym longer) (all-more (IsOwnRow side layer path) (candidates_told rows) (candidate_told candidate) all own_row),
-  )
-    where
-      longer : candidates_told (rows ++ candidate ∷ []) ≡ candidates_told rows ++ candidate_told candidate ∷ []
-      longer = map-append candidate_told rows (candidate ∷ [])
-
-      known : name ≡ get_or (names_below layer path) j []
-      known =
-          let some : Some name ≡ Some (get_or (names_below layer path) j []) = named ∙ (ap last_name (kid-there j inside) ∙ last_name-child path (get_or (names_below layer path) j [])) in cc
-
-      same : candidate.name.now ≡ get_or (names_below layer path) j []
-      same = ap (λ (own : PathName × Rows). own.0) told ∙ known
-
-      own_row : IsOwnRow side layer path (candidate_told candidate)
-      own_row = record {
-        number = get_or kids j 0;
+  pub own-more : AllByRecursion (IsOwnRow side layer path) (candidates_told rows) → LiesBelow layer path row → AllByRecursion (IsOwnRow side layer path) (candidates_told (rows ++ candidate ∷ []))
+  own-more all below =
+      subst (AllByRecursion (IsOwnRow side layer path)) (sym longer)
+      (all-more (IsOwnRow side layer path) (candidates_told rows) (candidate_told candidate) all (record {
+        number = row.0;
         rows = ap (λ (own : PathName × Rows). own.1) told;
-        inside = within;
-        there = kid-there j inside ∙ ap (child_path path) (sym same);
-      }
+        inside = below.0;
+        there = below.1 ∙ ap (child_path path) (sym (ap (λ (own : PathName × Rows). own.0) told));
+      }))
 
 -- ---- where there is no directory
 

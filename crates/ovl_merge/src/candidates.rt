@@ -167,12 +167,10 @@ fn rows_in<'a>(
 {
     // Each sheet is a layer.
     let _root = sheet.root_number();
-    let kids = sheet.kids(directory);
-    let mut rows = Vec::with_capacity(alloc, kids.len())?;
-    for kid in kids {
-        if let Some(name) = sheet.name(*kid) {
-            rows.push(Candidate::in_row(name, *kid, side))?;
-        }
+    let below = sheet.below(directory);
+    let mut rows = Vec::with_capacity(alloc, below.len())?;
+    for (row, name) in below {
+        rows.push(Candidate::in_row(name, row, side))?;
     }
     Ok(rows)
 }

@@ -102,11 +102,6 @@ fn directories_in(
 ) -> Result<Vec<Piece>, AllocError>
     ensures { IfOk result (λ kids. kids.items ≡ directories.directories_in piece.now looks.now) }
 {
-    let mut kids = Vec::new(alloc);
-    for (name, look) in looks {
-        if look.is_shown_directory() {
-            kids.push(piece.child(alloc, name)?)?;
-        }
-    }
-    Ok(kids)
+    let directories = looks.iter().filter(|entry| entry.1.is_shown_directory());
+    piece.children(alloc, directories.map(|entry| &entry.0))
 }

@@ -1,6 +1,6 @@
 -- The rows of the topmost layer: which are known to be idle, and which go.
 use Rattle.std.proofs.Common.{◌≡◌, ℕ, zero, suc, ◌+◌, ◌-◌, ◌<◌, ◌≤◌, ◌⊎◌, inl, inr, Bool, true, false, cond, Option, Some, None, IsSome, Bor, Ok, List, [], ◌∷◌, ◌++◌, length, map, get_or, set, replicate, take, length-take, drop, refl, sym, ap, subst, ◌∙◌, append_assoc, arith, length-append}
-use Rattle.std.specs.Prelude.{Vec, All, IsSomeAnd, slice_get, filter, is_none, ◌&&◌, ◌||◌, not, unwrap_or}
+use Rattle.std.specs.Prelude.{Vec, IsSomeAnd, slice_get, filter, is_none, ◌&&◌, ◌||◌, not, unwrap_or}
 use Rattle.std.specs.Option.{option_map}
 use Rattle.std.specs.Global.{Global}
 use Rattle.std.specs.List.{list_all}
@@ -22,6 +22,7 @@ use Rattle.ovl_inode.specs.declared.inodes.Inode.{Inode}
 use Rattle.ovl_layer.specs.Layers.{Entries, Entry, entry_at, entry_cmp, is_directory_at, name_below, names_below, IsLayer}
 use Rattle.ovl_layer.specs.Entries.{entry_after, stated_pair}
 use Rattle.ovl_layer.specs.Sheets.{path_of, path_at, last_name}
+use Rattle.ovl_layer.specs.RowsBelow.{NamedRow, LiesBelow, AreRowsBelow}
 use Rattle.ovl_layer.proofs.BackLemmas.{pair-next}
 use Rattle.ovl_layer.proofs.SheetLemmas.{none-past, number-one, last_name-child, entry_at-number}
 use Rattle.ovl_lookup.specs.Stacks.{StackView}
@@ -37,7 +38,7 @@ use Rattle.ovl_board.specs.Walks.{Reached, start, next, ToKid}
 use Rattle.ovl_board.proofs.LawsOfMembers.{In, Rises, AllPairs-Rises, Rises-AllPairs, Contains-In, In-Contains, In-map, In-map-cases, In-filter-cases, Rises-filter, Every-All, place, rising_same}
 use Rattle.ovl_board.proofs.LawsOfPieces.{before_trans, less_differs, piece_eq}
 use Rattle.ovl_vacuum.specs.Vacuum.{is_idle, is_idle_throughout, vacuumed_layer, removed_paths}
-use Rattle.ovl_vacuum.specs.Directories.{IdleName, idle_name, names_seen, is_idle_at, vacuum_kids, vacuum_out, vacuum_root, IsVacuumWalk}
+use Rattle.ovl_vacuum.specs.Directories.{IdleName, names_seen, is_idle_at, vacuum_kids, vacuum_out, vacuum_root, IsVacuumWalk}
 use Rattle.ovl_vacuum.specs.Passes.{idle_flags, gone_flags, names_told, IsIdleTold, TellsBelow, left_to}
 use Rattle.ovl_vacuum.proofs.VacuumLemmas.{idle-at}
 use Rattle.ovl_vacuum.proofs.KeptLemmas.{root-stays, throughout-child, IsLayer-vacuumed}
@@ -317,68 +318,63 @@ module _ (stack : StackView) where
       by (inl same) = subst (IsIdleTold stack (set flags kid flag)) (sym same) (told-set flags kid flag inside is_flag)
       by (inr differ) = get_or-set_other flags kid number flag false differ ∙ told
 
--- those of the first rows directly below a directory's are set
-pub record ToldAmong (stack : StackView) (kids : List ℕ) (i : ℕ) (old new : List Bool) : Type 0 where
+-- the rows directly below a directory's are set, but those that are left
+pub record ToldExcept (stack : StackView) (directory : ℕ) (left : List NamedRow) (old new : List Bool) : Type 0 where
   pub count : length new ≡ length old
   pub kept : (number : ℕ) → IsIdleTold stack old number → IsIdleTold stack new number
-  pub told : (j : ℕ) → j < i → IsIdleTold stack new (get_or kids j 0)
+  pub told : (number : ℕ) (name : PathName) → number < length (top_layer stack) → path_at (top_layer stack) number ≡ child_path (path_at (top_layer stack) directory) name
+      → In name (map (λ row. row.1) left) ⊎ IsIdleTold stack new number
 
-module _ (stack : StackView) (directory : ℕ) (kids : List ℕ) (old : List Bool) (whole : length old ≡ length (top_layer stack))
-    (within : All (λ kid. kid < length (top_layer stack)) kids)
-    (paths : map (path_at (top_layer stack)) kids ≡ map (child_path (path_at (top_layer stack) directory)) (names_below (top_layer stack) (path_at (top_layer stack) directory))) where
-  abbrev names : List PathName
-  names = names_below (top_layer stack) (path_at (top_layer stack) directory)
-
-  same-count : length kids ≡ length (names_below (top_layer stack) (path_at (top_layer stack) directory))
-  same-count = omega (arith, ap length paths, length-map kids (path_at (top_layer stack)), length-map names (child_path (path_at (top_layer stack) directory)))
-
-  pub names-inside : (told : List IdleName) (i : ℕ) → told ≡ names_told stack directory → i < length kids → i < length told
-  names-inside told i is_told inside = omega (arith, inside, same-count, ap length is_told, length-map names (idle_name stack (path_at (top_layer stack) directory)))
-
-  pub kid-inside : (i : ℕ) (flags : List Bool) → i < length kids → length flags ≡ length old → get_or kids i 0 < length flags
-  kid-inside i flags inside count = omega (arith, within i 0 inside, count, whole)
-
-  kid-stands : (i : ℕ) → i < length kids → path_at (top_layer stack) (get_or kids i 0) ≡ child_path (path_at (top_layer stack) directory) (get_or (names_below (top_layer stack) (path_at (top_layer stack) directory)) i [])
-  kid-stands i inside =
-      sym (get_or-map (path_at (top_layer stack)) kids i 0 [] inside)
-      ∙ (ap (λ (ps : List PathNames). get_or ps i []) paths
-      ∙ get_or-map (child_path (path_at (top_layer stack) directory)) names i [] [] (omega (arith, inside, same-count)))
-
-  pub among-more : (told : List IdleName) (i : ℕ) (entry : IdleName) (flags : List Bool) → told ≡ names_told stack directory → i < length kids → entry ≡ get_or told i entry
-      → ToldAmong stack kids i old flags → ToldAmong stack kids (i + 1) old (set flags (get_or kids i 0) entry.1)
-  among-more told i entry flags is_told inside is_entry among =
-      let kid : ℕ = get_or kids i 0 in
-      let dir : PathNames = path_at (top_layer stack) directory in
-      let many : i < length names = omega (arith, inside, same-count) in
-      let whole_entry : entry ≡ idle_name stack dir (get_or names i []) =
-      is_entry ∙ (ap (λ (es : List IdleName). get_or es i entry) is_told ∙ get_or-map (idle_name stack dir) names i [] entry many) in
-      let flag : entry.1 ≡ is_idle_at stack (path_at (top_layer stack) kid) =
-      ap (λ (e : IdleName). e.1) whole_entry ∙ ap (is_idle_at stack) (sym (kid-stands i inside)) in
-      let fits : kid < length flags = kid-inside i flags inside among.count in
-      record {
-        count = length-set flags kid entry.1 ∙ among.count;
-        kept = λ number told. told-kept stack flags kid entry.1 fits flag number (among.kept number told);
-        told = λ j before. by j (cases_eq j i) before fits flag;
-      }
-    where
-      by : (j : ℕ) → (j ≡ i) ⊎ (j ≡ i → ⊥) → j < i + 1 → get_or kids i 0 < length flags → entry.1 ≡ is_idle_at stack (path_at (top_layer stack) (get_or kids i 0)) → IsIdleTold stack (set flags (get_or kids i 0) entry.1) (get_or kids j 0)
-      by j (inl same) before fits flag = subst (λ k. IsIdleTold stack (set flags (get_or kids i 0) entry.1) (get_or kids k 0)) (sym same) (told-set stack flags (get_or kids i 0) entry.1 fits flag)
-      by j (inr differ) before fits flag = told-kept stack flags (get_or kids i 0) entry.1 fits flag (get_or kids j 0) (among.told j (omega (arith, before, differ)))
-
-  pub among-all : IsLayer (top_layer stack) → directory < length (top_layer stack) → (i : ℕ) (flags : List Bool) → length kids ≤ i → ToldAmong stack kids i old flags → TellsBelow stack directory old flags
-  among-all is here i flags end among = record {
-    count = among.count;
-    kept = among.kept;
+module _ (stack : StackView) (directory : ℕ) (is : IsLayer (top_layer stack)) where
+  pub except-all : (rows : List NamedRow) (old : List Bool) → AreRowsBelow (top_layer stack) (path_at (top_layer stack) directory) rows → ToldExcept stack directory rows old old
+  except-all rows old are = record {
+    count = refl;
+    kept = λ number told. told;
     told = λ number name inside path.
         let found = entry-of_row (top_layer stack) number is inside in
         let own = ap (entry_at (top_layer stack)) (sym path) ∙ found.1 in
-        let spot = place name names (In-name (top_layer stack) (path_at (top_layer stack) directory) name (entry-path (top_layer stack) (child_path (path_at (top_layer stack) directory) name) found.0 own)) in
-        let among_kids : spot.0 < length kids = omega (arith, spot.1, same-count) in
-        let stands : path_at (top_layer stack) (get_or kids spot.0 0) ≡ path_at (top_layer stack) number =
-        kid-stands spot.0 among_kids ∙ (ap (child_path (path_at (top_layer stack) directory)) (spot.2 []) ∙ sym path) in
-        let same : get_or kids spot.0 0 ≡ number = one-number (top_layer stack) is.in_order (get_or kids spot.0 0) number (within spot.0 0 among_kids) inside stands in
-        subst (IsIdleTold stack flags) same (among.told spot.0 (omega (arith, among_kids, end)));
+        inl (subst (In name) (sym are.names) (In-name (top_layer stack) (path_at (top_layer stack) directory) name (entry-path (top_layer stack) (child_path (path_at (top_layer stack) directory) name) found.0 own)));
   }
+
+  pub except-next : (all : List NamedRow) (row : NamedRow) (left : List NamedRow) (old flags : List Bool) (flag : Bool) → length old ≡ length (top_layer stack) → all ≡ row ∷ left → LiesBelow (top_layer stack) (path_at (top_layer stack) directory) row
+      → flag ≡ is_idle_at stack (child_path (path_at (top_layer stack) directory) row.1) → ToldExcept stack directory all old flags → ToldExcept stack directory left old (set flags row.0 flag)
+  except-next all row left old flags flag whole first below told among = record {
+    count = length-set flags row.0 flag ∙ among.count;
+    kept = λ number known. told-kept stack flags row.0 flag fits is_flag number (among.kept number known);
+    told = λ number name inside path. by number name inside path (subst (λ (rows : List NamedRow). In name (map (λ own. own.1) rows) ⊎ IsIdleTold stack flags number) first (among.told number name inside path));
+  }
+    where
+      fits : row.0 < length flags
+      fits = omega (arith, below.0, among.count, whole)
+
+      is_flag : flag ≡ is_idle_at stack (path_at (top_layer stack) row.0)
+      is_flag = told ∙ ap (is_idle_at stack) (sym below.1)
+
+      by : (number : ℕ) (name : PathName) → number < length (top_layer stack) → path_at (top_layer stack) number ≡ child_path (path_at (top_layer stack) directory) name
+          → In name (map (λ own. own.1) (row ∷ left)) ⊎ IsIdleTold stack flags number → In name (map (λ own. own.1) left) ⊎ IsIdleTold stack (set flags row.0 flag) number
+      by number name inside there (inl (inl same)) =
+          let stands : path_at (top_layer stack) row.0 ≡ path_at (top_layer stack) number = below.1 ∙ (ap (child_path (path_at (top_layer stack) directory)) (sym same) ∙ sym there) in
+          inr (subst (IsIdleTold stack (set flags row.0 flag)) (one-number (top_layer stack) is.in_order row.0 number below.0 inside stands) (told-set stack flags row.0 flag fits is_flag))
+      by number name inside there (inl (inr more)) = inl more
+      by number name inside there (inr known) = inr (told-kept stack flags row.0 flag fits is_flag number known)
+
+pub except-none : (stack : StackView) (directory : ℕ) (old flags : List Bool) → ToldExcept stack directory [] old flags → TellsBelow stack directory old flags
+except-none stack directory old flags among = record {
+  count = among.count;
+  kept = among.kept;
+  told = λ number name inside path. by number (among.told number name inside path);
+}
+  where
+    by : (number : ℕ) → ⊥ ⊎ IsIdleTold stack flags number → IsIdleTold stack flags number
+    by number (inl bad) = absurd bad
+    by number (inr known) = known
+
+-- the first of what is left of a list
+pub drop-first : {X : Type 0} (n : ℕ) (all left : List X) (x d : X) → drop n all ≡ x ∷ left → (n < length all) × (get_or all n d ≡ x) × (drop (n + 1) all ≡ left)
+drop-first zero [] left x d e = absurd (omega (arith, ap length e))
+drop-first zero (y ∷ all) left x d e = (omega arith, ap (λ ys. get_or ys 0 d) e, ap (drop 1) e)
+drop-first (suc n) [] left x d e = absurd (omega (arith, ap length e))
+drop-first (suc n) (y ∷ all) left x d e = let more = drop-first n all left x d e in let shift : suc n + 1 ≡ suc (n + 1) = omega arith in (omega (arith, more.0), more.1, ap (λ k. drop k (y ∷ all)) shift ∙ more.2)
 
 -- of the rows in the directories among the first ones, and of the root, the flags are set
 pub record ToldTo (stack : StackView) (number : ℕ) (flags : List Bool) : Type 0 where

@@ -1,12 +1,10 @@
 -- What a visit finds in its directory, and whether an entry is idle, by the walk of its directory.
-use Rattle.std.proofs.Common.{◌≡◌, ℕ, ◌+◌, ◌<◌, ◌≤◌, inl, inr, Bool, true, false, cond, Option, Some, None, List, [], ◌∷◌, ◌++◌, length, map, get_or, take, refl, sym, ap, subst, ◌∙◌, arith}
+use Rattle.std.proofs.Common.{◌≡◌, ℕ, ◌<◌, inl, inr, Bool, true, false, cond, Option, Some, None, List, [], ◌∷◌, ◌++◌, length, map, refl, sym, ap, subst, ◌∙◌, arith}
 use Rattle.std.specs.Prelude.{◌&&◌, ◌||◌, not, filter, All, MatchOption, slice_get, unwrap_or}
 use Rattle.std.specs.Option.{option_map}
-use Rattle.std.specs.List.{list_any, cons_option}
+use Rattle.std.specs.List.{AllByRecursion, list_any, cons_option}
 use Rattle.std.specs.Map.{lookup}
 use Rattle.std.specs.Cmp.Lexicographic.{bytes_decides}
-use Rattle.std.proofs.lemmas.List.{append-nil, map-append, length-map, get_or-map, take_more, take_all}
-use Rattle.std.proofs.lemmas.List.Elements.{filter-append}
 use Rattle.ovl_names.specs.Names.{PathName, name_eq, name_cmp}
 use Rattle.ovl_names.specs.Order.{ascends}
 use Rattle.ovl_names.specs.Paths.{PathNames, child_path}
@@ -17,8 +15,8 @@ use Rattle.ovl_inode.specs.declared.marks.Mark.TheVariants.{Whiteout, DirOpaque,
 use Rattle.ovl_inode.specs.Inodes.{visible}
 use Rattle.ovl_inode.specs.Marks.{mark_of, is_directory, is_regular, is_whiteout, has_opaque, has_metacopy, redirect_reading, directory_mark, metacopy_mark}
 use Rattle.ovl_layer.specs.Layers.{Entries, entry_at, is_directory_at, names_below, IsLayer}
-use Rattle.ovl_layer.specs.Sheets.{path_at, last_name}
-use Rattle.ovl_layer.proofs.SheetLemmas.{last_name-child}
+use Rattle.ovl_layer.specs.Sheets.{path_at}
+use Rattle.ovl_layer.specs.RowsBelow.{NamedRow, LiesBelow}
 use Rattle.ovl_lookup.specs.declared.looks.Look.{Look}
 use Rattle.ovl_lookup.specs.declared.looks.Look.TheVariants.{Nothing, Shown, Broken}
 use Rattle.ovl_lookup.specs.declared.steps.Step.{Step}
@@ -73,57 +71,7 @@ pub visited-own : (stack : StackView) (piece : Piece) (directory : TopDirectory)
 visited-own stack piece directory is =
     subst (λ (p : Piece). IsTopDirectory directory.stack.now p directory) (sym is.stands) (subst (λ (s : StackView). IsTopDirectory s piece directory) (sym is.over) is)
 
--- ---- the rows in a directory, and their names
-
-module _ (layer : Entries) (directory : PathNames) (rows : List ℕ) (paths : map (path_at layer) rows ≡ map (child_path directory) (names_below layer directory)) where
-  same-count : length rows ≡ length (names_below layer directory)
-  same-count = omega (arith, ap length paths, length-map rows (path_at layer), length-map (names_below layer directory) (child_path directory))
-
-  row-stands : (i : ℕ) → i < length rows → path_at layer (get_or rows i 0) ≡ child_path directory (get_or (names_below layer directory) i [])
-  row-stands i inside =
-      sym (get_or-map (path_at layer) rows i 0 [] inside)
-      ∙ (ap (λ (ps : List PathNames). get_or ps i []) paths
-      ∙ get_or-map (child_path directory) (names_below layer directory) i [] [] (omega (arith, inside, same-count)))
-
-  row-name : (i : ℕ) → i < length rows → last_name (path_at layer (get_or rows i 0)) ≡ Some (get_or (names_below layer directory) i [])
-  row-name i inside = ap last_name (row-stands i inside) ∙ last_name-child directory (get_or (names_below layer directory) i [])
-
--- a row in a directory, whose name comes next among those of the directory
-pub record IsNextRow (layer : Entries) (directory : PathNames) (row i : ℕ) (name : PathName) : Type 0 where
-  pub stands : path_at layer row ≡ child_path directory name
-  pub more : take (i + 1) (names_below layer directory) ≡ take i (names_below layer directory) ++ name ∷ []
-
--- the rows of a directory that is visited, as its sheet has them
-module _ (directory : TopDirectory) (is : IsTopDirectory directory.stack.now directory.piece.now directory)
-    (sheet : Entries) (same : sheet ≡ top_layer directory.stack.now) (rows : List ℕ)
-    (are : map (path_at sheet) rows ≡ map (child_path (path_at sheet directory.row)) (names_below sheet (path_at sheet directory.row))) where
-  abbrev top : Entries
-  top = top_layer directory.stack.now
-
-  abbrev dir : PathNames
-  dir = directory.piece.now.dir
-
-  paths : map (path_at top) rows ≡ map (child_path dir) (names_below top dir)
-  paths =
-      subst (λ (path : PathNames). map (path_at top) rows ≡ map (child_path path) (names_below top path)) is.here
-      (subst (λ (layer : Entries). map (path_at layer) rows ≡ map (child_path (path_at layer directory.row)) (names_below layer (path_at layer directory.row))) same are)
-
-  named : (i : ℕ) → i < length rows → last_name (path_at sheet (get_or rows i 0)) ≡ Some (get_or (names_below top dir) i [])
-  named i inside = (λ j. last_name (path_at (same j) (get_or rows i 0))) ∙ row-name top dir rows paths i inside
-
-  pub next-row : (i : ℕ) → i < length rows → (name : PathName) → Some name ≡ last_name (path_at sheet (get_or rows i 0)) → IsNextRow (top_layer directory.stack.now) directory.piece.now.dir (get_or rows i 0) i name
-  next-row i inside name has =
-      let own : get_or (names_below top dir) i [] ≡ name = ap (λ (o : Option PathName). unwrap_or o name) (sym (has ∙ named i inside)) in
-      record {
-        stands = row-stands top dir rows paths i inside ∙ ap (child_path dir) own;
-        more = take_more (names_below top dir) i [] (omega (arith, inside, same-count top dir rows paths)) ∙ ap (λ (name : PathName). take i (names_below top dir) ++ name ∷ []) own;
-      }
-
-  pub never-unnamed : (i : ℕ) → i < length rows → None ≡ last_name (path_at sheet (get_or rows i 0)) → ⊥
-  never-unnamed i inside unnamed = let bad : None ≡ Some (get_or (names_below top dir) i []) = unnamed ∙ named i inside in cc
-
-  pub names-all : (i : ℕ) → length rows ≤ i → take i (names_below (top_layer directory.stack.now) directory.piece.now.dir) ≡ names_below (top_layer directory.stack.now) directory.piece.now.dir
-  names-all i end = take_all i (names_below top dir) (omega (arith, end, same-count top dir rows paths))
+-- ---- the rows in a directory
 
 -- what is in a row
 module _ (layer : Entries) (is : IsLayer layer) (row : ℕ) (inside : row < length layer) (path : PathNames) (stands : path_at layer row ≡ path) (sheet : Entries) (same : sheet ≡ layer) where
@@ -139,26 +87,23 @@ module _ (layer : Entries) (is : IsLayer layer) (row : ℕ) (inside : row < leng
       let told : option_map mark_of (entry_at layer (path_at layer row)) ≡ Some mark = subst (λ (l : Entries). option_map mark_of (entry_at l (path_at l row)) ≡ Some mark) same at in
       (found.0, ap (entry_at layer) (sym stands) ∙ found.1, own-mark found.0 mark (sym (ap (option_map mark_of) found.1) ∙ told))
 
--- the kids with one more name
-module _ (stack : StackView) (piece : Piece) (old : List PathName) (name : PathName) where
-  abbrev kids_in : List PathName → List Piece
-  kids_in names = map (piece_in piece) (filter (λ own. is_directory_at (top_layer stack) (child_path piece.dir own)) names)
+-- the names of the rows that are directories
+pub directories-below : (layer : Entries) (directory : PathNames) (rows : List NamedRow) → AllByRecursion (LiesBelow layer directory) rows
+    → map (λ row. row.1) (filter (λ row. is_directory_at layer (path_at layer row.0)) rows) ≡ filter (λ name. is_directory_at layer (child_path directory name)) (map (λ row. row.1) rows)
+directories-below layer directory [] all = refl
+directories-below layer directory (row ∷ rows) all =
+    ap (λ b. map (λ (own : NamedRow). own.1) (cond b (row ∷ there) there)) (ap (is_directory_at layer) all.0.1)
+    ∙ by (is_directory_at layer (child_path directory row.1)) (directories-below layer directory rows all.1)
+  where
+    there : List NamedRow
+    there = filter (λ own. is_directory_at layer (path_at layer own.0)) rows
 
-  pub kids-more : is_directory_at (top_layer stack) (child_path piece.dir name) ≡ true
-      → map (piece_in piece) (filter (λ own. is_directory_at (top_layer stack) (child_path piece.dir own)) (old ++ name ∷ []))
-      ≡ map (piece_in piece) (filter (λ own. is_directory_at (top_layer stack) (child_path piece.dir own)) old) ++ piece_in piece name ∷ []
-  kids-more holds =
-      ap (map (piece_in piece)) (filter-append (λ own. is_directory_at (top_layer stack) (child_path piece.dir own)) old (name ∷ []))
-      ∙ (map-append (piece_in piece) (filter (λ own. is_directory_at (top_layer stack) (child_path piece.dir own)) old) (filter (λ own. is_directory_at (top_layer stack) (child_path piece.dir own)) (name ∷ []))
-      ∙ ap (λ b. kids_in old ++ map (piece_in piece) (cond b (name ∷ []) [])) holds)
+    named : List PathName
+    named = filter (λ name. is_directory_at layer (child_path directory name)) (map (λ own. own.1) rows)
 
-  pub kids-same : is_directory_at (top_layer stack) (child_path piece.dir name) ≡ false
-      → map (piece_in piece) (filter (λ own. is_directory_at (top_layer stack) (child_path piece.dir own)) (old ++ name ∷ []))
-      ≡ map (piece_in piece) (filter (λ own. is_directory_at (top_layer stack) (child_path piece.dir own)) old)
-  kids-same file =
-      ap (map (piece_in piece)) (filter-append (λ own. is_directory_at (top_layer stack) (child_path piece.dir own)) old (name ∷ []))
-      ∙ (map-append (piece_in piece) (filter (λ own. is_directory_at (top_layer stack) (child_path piece.dir own)) old) (filter (λ own. is_directory_at (top_layer stack) (child_path piece.dir own)) (name ∷ []))
-      ∙ (ap (λ b. kids_in old ++ map (piece_in piece) (cond b (name ∷ []) [])) file ∙ append-nil (kids_in old)))
+    by : (b : Bool) → map (λ own. own.1) there ≡ named → map (λ own. own.1) (cond b (row ∷ there) there) ≡ cond b (row.1 ∷ named) named
+    by true later = ap (λ (names : List PathName). row.1 ∷ names) later
+    by false later = later
 
 -- ---- whether an entry is idle
 

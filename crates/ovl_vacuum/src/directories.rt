@@ -52,7 +52,7 @@ impl<'a> TopDirectory<'a> {
             turned,
             closed,
         } = own;
-        if stack.top().kids(row).is_empty() {
+        if stack.top().below(row).is_empty() {
             return Ok(None);
         }
         let below = view_below(alloc, stack, &piece.dir, turned, closed)?;
@@ -85,16 +85,9 @@ impl<'a> TopDirectory<'a> {
             (λ kids. kids.items ≡ vacuum_kids self.now.stack.now self.now.piece.now) }
     {
         let sheet = self.stack.top();
-        let rows = sheet.kids(self.row);
-        let mut kids = Vec::new(alloc);
-        for row in rows {
-            if let Some(name) = sheet.name(*row) {
-                if is_directory(sheet.inode(*row)) {
-                    kids.push(self.piece.child(alloc, name)?)?;
-                }
-            }
-        }
-        Ok(kids)
+        let rows = sheet.below(self.row);
+        let directories = rows.filter(|row| is_directory(sheet.inode(row.0)));
+        self.piece.children(alloc, directories.map(|row| row.1))
     }
 
     // The names in it, each with whether its entry is idle.
@@ -104,14 +97,12 @@ impl<'a> TopDirectory<'a> {
             (λ names. names.items ≡ vacuum_out self.now.stack.now self.now.piece.now) }
     {
         let sheet = self.stack.top();
-        let rows = sheet.kids(self.row);
+        let rows = sheet.below(self.row);
         // Its view in the merged tree, made where an entry needs it.
         let mut whole = None;
         let mut names = Vec::with_capacity(alloc, rows.len())?;
-        for row in rows {
-            if let Some(name) = sheet.name(*row) {
-                names.push(self.idle_name(alloc, &mut whole, *row, name)?)?;
-            }
+        for (row, name) in rows {
+            names.push(self.idle_name(alloc, &mut whole, row, name)?)?;
         }
         Ok(names)
     }

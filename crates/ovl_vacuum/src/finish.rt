@@ -98,9 +98,10 @@ fn tell_below(stack: &Stack, directory: u32, names: &[(Name, bool)], idle: &mut 
     requires count { length idle.old.items ≡ length (top_layer stack.now) }
     ensures { TellsBelow stack.now directory idle.old.items idle.new.items }
 {
-    let kids = stack.top().kids(directory);
-    for place in 0..kids.len() {
-        idle[kids[place] as usize] = names[place].1;
+    let mut place = 0;
+    for (row, _) in stack.top().below(directory) {
+        idle[row as usize] = names[place].1;
+        place += 1;
     }
 }
 

@@ -1,36 +1,46 @@
-use Rattle.std.proofs.Common.{◌≡◌, ◌∙◌, ◌+◌, List, arith, take, take_all, sym, ap, subst}
+use Rattle.std.proofs.Common.{◌≡◌, ◌∙◌, ◌∷◌, [], List, map, refl, sym, ap, subst}
 use Rattle.std.specs.List.{AllByRecursion}
 use Rattle.ovl_names.specs.Paths.{PathNames}
-use Rattle.ovl_layer.specs.Layers.{names_below}
+use Rattle.ovl_layer.specs.Layers.{Entries, names_below}
 use Rattle.ovl_layer.specs.Sheets.{path_at}
+use Rattle.ovl_layer.specs.RowsBelow.{NamedRow, LiesBelow}
+use Rattle.ovl_layer.proofs.RowBelowLemmas.{rows-start, rows-next, rows-done}
 use Rattle.ovl_lookup.specs.NamedLists.{names_of}
 use Rattle.ovl_merge.specs.declared.candidates.Candidate.{Candidate}
 use Rattle.ovl_merge.specs.Candidates.{candidates_told}
-use Rattle.ovl_merge.proofs.RowLemmas.{IsOwnRow, kid-named, kids-many, row-more, rows-all}
+use Rattle.ovl_merge.proofs.RowLemmas.{IsOwnRow, named-more, own-more, rows-all}
 use Rattle.ovl_merge.proofs.candidates.rows_in.Goals as goal
-use Rattle.ovl_merge.proofs.candidates.rows_in.Goals.{in-Some+in_ok-push, in_default}
 
-pub loop-kid-preserved : goal.loop-kid-preserved
-loop-kid-preserved c =
-    let layer = c.args.sheet.now in
+pub loop-row-init : goal.loop-row-init
+loop-row-init c =
+    let layer : Entries = c.args.sheet.now in
     let path : PathNames = path_at layer c.args.directory in
-    let kids = c.kids-kids.result.now in
-    let j = c.loop-kid.kid-index in
-    elim c.match-name.branch [
-      | in-Some+in_ok-push w ↦
-          let candidate : Candidate = w.in_row.result in
-          let more = row-more c.args.side layer path kids c.kids-kids.ensures.paths j c.loop-kid-test.true c.loop-kid.rows.items candidate w.in-Some.name.now c.loop-kid.invariant.0 c.loop-kid.invariant.1
-          w.in-Some.ensures (c.kids-kids.ensures.inside j 0 c.loop-kid-test.true) w.in_row.ensures in
-          subst (λ (rows : List Candidate). (names_of (candidates_told rows) ≡ take (j + 1) (names_below layer path)) × AllByRecursion (IsOwnRow c.args.side layer path) (candidates_told rows))
-          (sym (ap (λ v. v.items) w.rows-is ∙ w.in_ok-push.ensures.items)) more
-      | in_default w ↦ absurd (kid-named c.args.side layer path kids c.kids-kids.ensures.paths j c.loop-kid-test.true w.in_default.ensures)
-    ]
+    let none : c.in_ok-rows.rows.items ≡ [] = c.in_ok-rows.ensures.items in
+    record {
+      names = rows-start (map (λ own. own.1)) c.into_iter-row-iterator.result c.below-below.result (names_of (candidates_told c.in_ok-rows.rows.items)) (names_below layer path) c.into_iter-row-iterator.ensures.into_iter_gives (ap (λ (cs : List Candidate). names_of (candidates_told cs)) none) c.below-below.ensures.names;
+      own = subst (λ (cs : List Candidate). AllByRecursion (IsOwnRow c.args.side layer path) (candidates_told cs)) (sym none) tt;
+      rest = subst (AllByRecursion (LiesBelow layer path)) (sym c.into_iter-row-iterator.ensures.into_iter_gives) c.below-below.ensures.each;
+    }
+
+pub loop-row-preserved : goal.loop-row-preserved
+loop-row-preserved c =
+    let layer : Entries = c.args.sheet.now in
+    let path : PathNames = path_at layer c.args.directory in
+    let row : NamedRow = (c.in-Some.row, c.in-Some.name.now) in
+    let rows : List Candidate = c.loop-row.rows.items in
+    let candidate : Candidate = c.in_row.result in
+    let rest : AllByRecursion (LiesBelow layer path) (row ∷ c.next.new.self) = subst (AllByRecursion (LiesBelow layer path)) c.in-Some.ensures.steps c.loop-row.invariant.rest in
+    record {
+      names = rows-next (map (λ own. own.1)) c.loop-row.row-iterator row c.next.new.self (names_of (candidates_told rows)) (names_of (candidates_told c.push.new.self.items)) (row.1 ∷ []) (names_below layer path) c.in-Some.ensures.steps refl
+          (ap (λ (cs : List Candidate). names_of (candidates_told cs)) c.in_ok-push.ensures.items ∙ named-more c.args.side layer path rows candidate row c.in_row.ensures) c.loop-row.invariant.names;
+      own = subst (λ (cs : List Candidate). AllByRecursion (IsOwnRow c.args.side layer path) (candidates_told cs)) (sym c.in_ok-push.ensures.items) (own-more c.args.side layer path rows candidate row c.in_row.ensures c.loop-row.invariant.own rest.0);
+      rest = rest.1;
+    }
 
 pub returns : goal.returns
 returns c =
-    let layer = c.args.sheet.now in
+    let layer : Entries = c.args.sheet.now in
     let path : PathNames = path_at layer c.args.directory in
-    let many = kids-many c.args.side layer path c.kids-kids.result.now c.kids-kids.ensures.paths in
-    rows-all c.args.side layer path (candidates_told c.loop-kid.rows.items)
-    (c.loop-kid.invariant.0 ∙ take_all c.loop-kid.kid-index (names_below layer path) (omega (arith, many, c.loop-kid-test.false)))
-    c.loop-kid.invariant.1
+    rows-all c.args.side layer path (candidates_told c.loop-row.rows.items)
+    (rows-done (map (λ own. own.1)) c.loop-row.row-iterator (names_of (candidates_told c.loop-row.rows.items)) (names_below layer path) c.in-None.ensures.steps.0 refl c.loop-row.invariant.names)
+    c.loop-row.invariant.own

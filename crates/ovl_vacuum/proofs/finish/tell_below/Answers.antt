@@ -1,41 +1,55 @@
-use Rattle.std.proofs.Common.{◌<◌, ℕ, length, get_or, arith}
-use Rattle.ovl_lookup.specs.Words.{top_layer}
-use Rattle.std.proofs.Common.{◌≡◌, subst, List, map}
-use Rattle.std.specs.List.{All}
-use Rattle.ovl_names.specs.Paths.{child_path}
-use Rattle.ovl_layer.specs.Layers.{Entries, names_below}
+use Rattle.std.proofs.Common.{◌≡◌, ◌∙◌, ◌∷◌, List, get_or, map, refl, sym, ap, subst}
+use Rattle.std.specs.List.{AllByRecursion}
+use Rattle.ovl_names.specs.Paths.{PathNames}
 use Rattle.ovl_layer.specs.Sheets.{path_at}
+use Rattle.ovl_layer.specs.RowsBelow.{NamedRow, LiesBelow, AreRowsBelow}
+use Rattle.ovl_layer.proofs.RowBelowLemmas.{rows-at}
+use Rattle.ovl_lookup.specs.Stacks.{StackView}
+use Rattle.ovl_lookup.specs.Words.{top_layer}
 use Rattle.ovl_lookup.proofs.LawsOfLooks.{top-layer}
-use Rattle.ovl_vacuum.proofs.RowLemmas.{ToldAmong, names-inside, among-more, among-all}
-use Rattle.std.proofs.Common.{◌+◌, set}
-use Rattle.ovl_vacuum.specs.Directories.{IdleName}
+use Rattle.ovl_vacuum.specs.Directories.{IdleName, idle_name}
+use Rattle.ovl_vacuum.proofs.RowLemmas.{ToldExcept, except-all, except-next, except-none, drop-first}
 use Rattle.ovl_vacuum.proofs.finish.tell_below.Goals as goal
 
-within : (layer top : Entries) (kids : List ℕ) → layer ≡ top → All (λ kid. kid < length layer) kids → All (λ kid. kid < length top) kids
-within layer top kids same all = subst (λ (l : Entries). All (λ kid. kid < length l) kids) same all
+pub loop-row-init : goal.loop-row-init
+loop-row-init c =
+    let stack : StackView = c.args.stack.now in
+    let directory : PathNames = path_at (top_layer stack) c.args.directory in
+    let are : AreRowsBelow (top_layer stack) directory c.below-row-items.result = rows-at c.top.result.now (top_layer stack) c.args.directory directory c.below-row-items.result c.top.ensures.value refl c.below-row-items.ensures in
+    let given : c.into_iter-row-iterator.result ≡ c.below-row-items.result = c.into_iter-row-iterator.ensures.into_iter_gives in
+    record {
+      among = subst (λ (rows : List NamedRow). ToldExcept stack c.args.directory rows c.args.idle.now.items c.args.idle.now.items) (sym given) (except-all stack c.args.directory (top-layer stack c.top.ensures.some c.top.ensures.each) c.below-row-items.result c.args.idle.now.items are);
+      names = c.requires.names ∙ (sym (ap (map (idle_name stack directory)) are.names) ∙ ap (λ (rows : List NamedRow). map (idle_name stack directory) (map (λ own. own.1) rows)) (sym given));
+      rest = subst (AllByRecursion (LiesBelow (top_layer stack) directory)) (sym given) are.each;
+    }
 
-paths : (layer top : Entries) (kids : List ℕ) (directory : ℕ) → layer ≡ top → map (path_at layer) kids ≡ map (child_path (path_at layer directory)) (names_below layer (path_at layer directory))
-    → map (path_at top) kids ≡ map (child_path (path_at top directory)) (names_below top (path_at top directory))
-paths layer top kids directory same are = subst (λ (l : Entries). map (path_at l) kids ≡ map (child_path (path_at l directory)) (names_below l (path_at l directory))) same are
-
+-- the name of the next row, with whether its entry is idle
 pub bounds-names-place : goal.bounds-names-place
 bounds-names-place c =
-    names-inside c.args.stack.now c.args.directory c.kids-kids.result.now c.args.idle.now.items c.requires.count
-    (within c.top.result.now (top_layer c.args.stack.now) c.kids-kids.result.now c.top.ensures.value c.kids-kids.ensures.inside)
-    (paths c.top.result.now (top_layer c.args.stack.now) c.kids-kids.result.now c.args.directory c.top.ensures.value c.kids-kids.ensures.paths)
-    c.args.names.now c.loop-place.place c.requires.names (omega arith)
+    let stack : StackView = c.args.stack.now in
+    let directory : PathNames = path_at (top_layer stack) c.args.directory in
+    let told : List NamedRow → List IdleName = λ rows. map (idle_name stack directory) (map (λ own. own.1) rows) in
+    let own : IdleName = idle_name stack directory c.in-Some.field-0-1.now in
+    (drop-first c.loop-row.place c.args.names.now (told c.next.new.self) own own (c.loop-row.invariant.names ∙ ap told c.in-Some.ensures.steps)).0
 
-pub loop-place-preserved : goal.loop-place-preserved
-loop-place-preserved c =
-    subst (λ (entry : IdleName). ToldAmong c.args.stack.now c.kids-kids.result.now (c.loop-place.place + 1) c.args.idle.now.items (set c.loop-place.idle.items (get_or c.kids-kids.result.now c.loop-place.place 0) entry.1)) c.index-names-place.is
-    (among-more c.args.stack.now c.args.directory c.kids-kids.result.now c.args.idle.now.items c.requires.count
-    (within c.top.result.now (top_layer c.args.stack.now) c.kids-kids.result.now c.top.ensures.value c.kids-kids.ensures.inside)
-    (paths c.top.result.now (top_layer c.args.stack.now) c.kids-kids.result.now c.args.directory c.top.ensures.value c.kids-kids.ensures.paths)
-    c.args.names.now c.loop-place.place c.index-names-place.result c.loop-place.idle.items c.requires.names (omega arith) c.index-names-place.is c.loop-place.invariant)
+pub loop-row-preserved : goal.loop-row-preserved
+loop-row-preserved c =
+    let stack : StackView = c.args.stack.now in
+    let directory : PathNames = path_at (top_layer stack) c.args.directory in
+    let told : List NamedRow → List IdleName = λ rows. map (idle_name stack directory) (map (λ own. own.1) rows) in
+    let row : NamedRow = (c.in-Some.row, c.in-Some.field-0-1.now) in
+    let own : IdleName = idle_name stack directory row.1 in
+    let entry : IdleName = c.index-names-place.result in
+    let rest : AllByRecursion (LiesBelow (top_layer stack) directory) (row ∷ c.next.new.self) = subst (AllByRecursion (LiesBelow (top_layer stack) directory)) c.in-Some.ensures.steps c.loop-row.invariant.rest in
+    let next = drop-first c.loop-row.place c.args.names.now (told c.next.new.self) own entry (c.loop-row.invariant.names ∙ ap told c.in-Some.ensures.steps) in
+    record {
+      among = except-next stack c.args.directory (top-layer stack c.top.ensures.some c.top.ensures.each) c.loop-row.row-iterator row c.next.new.self c.args.idle.now.items c.loop-row.idle.items (get_or c.args.names.now c.loop-row.place entry).1 c.requires.count c.in-Some.ensures.steps rest.0
+          (ap (λ (e : IdleName). e.1) next.1) c.loop-row.invariant.among;
+      names = next.2;
+      rest = rest.1;
+    }
 
 pub returns : goal.returns
 returns c =
-    among-all c.args.stack.now c.args.directory c.kids-kids.result.now c.args.idle.now.items c.requires.count
-    (within c.top.result.now (top_layer c.args.stack.now) c.kids-kids.result.now c.top.ensures.value c.kids-kids.ensures.inside)
-    (paths c.top.result.now (top_layer c.args.stack.now) c.kids-kids.result.now c.args.directory c.top.ensures.value c.kids-kids.ensures.paths)
-    (top-layer c.args.stack.now c.top.ensures.some c.top.ensures.each) c.requires.inside c.loop-place.place c.loop-place.idle.items (omega arith) c.loop-place.invariant
+    except-none c.args.stack.now c.args.directory c.args.idle.now.items c.loop-row.idle.items
+    (subst (λ (rows : List NamedRow). ToldExcept c.args.stack.now c.args.directory rows c.args.idle.now.items c.loop-row.idle.items) c.in-None.ensures.steps.0 c.loop-row.invariant.among)

@@ -1,6 +1,6 @@
-use Rattle.std.proofs.Common.{◌≡◌, take, map}
-use Rattle.ovl_layer.proofs.SheetLemmas.{own_name}
+use Rattle.std.proofs.Common.{◌≡◌, ◌++◌, map}
 use Rattle.ovl_layer.proofs.sheets.SheetPlaceLayerPlace.names.Given as goal
 
-abbrev pub invariant-loop-kid : goal.invariant-loop-kid
-invariant-loop-kid l = l.names.items ≡ map (own_name l.sheet-inside.rows.items) (take l.kid-index l.kids)
+-- the names so far, with those of the rows that are left
+abbrev pub invariant-loop-name : goal.invariant-loop-name
+invariant-loop-name l = l.names.items ++ map (λ row. row.1) l.name-iterator ≡ map (λ row. row.1) l.initial.name-iterator

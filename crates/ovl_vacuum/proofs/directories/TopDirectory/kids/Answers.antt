@@ -1,51 +1,53 @@
-use Rattle.std.proofs.Common.{◌∙◌, ◌++◌, ◌∷◌, [], ℕ, List, get_or, map, take, length, sym, ap, arith}
-use Rattle.std.specs.Prelude.{filter}
-use Rattle.ovl_names.specs.Names.{PathName}
-use Rattle.ovl_names.specs.Paths.{child_path}
-use Rattle.ovl_layer.specs.Layers.{Entries, is_directory_at, names_below}
-use Rattle.ovl_lookup.specs.Stacks.{StackView}
+use Rattle.std.proofs.Common.{◌∙◌, length, map, filter, rules, tests, of_calls, refl, sym, ap, subst, arith}
+use Rattle.std.proofs.lemmas.Iterator.{YieldsList-from_map_by}
+use Rattle.std.proofs.lemmas.Iterator.Adapters.{serves_from_places}
+use Rattle.std.proofs.lemmas.Iterator.Consumers.{YieldsList-at, YieldsList-from_filter, YieldsList-from_first}
+use Rattle.std.proofs.lemmas.List.Elements.{All-from_recursion}
+use Rattle.std.proofs.lemmas.Result.{IfOk-weaker}
+use Rattle.std.specs.Iterator.Adapters.{filter_source, filter_callee}
+use Rattle.ovl_names.specs.Paths.{PathNames, child_path}
+use Rattle.ovl_layer.specs.Layers.{Entries, is_directory_at}
+use Rattle.ovl_layer.specs.Sheets.{path_at}
+use Rattle.ovl_layer.specs.RowsBelow.{NamedRow, LiesBelow, AreRowsBelow}
+use Rattle.ovl_layer.proofs.RowBelowLemmas.{rows-at}
 use Rattle.ovl_lookup.specs.Words.{top_layer}
-use Rattle.ovl_lookup.proofs.LawsOfLooks.{top-layer}
-use Rattle.ovl_board.specs.declared.pieces.Piece.{Piece}
 use Rattle.ovl_board.specs.Pieces.{piece_in}
-use Rattle.ovl_vacuum.proofs.VisitLemmas.{next-row, never-unnamed, names-all, row-directory, kids-more, kids-same}
+use Rattle.ovl_board.proofs.LawsOfChildren.{children-of}
+use Rattle.ovl_vacuum.proofs.VisitLemmas.{directories-below}
 use Rattle.ovl_vacuum.proofs.directories.TopDirectory.kids.Goals as goal
-use Rattle.ovl_vacuum.proofs.directories.TopDirectory.kids.Goals.{in-Some+then-is_directory+in_ok-child+in_ok-push, in-Some+else-is_directory, in_default}
 
-pub loop-row-preserved : goal.loop-row-preserved
-loop-row-preserved c =
-    let stack : StackView = c.args.self.now.stack.now in
-    let piece : Piece = c.args.self.now.piece.now in
-    let top : Entries = top_layer stack in
-    let rows : List ℕ = c.kids-rows.result.now in
-    let i : ℕ = c.loop-row.row-index in
-    let same = c.top-sheet.ensures.value in
-    let names : List PathName = names_below top piece.dir in
-    let told : List PathName → List Piece = λ ns. map (piece_in piece) (filter (λ own. is_directory_at top (child_path piece.dir own)) ns) in
-    let next = next-row c.args.self.now c.requires c.top-sheet.result.now same rows c.kids-rows.ensures.paths i c.loop-row-test.true in
-    let inside = row-directory top (top-layer stack c.top-sheet.ensures.some c.top-sheet.ensures.each) (get_or rows i 0) (omega (arith, c.kids-rows.ensures.inside i 0 c.loop-row-test.true, ap length same)) in
-    elim c.match-name.branch [
-      | in-Some+then-is_directory+in_ok-child+in_ok-push w ↦
-          let name : PathName = w.in-Some.name.now in
-          let is = next name w.in-Some.ensures in
-          let directory = inside (child_path piece.dir name) is.stands c.top-sheet.result.now same w.inode.result.now w.inode.ensures ∙ sym w.is_directory.ensures in
-          ap (λ ks. ks.items) w.kids-is
-          ∙ (w.in_ok-push.ensures.items
-          ∙ ((λ j. c.loop-row.invariant j ++ w.in_ok-child.ensures j ∷ [])
-          ∙ sym (ap told is.more ∙ kids-more stack piece (take i names) name (directory ∙ w.if-is_directory.true))))
-      | in-Some+else-is_directory w ↦
-          let name : PathName = w.in-Some.name.now in
-          let is = next name w.in-Some.ensures in
-          let directory = inside (child_path piece.dir name) is.stands c.top-sheet.result.now same w.inode.result.now w.inode.ensures ∙ sym w.is_directory.ensures in
-          ap (λ ks. ks.items) w.kids-is
-          ∙ (c.loop-row.invariant ∙ sym (ap told is.more ∙ kids-same stack piece (take i names) name (directory ∙ w.if-is_directory.false)))
-      | in_default w ↦ absurd (never-unnamed c.args.self.now c.requires c.top-sheet.result.now same rows c.kids-rows.ensures.paths i c.loop-row-test.true w.in_default.ensures)
-    ]
+-- each row that is tested is in the sheet
+pub children-requires : goal.children-requires
+children-requires c = λ k. (
+  (refl, tt),
+  (
+    (
+      (
+        tt,
+        tt,
+        serves_from_places (YieldsList-from_first (λ row. (row.0, row.1.now)) (λ rows. rows) c.below-rows.result (ap filter_source c.map.ensures.source ∙ c.filter-directories.ensures.source)) (λ x q r. search rules) (λ x i inside is y same a b d e f g.
+            let layer : Entries = c.top-sheet.result.now in
+            let within : LiesBelow layer (path_at layer c.args.self.now.row) (x.0, x.1.now) = subst (LiesBelow layer (path_at layer c.args.self.now.row)) (sym is) (All-from_recursion _ _ c.below-rows.ensures.each i (x.0, x.1.now) inside) in
+            omega (arith, within.0, ap (λ row. row.0) same, ap (λ p. length p.0.now) (ap filter_callee c.map.ensures.source ∙ c.filter-directories.ensures.closure))),
+      ),
+      search of_calls,
+    ),
+    tt,
+  ),
+)
 
 pub returns : goal.returns
 returns c =
-    let piece : Piece = c.args.self.now.piece.now in
+    let layer : Entries = c.top-sheet.result.now in
     let top : Entries = top_layer c.args.self.now.stack.now in
-    c.loop-row.invariant
-    ∙ ap (λ (ns : List PathName). map (piece_in piece) (filter (λ own. is_directory_at top (child_path piece.dir own)) ns))
-    (names-all c.args.self.now c.requires c.top-sheet.result.now c.top-sheet.ensures.value c.kids-rows.result.now c.kids-rows.ensures.paths c.loop-row.row-index (omega arith))
+    let dir : PathNames = c.args.self.now.piece.now.dir in
+    let test = λ (row : NamedRow). is_directory_at layer (path_at layer row.0) in
+    let are : AreRowsBelow top dir c.below-rows.result = rows-at layer top c.args.self.now.row dir c.below-rows.result c.top-sheet.ensures.value c.requires.here c.below-rows.ensures in
+    IfOk-weaker c.children.result _ _ (λ kids is. is ∙ ap (map (piece_in c.args.self.now.piece.now))
+    (ap (λ (l : Entries). map (λ (row : NamedRow). row.1) (filter (λ (row : NamedRow). is_directory_at l (path_at l row.0)) c.below-rows.result)) c.top-sheet.ensures.value
+    ∙ (directories-below top dir c.below-rows.result are.each
+    ∙ ap (filter (λ name. is_directory_at top (child_path dir name))) are.names)))
+    (children-of _ _ c.args.self.now.piece.now c.children.result (map (λ (row : NamedRow). row.1) (filter test c.below-rows.result))
+    (YieldsList-from_map_by _ (λ name. name.now) (λ (row : NamedRow). row.1)
+    (YieldsList-at c.map.ensures.source (YieldsList-from_filter _ test (YieldsList-at c.filter-directories.ensures.source (YieldsList-from_first (λ row. (row.0, row.1.now)) (λ rows. rows) c.below-rows.result refl)) c.filter-directories.ensures.closure (λ x r q k. search (rules, tests))))
+    c.map.ensures.closure (λ x r q k. search (rules, tests))) c.children.ensures)
