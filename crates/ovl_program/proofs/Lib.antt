@@ -1,6 +1,8 @@
 pub mod Ascending
 pub mod HandedParts
+pub mod Lasts
 pub mod LeftOut
+pub mod Listings
 pub mod Performed
 pub mod Shares
 pub mod Slots

@@ -1,10 +1,15 @@
 -- What workers report of names, put into slots, and the first of their stops.
-use Rattle.std.proofs.Common.{◌≡◌, ◌∙◌, ◌<◌, ◌≤◌, ◌⊎◌, ◌∷◌, ◌++◌, [], ℕ, List, Option, Some, None, Result, Ok, Err, Vec, Global, All, arith, inl, inr, length, get_or, set, sym, ap, subst, refl}
-use Rattle.std.specs.Prelude.{slice_get, unwrap_or, Contains, IfSome, OnOk}
-use Rattle.std.proofs.lemmas.Bool.{cases_eq}
-use Rattle.std.proofs.lemmas.List.{get_or-set_same, get_or-set_other, length-set}
+use Rattle.std.proofs.Common.{◌≡◌, ◌∙◌, ◌<◌, ◌≤◌, ◌⊎◌, ◌∷◌, ◌++◌, [], ℕ, List, Option, Some, None, Result, Ok, Err, Vec, Global, All, arith, inl, inr, length, get_or, set, sym, ap, subst, refl, Bool, true, false, cond, ◌==◌}
+use Rattle.std.specs.Prelude.{flat_map, slice_get, unwrap_or, Contains, IfSome, OnOk}
+use Rattle.std.specs.Option.{option_map, option_or}
+use Rattle.std.proofs.lemmas.Bool.{cases_eq, cases_lt, eqb-true, eqb-false}
+use Rattle.std.proofs.lemmas.List.{append-nil, get_or-set_same, get_or-set_other, length-set}
+use Rattle.std.proofs.lemmas.List.Concat.{flat_map-append}
 use Rattle.std.proofs.lemmas.List.Elements.{Contains-append_left, Contains-push, Contains-push_cases}
-use Rattle.std.proofs.lemmas.Option.{get_or_from_slice_get, slice_get-get_or, slice_get_read, slice_get_within}
+use Rattle.std.proofs.lemmas.Option.{get_or_from_slice_get, slice_get-get_or, slice_get_read, slice_get_within, unwrap_or-slice_get}
+use Rattle.ovl_names.specs.Order.{ascends}
+use Rattle.ovl_layer.proofs.SheetLemmas.{ascends-apart}
+use Rattle.ovl_check.specs.Blobs.{digest_cmp}
 use Rattle.ovl_check.specs.declared.contents.Content.{Content}
 use Rattle.ovl_check.specs.Contents.{content_of}
 use Rattle.ovl_engine.specs.declared.faults.EngineFault.TheVariants.{Memory}
@@ -17,6 +22,9 @@ use Rattle.ovl_program.specs.declared.files.tellings.Told.{Told}
 use Rattle.ovl_program.specs.Faults.{IsUnread}
 use Rattle.ovl_program.specs.BlobFolders.{IsInFolder, IsToldOf, told_of}
 use Rattle.ovl_program.specs.Tellings.{content_held, AreHeldOf, AreSlotsOf, IsFirstStop, IsHeldUnder, IsShareOf, IsToldAmong}
+use Rattle.ovl_program.specs.Slots.{IsAsSaid, slot_at, told_at, told_by}
+use Rattle.ovl_program.proofs.Lasts.{last-across, last-more}
+use Rattle.ovl_program.proofs.Telling.{apart}
 
 -- where a result is no fault, what holds of that holds
 pub on_ok : {E : Type 0} (P : Type 0) (r : Result (Unit {0}) E) → ((e : E) → r ≡ Err e → ⊥) → OnOk r P → P
@@ -54,6 +62,32 @@ slots_more names slots told are is inside number held at =
       | inr other ↦ are number held (slice_get-get_or slots number None within ∙ ap Some (sym (get_or-set_other slots told.number number (Some told.held) None other) ∙ there))
     ]
 
+-- what is there after one more is put
+pub slot_put : (slots : List (Option (Option Held))) (told : Told) (number : ℕ) → told.number < length slots
+    → unwrap_or (slice_get (set slots told.number (Some told.held)) number) None ≡ cond (told.number == number) (Some told.held) (unwrap_or (slice_get slots number) None)
+slot_put slots told number inside =
+    unwrap_or-slice_get (set slots told.number (Some told.held)) number None
+    ∙ (by (told.number == number) refl ∙ ap (cond (told.number == number) (Some told.held)) (sym (unwrap_or-slice_get slots number None)))
+  where
+    by : (b : Bool) → (told.number == number) ≡ b → get_or (set slots told.number (Some told.held)) number None ≡ cond b (Some told.held) (get_or slots number None)
+    by true e =
+        let same = eqb-true told.number number e in
+        subst (λ n. get_or (set slots told.number (Some told.held)) n None ≡ Some told.held) same (get_or-set_same slots told.number (Some told.held) None inside)
+    by false e = get_or-set_other slots told.number number (Some told.held) None (λ same. eqb-false told.number number e (sym same))
+
+-- what is reported in these and one more is in its slot, where what is reported in these was
+pub told_put : (before slots : List (Option (Option Held))) (told : List Told) (one : Told) (number : ℕ) → one.number < length slots
+    → unwrap_or (slice_get slots number) None ≡ option_or (told_at told number) (unwrap_or (slice_get before number) None)
+    → unwrap_or (slice_get (set slots one.number (Some one.held)) number) None ≡ option_or (told_at (told ++ one ∷ []) number) (unwrap_or (slice_get before number) None)
+told_put before slots told one number inside is =
+    slot_put slots one number inside
+    ∙ (ap (cond (one.number == number) (Some one.held)) is
+    ∙ (by (one.number == number) ∙ ap (λ o. option_or o (unwrap_or (slice_get before number) None)) (sym (last-more (λ (one : Told). one.number == number) (λ (one : Told). one.held) told one))))
+  where
+    by : (b : Bool) → cond b (Some one.held) (option_or (told_at told number) (unwrap_or (slice_get before number) None)) ≡ option_or (cond b (Some one.held) (told_at told number)) (unwrap_or (slice_get before number) None)
+    by true = refl
+    by false = refl
+
 -- what is in a slot, if anything is reported there
 slot_there : (slots : List (Option (Option Held))) (number : ℕ) (held : Option Held) (slot : Option (Option (Option Held))) → slice_get slots number ≡ slot → Some held ≡ unwrap_or slot None → slice_get slots number ≡ Some (Some held)
 slot_there slots number held None e is = let bad : Some held ≡ None = is in cc
@@ -68,6 +102,42 @@ told_there names slots number name (Some held) are inside is found =
     let same : Some its.0 ≡ Some name = sym its.1.0 ∙ slice_get_read names (length names) number name refl inside is in
     let one : its.0 ≡ name = cc in
     subst (λ n. IsHeldUnder n held) one its.1.1
+
+-- the share of one more worker
+pub told_more : (shares : List (Result (Vec Told Global) Stop)) (share : Result (Vec Told Global) Stop) (number : ℕ)
+    → told_at (flat_map told_by (shares ++ share ∷ [])) number ≡ option_or (told_at (told_by share) number) (told_at (flat_map told_by shares) number)
+told_more shares share number =
+    ap (λ told. told_at told number) (flat_map-append told_by shares (share ∷ []) ∙ ap (λ more. flat_map told_by shares ++ more) (append-nil (told_by share)))
+    ∙ last-across (λ (one : Told). one.number == number) (λ (one : Told). one.held) (flat_map told_by shares) (told_by share)
+
+-- no name is there twice
+its_number : (names : List (List ℕ)) (one other : ℕ) (name : List ℕ) → ascends digest_cmp names ≡ true → slice_get names one ≡ Some name → slice_get names other ≡ Some name → one ≡ other
+its_number names one other name up at also = elim (cases_eq one other) [
+  | inl same ↦ same
+  | inr differ ↦ absurd (elim (cases_lt one other) [
+    | inl before ↦ apart name name (ascends-apart digest_cmp names one other name name up before at also) refl
+    | inr behind ↦ apart name name (ascends-apart digest_cmp names other one name name up (omega (arith, differ, behind)) also at) refl
+  ])
+]
+
+-- what is given of a name is what its slot says, if it does
+pub given_is : {E : Type 0} (slot : Option (Option Held)) (result : Result (Option Held) E) (held : Option Held) → IfSome slot (λ said. result ≡ Ok said) → result ≡ Ok held → IfSome slot (λ said. held ≡ said)
+given_is None result held given is = tt
+given_is {E} (Some said) result held given is =
+    let same : (◌≡◌ {A = Result (Option Held) E} (Ok held) (Ok said)) = sym is ∙ given in cc
+
+-- what is reported of a name where its slot says that, if anything
+pub as_said : (names : List (List ℕ)) (slots : Slots) (place : ℕ) (name : List ℕ) (held : Option Held) (is : IsHeldUnder name held) → ascends digest_cmp names ≡ true → slice_get names place ≡ Some name
+    → IfSome (slot_at slots place) (λ said. held ≡ said) → IsAsSaid names slots name is.0
+as_said names slots place name held is up there given number at =
+    subst (λ n. IfSome (slot_at slots n) Says) (its_number names place number name up there at) (by (slot_at slots place) given)
+  where
+    Says : Option Held → Type 0
+    Says said = option_map (content_held name) said ≡ told_of name is.0
+
+    by : (slot : Option (Option Held)) → IfSome slot (λ said. held ≡ said) → IfSome slot Says
+    by None given = tt
+    by (Some said) given = subst Says given is.1
 
 -- ---- stops
 

@@ -1,5 +1,6 @@
 -- Contents that are given name by name.
-use Rattle.std.proofs.Common.{◌≡◌, ◌∙◌, ◌<◌, ◌+◌, ℕ, Bool, true, false, cond, inl, inr, Option, Some, None, List, [], ◌∷◌, ◌++◌, refl, sym, ap, subst, Contains, get_or, length, take, drop}
+use Rattle.std.proofs.Common.{◌≡◌, ◌∙◌, ◌<◌, ◌+◌, ℕ, Bool, true, false, cond, inl, inr, Option, Some, None, Result, Ok, Err, Vec, Global, List, [], ◌∷◌, ◌++◌, refl, sym, ap, subst, Contains, get_or, length, take, drop}
+use Rattle.std.specs.Prelude.{IfOk}
 use Rattle.std.specs.List.{list_all}
 use Rattle.std.specs.Option.{option_map, option_or}
 use Rattle.std.specs.Str.{bytes_eq}
@@ -30,7 +31,7 @@ all_pass : {X : Type 0} (test : X → Bool) (xs : List X) → Every (λ x. test 
 all_pass test [] each = refl
 all_pass test (y ∷ xs) each = rw (each y (inl refl)) (all_pass test xs (λ x h. each x (inr h)))
 
-apart : (one other : List ℕ) → is_lt (digest_cmp one other) ≡ true → one ≡ other → ⊥
+pub apart : (one other : List ℕ) → is_lt (digest_cmp one other) ≡ true → one ≡ other → ⊥
 apart one other before same =
     let bad : Less ≡ Equal = sym (is_lt-Less (digest_cmp one other) before) ∙ (ap (digest_cmp one) (sym same) ∙ tied_itself nat_list_cmp_total one) in cc
 
@@ -134,8 +135,8 @@ ascends_front (x ∷ xs) ys up =
     let parts = both {a = list_all (λ later. is_lt (digest_cmp x later)) (xs ++ ys)} {b = ascends digest_cmp (xs ++ ys)} up in
     rw ((list_all-front (λ later. is_lt (digest_cmp x later)) xs ys parts.0).0) (ascends_front xs ys parts.1)
 
-module _ (names : List (List ℕ)) (place : ℕ) (name : List ℕ) (told : List Content) (up : ascends digest_cmp names ≡ true) (inside : place < length names) (is : name ≡ get_or names place name)
-    (are : AreTold anything (take place names) told) where
+module _ (may_be : List ℕ → Option (List ℕ) → Type 0) (names : List (List ℕ)) (place : ℕ) (name : List ℕ) (told : List Content) (up : ascends digest_cmp names ≡ true) (inside : place < length names)
+    (is : name ≡ get_or names place name) (are : AreTold may_be (take place names) told) where
   more : take (place + 1) names ≡ take place names ++ name ∷ []
   more = take_more names place name inside ∙ ap (λ n. take place names ++ n ∷ []) (sym is)
 
@@ -144,15 +145,26 @@ module _ (names : List (List ℕ)) (place : ℕ) (name : List ℕ) (told : List 
       (ascends_front (take (place + 1) names) (drop (place + 1) names) (subst (λ ns. ascends digest_cmp ns ≡ true) (sym (take-append-drop (place + 1) names)) up))
 
   -- the next name has a content
-  pub told_some : (content : Content) → IsToldOf name (Some content) → AreTold anything (take (place + 1) names) (told ++ content ∷ [])
-  told_some content is = subst (λ ns. AreTold anything ns (told ++ content ∷ [])) (sym more) (by is.0 is.1)
+  pub told_some : (content : Content) (is : IsToldOf name (Some content)) → may_be name is.0 → AreTold may_be (take (place + 1) names) (told ++ content ∷ [])
+  told_some content is holds = subst (λ ns. AreTold may_be ns (told ++ content ∷ [])) (sym more) (by is.0 is.1 holds)
     where
-      by : (held : Option (List ℕ)) → Some content ≡ told_of name held → AreTold anything (take place names ++ name ∷ []) (told ++ content ∷ [])
-      by None same = cc
-      by (Some bytes) same =
+      by : (held : Option (List ℕ)) → Some content ≡ told_of name held → may_be name held → AreTold may_be (take place names ++ name ∷ []) (told ++ content ∷ [])
+      by None same holds = cc
+      by (Some bytes) same holds =
           let its : content ≡ content_of (record { name = name; bytes = bytes }) = cc in
-          rw its (told_content anything (take place names) name rising told are bytes tt)
+          rw its (told_content may_be (take place names) name rising told are bytes holds)
 
   -- it has none
-  pub told_none : IsToldOf name None → AreTold anything (take (place + 1) names) told
-  told_none is = subst (λ ns. AreTold anything ns told) (sym more) (told_nothing anything (take place names) name rising told are tt)
+  pub told_none : (is : IsToldOf name None) → may_be name is.0 → AreTold may_be (take (place + 1) names) told
+  told_none is holds = subst (λ ns. AreTold may_be ns told) (sym more) (by is.0 is.1 holds)
+    where
+      by : (held : Option (List ℕ)) → None ≡ told_of name held → may_be name held → AreTold may_be (take place names ++ name ∷ []) told
+      by None same holds = told_nothing may_be (take place names) name rising told are holds
+      by (Some bytes) same holds = cc
+
+-- what is reported, whatever may be there
+pub told_anyhow : {E : Type 0} (may_be : List ℕ → Option (List ℕ) → Type 0) (names : List (List ℕ)) (result : Result (Vec Content Global) E)
+    → IfOk result (λ told. AreTold may_be names told.items) → IfOk result (λ told. AreTold anything names told.items)
+told_anyhow may_be names (Ok told) are =
+    record { blobs = are.blobs; contents = are.contents; ascend = are.ascend; asked = are.asked; each = λ name inside. tt }
+told_anyhow may_be names (Err fault) are = tt

@@ -1,6 +1,6 @@
 //! The blobs of a folder. It must not know layers.
-ghost use Rattle.std.specs.Prelude.{◌≡◌, ◌≢◌, ◌≤◌, ◌+◌, true, Ok, None, IfOk, IfErr, IfSome, string_bytes, vec_len, map, All};
-ghost use Rattle.std.specs.BTreeMap.{IsOrdered, keys};
+ghost use Rattle.std.specs.Prelude.{◌≡◌, ◌≢◌, ◌≤◌, ◌+◌, ◌-◌, ◌^◌, ℕ, true, List, Ok, None, IfOk, IfErr, IfSome, string_bytes, vec_len, map, min, sum_by, All};
+ghost use Rattle.std.specs.BTreeMap.{IsOrdered, get, keys};
 ghost use Rattle.std.specs.Fs.{dir_entry_name};
 ghost use Rattle.std.specs.Thread.{IsSync};
 ghost use Rattle.ovl_inode.specs.Hexadecimal.{digest_of_text};
@@ -9,6 +9,7 @@ ghost use Rattle.ovl_engine.specs.Refusals.{blob_limit, blob_bytes};
 ghost use Rattle.ovl_program.specs.declared.files.reads.ReadFault.TheVariants.{TooLong};
 ghost use Rattle.ovl_program.specs.Faults.{IsUnread};
 ghost use Rattle.ovl_program.specs.BlobFolders.{IsInFolder, IsNamedBy, IsSpelt};
+ghost use Rattle.ovl_program.specs.Listings.{length_of};
 ghost use Rattle.ovl_program.specs.BlobFolders as blob_folders;
 
 use crate::faults::ProgramFault;
@@ -106,9 +107,10 @@ fn read_share<R: SharedFiles>(
     Ok(held)
 }
 
-// The files of blobs, ascending by name.
+// The files of blobs, ascending by name, each with its length.
 fn in_order(alloc: Global, lengths: BTreeMap<Digest, u64>) -> Result<Vec<BlobFile>, AllocError>
-    ensures same { IfOk result (λ files. map (λ file. file.name) files.items ≡ keys lengths) }
+    ensures same { IfOk result
+        (λ files. map (λ file. (file.name, file.length)) files.items ≡ lengths.entries) }
     ensures ordered { IsOrdered digest_cmp lengths }
 {
     let mut files = Vec::with_capacity(alloc, lengths.len())?;
@@ -133,15 +135,43 @@ fn list_blobs<R: Files + AllocGlobal + Clone + Drop>(
     ensures each { IfOk result (λ listing. All IsNamedBy (keys listing.lengths)) }
     ensures fault { IfErr result (λ fault. fault ≢ TooLong) }
 {
-    let mut lengths = BTreeMap::new(rt.alloc());
+    let files = blob_files(rt, folder)?;
+    Ok(listing_of(rt.alloc(), &files)?)
+}
+
+// The listing of these files: each name once, with its length, and what all come to, as far as 64
+// bits count.
+fn listing_of(alloc: Global, listed: &[BlobFile]) -> Result<Listing, AllocError>
+    ensures lengths { IfOk result (λ listing. (name : List ℕ)
+        → get digest_cmp listing.lengths name ≡ length_of listed.now name) }
+    ensures ordered { IfOk result (λ listing. IsOrdered digest_cmp listing.lengths) }
+    ensures bytes { IfOk result (λ listing.
+        listing.bytes ≡ min (sum_by (λ file. file.length) listed.now) (2 ^ 64 - 1)) }
+{
+    let mut lengths = BTreeMap::new(alloc);
     let mut bytes: u64 = 0;
-    for entry in fs::read_dir(rt, folder)? {
-        if let Some(file) = blob_file(&entry?)? {
-            lengths.insert(file.name, file.length)?;
-            bytes = bytes.saturating_add(file.length);
-        }
+    for file in listed {
+        lengths.insert(file.name, file.length)?;
+        bytes = bytes.saturating_add(file.length);
     }
     Ok(Listing { lengths, bytes })
+}
+
+// The files of the blobs of a folder, in the order in which the system lists them.
+fn blob_files<R: Files + AllocGlobal + Clone + Drop>(
+    rt: &R,
+    folder: &str,
+) -> Result<Vec<BlobFile>, ReadFault>
+    ensures each { IfOk result (λ files. All (λ file. IsNamedBy file.name) files.items) }
+    ensures fault { IfErr result (λ fault. fault ≢ TooLong) }
+{
+    let mut files = Vec::new(rt.alloc());
+    for entry in fs::read_dir(rt, folder)? {
+        if let Some(file) = blob_file(&entry?)? {
+            files.push(file)?;
+        }
+    }
+    Ok(files)
 }
 
 // A regular file whose name is a digest, and its length.

@@ -1,5 +1,5 @@
 //! A folder of blobs of any size, which are read in parts.
-ghost use Rattle.std.specs.Prelude.{◌≡◌, ◌∷◌, ◌++◌, [], Option, true, min, length, vec_len, IfOk, IfErr, IfSome, OnOk, All};
+ghost use Rattle.std.specs.Prelude.{◌≡◌, ◌∷◌, ◌++◌, [], Option, Ok, true, min, length, vec_len, IfOk, IfErr, IfSome, OnOk, All};
 ghost use Rattle.std.specs.Thread.{IsSync};
 ghost use Rattle.ovl_names.specs.Order.{ascends};
 ghost use Rattle.ovl_check.specs.Blobs.{digest_cmp};
@@ -8,6 +8,7 @@ ghost use Rattle.ovl_program.specs.Faults.{IsUnread};
 ghost use Rattle.ovl_program.specs.BlobFolders.{anything, IsInFolder};
 ghost use Rattle.ovl_program.specs.declared.files.tellings.Held.{Held};
 ghost use Rattle.ovl_program.specs.Tellings.{AreSlotsOf, IsHeldUnder, IsShareOf};
+ghost use Rattle.ovl_program.specs.Slots.{IsAsSaid};
 
 use crate::faults::ProgramFault;
 use crate::files::blob_folder::blob_path;
@@ -120,7 +121,7 @@ fn tell_next<R: SharedFiles>(
     Ok(())
 }
 
-// The contents of these names by what is given of them.
+// The contents of these names: what is given of a name is its content, or that it has none.
 fn contents_of<R: SharedFiles>(
     rt: &R,
     alloc: Global,
@@ -130,7 +131,8 @@ fn contents_of<R: SharedFiles>(
 ) -> Result<Vec<Content>, ProgramFault>
     requires ascend { ascends digest_cmp names.now ≡ true }
     requires slots { AreSlotsOf names.now slots.now }
-    ensures told { IfOk result (λ told. AreTold anything names.now told.items) }
+    ensures told { IfOk result
+        (λ told. AreTold (IsAsSaid names.now slots.now) names.now told.items) }
     ensures fault { IfErr result (λ fault. IsUnread (IsInFolder folder.now) fault) }
 {
     let mut contents = Vec::with_capacity(alloc, names.len())?;
@@ -152,6 +154,7 @@ fn told_or_now<R: SharedFiles>(
 ) -> Result<Option<Held>, ProgramFault>
     requires { IfSome told (IsHeldUnder name) }
     ensures told { IfOk result (IsHeldUnder name) }
+    ensures same { IfSome told (λ held. result ≡ Ok held) }
     ensures fault { IfErr result (λ fault. IsUnread (IsInFolder folder.now) fault) }
 {
     match told {

@@ -1,11 +1,13 @@
 //! What several workers give of the blobs of a list of names, each name by one of them, and how
 //! that is put in order.
-ghost use Rattle.std.specs.Prelude.{◌≡◌, ◌≤◌, ◌⊎◌, ℕ, List, IfOk, IfSome, MatchResult, All, Some, None, length, slice_get, unwrap_or};
+ghost use Rattle.std.specs.Prelude.{◌≡◌, ◌≤◌, ◌⊎◌, ℕ, List, IfOk, IfSome, MatchResult, All, Some, None, flat_map, length};
+ghost use Rattle.std.specs.Option.{option_or};
 ghost use Rattle.ovl_engine.specs.declared.faults.EngineFault.TheVariants.{Memory};
 ghost use Rattle.ovl_program.specs.declared.faults.ProgramFault.TheVariants.{Engine};
 ghost use Rattle.ovl_program.specs.declared.files.tellings.Stop.{Stop};
 ghost use Rattle.ovl_program.specs.BlobFolders.{IsToldOf};
 ghost use Rattle.ovl_program.specs.Tellings.{content_held, AreSlotsOf, IsFirstStop, IsHeldUnder, IsShareOf, IsToldAmong};
+ghost use Rattle.ovl_program.specs.Slots.{slot_at, told_at, told_by};
 
 use crate::faults::ProgramFault;
 use ovl_engine::Content;
@@ -73,6 +75,7 @@ impl Slots {
     fn new(alloc: Global, names: &[Digest]) -> Result<Slots, AllocError>
         ensures count { IfOk result (λ slots. length slots.held.items ≡ length names.now) }
         ensures slots { IfOk result (AreSlotsOf names.now) }
+        ensures empty { IfOk result (λ slots. (number : ℕ) → slot_at slots number ≡ None) }
     {
         Ok(Slots {
             held: vec![in alloc; None; names.len()]?,
@@ -86,6 +89,8 @@ impl Slots {
         requires told { All (IsToldAmong names.now) told.now }
         ensures count { length self.new.held.items ≡ length names.now }
         ensures slots { AreSlotsOf names.now self.new }
+        ensures told { (number : ℕ) → slot_at self.new number
+            ≡ option_or (told_at told.now number) (slot_at self.old number) }
     {
         for one in told {
             self.held[one.number] = Some(one.held);
@@ -94,7 +99,7 @@ impl Slots {
 
     /// What is in the slot of this number, if anything is there.
     pub fn get(&self, number: usize) -> Option<Option<Held>>
-        ensures { result ≡ unwrap_or (slice_get self.now.held.items number) None }
+        ensures { result ≡ slot_at self.now number }
     {
         match self.held.get(number) {
             Some(slot) => *slot,
@@ -112,7 +117,9 @@ pub fn joined(
     shares: Vec<Result<Vec<Told>, Stop>>,
 ) -> Result<Slots, ProgramFault>
     requires { All (IsShareOf folder.now names.now) shares.items }
-    ensures { MatchResult result
+    ensures told { IfOk result (λ slots. (number : ℕ)
+        → slot_at slots number ≡ told_at (flat_map told_by shares.items) number) }
+    ensures slots { MatchResult result
         (AreSlotsOf names.now)
         (λ fault. (fault ≡ Engine Memory)
         ⊎ ((stop : Stop) × (IsFirstStop shares.items stop × (fault ≡ stop.fault)))) }

@@ -1,27 +1,37 @@
-use Rattle.std.proofs.Common.{subst}
+use Rattle.std.proofs.Common.{◌≡◌, length, refl, subst}
+use Rattle.std.specs.Option.{option_map}
+use Rattle.std.proofs.lemmas.Option.{slice_get_read}
 use Rattle.ovl_engine.proofs.LawsOfTold.{nothing_told}
-use Rattle.ovl_program.specs.BlobFolders.{anything}
-use Rattle.ovl_program.specs.Tellings.{IsHeldUnder, content_held}
-use Rattle.ovl_program.proofs.Slots.{told_there}
+use Rattle.ovl_program.specs.BlobFolders.{told_of}
+use Rattle.ovl_program.specs.Tellings.{content_held}
+use Rattle.ovl_program.specs.Slots.{IsAsSaid}
+use Rattle.ovl_program.proofs.Slots.{as_said, given_is, told_there}
 use Rattle.ovl_program.proofs.Telling.{not_some, told_none, told_some}
 use Rattle.ovl_program.proofs.files.folder_in_parts.contents_of.Goals.{in-Some+in_ok-push, in_default}
 use Rattle.ovl_program.proofs.files.folder_in_parts.contents_of.Goals as goal
 
 pub loop-number-init : goal.loop-number-init
-loop-number-init g c = rw c.in_ok-contents.ensures.items (nothing_told anything)
+loop-number-init g c = rw c.in_ok-contents.ensures.items (nothing_told (IsAsSaid c.args.names.now c.args.slots.now))
 
 pub told_or_now-requires : goal.told_or_now-requires
 told_or_now-requires g c =
     told_there c.args.names.now c.args.slots.now c.loop-number.number c.index-names-number.result c.get.result c.requires.slots c.loop-number-test.true c.index-names-number.is c.get.ensures
 
 pub loop-number-preserved : goal.loop-number-preserved
-loop-number-preserved g c = elim c.match-branch-3.branch [
-  | in-Some+in_ok-push w ↦
-      rw (w.contents-is, w.in_ok-push.ensures.items, w.under.ensures)
-      (told_some c.args.names.now c.loop-number.number c.index-names-number.result c.loop-number.contents.items c.requires.ascend c.loop-number-test.true c.index-names-number.is c.loop-number.invariant
-      (content_held c.index-names-number.result w.in-Some.held) (subst (IsHeldUnder c.index-names-number.result) w.in-Some.is c.in_ok-held.ensures.told))
-  | in_default w ↦
-      rw (w.contents-is)
-      (told_none c.args.names.now c.loop-number.number c.index-names-number.result c.loop-number.contents.items c.requires.ascend c.loop-number-test.true c.index-names-number.is c.loop-number.invariant
-      (subst (IsHeldUnder c.index-names-number.result) (not_some c.in_ok-held.field-0 w.in_default.not-Some) c.in_ok-held.ensures.told))
-]
+loop-number-preserved g c =
+    let names = c.args.names.now in
+    let number = c.loop-number.number in
+    let name = c.index-names-number.result in
+    let there = slice_get_read names (length names) number name refl c.loop-number-test.true c.index-names-number.is in
+    let held = c.in_ok-held.ensures.told in
+    let said = as_said names c.args.slots.now number name c.in_ok-held.field-0 held c.requires.ascend there (given_is _ c.told_or_now.result c.in_ok-held.field-0 (rw c.get.ensures at c.told_or_now.ensures.same) c.in_ok-held.was) in
+    elim c.match-branch-3.branch [
+      | in-Some+in_ok-push w ↦
+          rw (w.contents-is, w.in_ok-push.ensures.items, w.under.ensures)
+          (told_some (IsAsSaid names c.args.slots.now) names number name c.loop-number.contents.items c.requires.ascend c.loop-number-test.true c.index-names-number.is c.loop-number.invariant
+          (content_held name w.in-Some.held) (held.0, subst (λ h. option_map (content_held name) h ≡ told_of name held.0) w.in-Some.is held.1) said)
+      | in_default w ↦
+          rw (w.contents-is)
+          (told_none (IsAsSaid names c.args.slots.now) names number name c.loop-number.contents.items c.requires.ascend c.loop-number-test.true c.index-names-number.is c.loop-number.invariant
+          (held.0, subst (λ h. option_map (content_held name) h ≡ told_of name held.0) (not_some c.in_ok-held.field-0 w.in_default.not-Some) held.1) said)
+    ]

@@ -1,8 +1,11 @@
-use Rattle.std.proofs.Common.{◌∙◌, ◌++◌, ◌∷◌, [], Some, length, sym, subst}
+use Rattle.std.proofs.Common.{◌≡◌, ◌∙◌, ◌++◌, ◌∷◌, [], Ok, Err, Some, ap, length, sym, subst}
+use Rattle.std.specs.Prelude.{flat_map}
+use Rattle.std.specs.Option.{option_or}
 use Rattle.std.proofs.lemmas.Iterator.Adapters.{YieldsList-from_vec}
 use Rattle.std.proofs.lemmas.Iterator.Consumers.{YieldsList-turn}
 use Rattle.ovl_program.specs.Tellings.{IsShareOf}
-use Rattle.ovl_program.proofs.Slots.{FirstOf, Share, first_stop, first_told}
+use Rattle.ovl_program.specs.Slots.{slot_at, told_at, told_by}
+use Rattle.ovl_program.proofs.Slots.{FirstOf, Share, first_stop, first_told, told_more}
 use Rattle.ovl_program.proofs.files.tellings.joined.Goals as goal
 
 pub put-requires-clause-told : goal.put-requires-clause-told
@@ -14,14 +17,31 @@ put-requires-clause-told c =
 
 pub loop-share-preserved-in-Ok : goal.loop-share-preserved-in-Ok
 loop-share-preserved-in-Ok c =
-    (c.put.ensures.count, (c.put.ensures.slots, subst (λ (share : Share). FirstOf (c.loop-share.yielded ++ share ∷ []) c.loop-share.first) (sym c.in-Ok.is) (first_told c.loop-share.yielded c.in-Ok.told c.loop-share.first c.loop-share.invariant.1.1)))
+    let before = c.loop-share.yielded in (
+      c.put.ensures.count,
+      (
+        c.put.ensures.slots,
+        (
+          λ number. c.put.ensures.told number
+              ∙ (ap (λ told. option_or (told_at told number) (slot_at c.loop-share.slots number)) c.deref.ensures.value
+              ∙ (ap (option_or (told_at c.in-Ok.told.items number)) (c.loop-share.invariant.1.1.0 number)
+              ∙ sym (subst (λ (share : Share). told_at (flat_map told_by (before ++ share ∷ [])) number ≡ option_or (told_at c.in-Ok.told.items number) (told_at (flat_map told_by before) number)) (sym c.in-Ok.is) (told_more before (Ok c.in-Ok.told) number)))),
+          subst (λ (share : Share). FirstOf (before ++ share ∷ []) c.loop-share.first) (sym c.in-Ok.is) (first_told before c.in-Ok.told c.loop-share.first c.loop-share.invariant.1.1.1),
+        ),
+      ),
+    )
 
 pub loop-share-preserved : goal.loop-share-preserved
-loop-share-preserved c = (
-  c.loop-share.invariant.0,
-  (
-    c.loop-share.invariant.1.0,
-    subst (λ (share : Share). FirstOf (c.loop-share.yielded ++ share ∷ []) (Some c.earlier.result)) (sym c.in-Err.is)
-        (first_stop c.loop-share.yielded c.in-Err.stop c.earlier.result c.loop-share.first c.loop-share.invariant.1.1 c.earlier.ensures.one c.earlier.ensures.least.0 c.earlier.ensures.least.1),
-  ),
-)
+loop-share-preserved c =
+    let before = c.loop-share.yielded in (
+      c.loop-share.invariant.0,
+      (
+        c.loop-share.invariant.1.0,
+        (
+          λ number. c.loop-share.invariant.1.1.0 number
+              ∙ sym (subst (λ (share : Share). told_at (flat_map told_by (before ++ share ∷ [])) number ≡ told_at (flat_map told_by before) number) (sym c.in-Err.is) (told_more before (Err c.in-Err.stop) number)),
+          subst (λ (share : Share). FirstOf (before ++ share ∷ []) (Some c.earlier.result)) (sym c.in-Err.is)
+              (first_stop before c.in-Err.stop c.earlier.result c.loop-share.first c.loop-share.invariant.1.1.1 c.earlier.ensures.one c.earlier.ensures.least.0 c.earlier.ensures.least.1),
+        ),
+      ),
+    )
