@@ -230,7 +230,7 @@ def of_rooms(bench: Bench) -> Iterator[Count]:
             ("show", ["show", plain], count, 375),
             ("fsck", ["fsck", "--blobs", blobs, plain], count, 325),
             ("fsck of notes", ["fsck", "--blobs", blobs, noted], count, 1_165),
-            ("fsck below a moved directory", ["fsck", "--blobs", blobs, *moved], count, 1_250),
+            ("fsck below a moved directory", ["fsck", "--blobs", blobs, *moved], count, 1_300),
             ("merge --down-to", ["merge", "--down-to", "1", "--blobs", blobs, "--out", out, *three], 3 * count, 360)):
         yield at_most(f"bytes held an entry, {what}", bench.met("held", [*words, "--workers", "1"])[1] / entries, most)
     yield at_most("bytes held a worker of 64", bench.met("held", ["show", "--workers", "64", root])[1] / 64, 8_000)
