@@ -97,4 +97,4 @@ def _take_layers(layers: list[ImageLayer], read_options: ReadOptions, stage: str
             )
         if number > 0 or entries.has_links():
             has_redirects = has_attribute(path, [REDIRECT])
-            read_options.below.cover(tree.entries(), has_redirects, leaf_of=place_of)
+            read_options.below.cover(tree.taken(), has_redirects, leaf_of=place_of)

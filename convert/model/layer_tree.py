@@ -208,15 +208,22 @@ class LayerTree:
 
     def entries(self) -> Iterator[Named]:
         """All entries with their paths, in path order."""
+        return self._walk(keeps=True)
+
+    def taken(self) -> Iterator[Named]:
+        """The same, which it no longer has once they are given."""
+        return self._walk(keeps=False)
+
+    def _walk(self, *, keeps: bool) -> Iterator[Named]:
         yield "/", self.root.entry
-        levels = [("", _sorted_names(self.root), self.root)]
+        levels = [("", _names_backwards(self.root), self.root)]
         while levels:
             path, names, folder = levels[-1]
-            name = next(names, None)
-            if name is None:
+            if not names:
                 levels.pop()
                 continue
-            child = folder.children.get(name)
+            name = names.pop()
+            child = folder.children.get(name) if keeps else folder.children.pop(name, None)
             if child is None:
                 child = folder.whiteouts[name]
             if isinstance(child, int):
@@ -225,7 +232,7 @@ class LayerTree:
             if child.is_opaque or name in folder.whiteouts:
                 child.entry.attributes = {**child.entry.attributes, OPAQUE: IS_OPAQUE}
             yield f"{path}/{name}", child.entry
-            levels.append((f"{path}/{name}", _sorted_names(child), child))
+            levels.append((f"{path}/{name}", _names_backwards(child), child))
 
     def _cut(self, folder: Folder) -> None:
         """Counts what is in a directory out."""
@@ -257,8 +264,9 @@ def _shown_directory(entry: Entry) -> Entry:
     return replace(entry, path="", attributes=attributes or NO_ATTRIBUTES, link=0)
 
 
-def _sorted_names(folder: Folder) -> Iterator[str]:
-    return iter(sorted(folder.children.keys() | folder.whiteouts.keys() if folder.whiteouts else folder.children))
+def _names_backwards(folder: Folder) -> list[str]:
+    names = folder.children.keys() | folder.whiteouts.keys() if folder.whiteouts else folder.children
+    return sorted(names, reverse=True)
 
 
 def _size(folder: Folder) -> int:

@@ -148,7 +148,7 @@ def scan_file(
             tree.put(path[1:].split("/"), whiteout())
     left_out.report(layer.name)
     losses.hard_links += write_layer(options.out, tree.entries, options.layer, is_of_stack)
-    return tree.entries()
+    return tree.taken()
 
 
 def tree_of_file(path: str, form: Form, reported_path: str, userxattr: bool, entries: EntryFile) -> LayerTree:
