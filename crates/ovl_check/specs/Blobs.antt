@@ -1,7 +1,8 @@
 -- Blobs, those with wrong bytes, and the work of digesting them.
 use mathlib.Core.List.{is_set}
 use native.Mathlib.Nat.{ℕ_set}
-use Rattle.std.specs.Prelude.{◌≡◌, ℕ, Bool, true, All, ◌&&◌, ◌==◌, not, List, [], ◌∷◌, if◌then◌else◌, take, map, filter}
+use Rattle.std.specs.Prelude.{◌≡◌, ℕ, Bool, true, All, ◌&&◌, ◌==◌, not, List, [], ◌∷◌, if◌then◌else◌, take, map, filter, length}
+use Rattle.std.specs.List.{sum_by}
 use Rattle.std.specs.Ordering.{nat_cmp}
 use Rattle.std.specs.Cmp.Lexicographic.{slice_cmp}
 use Rattle.std.specs.declared.cmp.Ordering.{Ordering}
@@ -49,6 +50,13 @@ is_wrong blob = not (bytes_eq (sha256 blob.bytes) blob.name)
 
 abbrev pub wrong_names : List BlobView → List (List ℕ)
 wrong_names blobs = map (λ blob. blob.name) (filter is_wrong blobs)
+
+-- the most bytes that all blobs of a command have, and how many some have
+abbrev pub blob_limit : ℕ
+blob_limit = 268435456
+
+abbrev pub blob_bytes : List BlobView → ℕ
+blob_bytes blobs = sum_by (λ blob. length blob.bytes) blobs
 
 -- the first two hexadecimal digits of a name, and the blobs whose names begin with two digits
 abbrev pub first_digits : List ℕ → PathName

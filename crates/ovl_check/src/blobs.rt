@@ -19,6 +19,9 @@ use std::marker::Model;
 /// The space of the pieces of a [`BlobWork`].
 pub const BLOB_SPACE: u16 = 128;
 
+/// The most bytes that all blobs of a command have together.
+pub const BLOB_LIMIT: usize = 268_435_456;
+
 /// A blob: bytes under the digest that they should have.
 #[derive(Debug, Drop)]
 pub struct Blob {

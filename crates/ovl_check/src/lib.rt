@@ -20,7 +20,7 @@ mod stated;
 mod subjects;
 mod tellings;
 
-pub use blobs::{BLOB_SPACE, Blob, BlobWork, blobs_in_order, finish_blobs};
+pub use blobs::{BLOB_LIMIT, BLOB_SPACE, Blob, BlobWork, blobs_in_order, finish_blobs};
 pub use contents::{Content, contents_held};
 pub use findings::{Code, Finding};
 pub use finish::finish_check;

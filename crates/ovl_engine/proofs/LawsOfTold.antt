@@ -18,7 +18,8 @@ use Rattle.ovl_commands.specs.Commands.{checks}
 use Rattle.ovl_engine.specs.Requests.{Request}
 use Rattle.ovl_engine.specs.Outcomes.{IsAccepted, IsRun, stack_of}
 use Rattle.ovl_engine.specs.Questions.{AreAsked, IsQuestionOf}
-use Rattle.ovl_engine.specs.Told.{AreTold, IsOutcomeTold, IsRunTold, MayRefuseTold}
+use Rattle.ovl_check.specs.Contents.{AreTold}
+use Rattle.ovl_engine.specs.Told.{IsOutcomeTold, IsRunTold, MayRefuseTold}
 use Rattle.ovl_engine.specs.MergesDown.{IsAcceptedDown, IsOutcomeDownTold, IsRunDown, IsRunDownTold}
 
 module _ (may_be : List ℕ → Option (List ℕ) → Type 0) where

@@ -1,6 +1,5 @@
 -- Why a command is refused before any work is done.
 use Rattle.std.specs.Prelude.{◌≡◌, ⊤, ℕ, suc, ◌-◌, Bool, ◌||◌, ◌&&◌, ◌==◌, not, Option, Some, None, Result, Ok, Err, List, [], ◌∷◌, if◌then◌else◌, length, nat_lt, nat_le}
-use Rattle.std.specs.List.{sum_by}
 use Rattle.ovl_layer.specs.Layers.{Entries}
 use Rattle.ovl_manifest.specs.Manifest.{read_layer}
 use Rattle.ovl_layer.specs.declared.faults.LayerFault.{LayerFault}
@@ -10,7 +9,7 @@ use Rattle.ovl_board.specs.declared.assembly.BoardFault.TheVariants.{Memory as B
 use Rattle.ovl_pool.specs.declared.runs.RunFault.{RunFault}
 use Rattle.ovl_pool.specs.declared.runs.RunFault.TheVariants.{Board, Memory as RunMemory}
 use Rattle.ovl_lookup.specs.Stacks.{layer_limit}
-use Rattle.ovl_check.specs.Blobs.{BlobView, are_in_order}
+use Rattle.ovl_check.specs.Blobs.{BlobView, are_in_order, blob_limit, blob_bytes}
 use Rattle.ovl_rewrite.specs.declared.faults.RewriteFault.{RewriteFault}
 use Rattle.ovl_rewrite.specs.declared.faults.RewriteFault.TheVariants.{LimitOut as DerefLimit, Memory as DerefMemory}
 use Rattle.ovl_merge.specs.declared.faults.MergeFault.{MergeFault}
@@ -47,13 +46,6 @@ stated_layers manifests = elim (layers_from 0 manifests) [ Ok layers ↦ layers 
 abbrev pub first_unread : List (List ℕ) → Option EngineFault
 first_unread manifests =
     elim (layers_from 0 manifests) [ Ok layers ↦ None | Err fault ↦ Some fault ]
-
--- the most bytes of all blobs, and how many blobs have
-abbrev pub blob_limit : ℕ
-blob_limit = 268435456
-
-abbrev pub blob_bytes : List BlobView → ℕ
-blob_bytes blobs = sum_by (λ blob. length blob.bytes) blobs
 
 -- the fault of blobs whose names don't ascend strictly, or that have too many bytes
 abbrev pub blob_refusal : List BlobView → Option EngineFault

@@ -1,14 +1,11 @@
 -- What is reported of the contents of blobs that needn't be held, and what comes of a command over
 -- such.
-use Rattle.std.specs.Prelude.{◌≡◌, ◌⊎◌, ℕ, true, Option, Result, Ok, Err, List, All, Contains}
-use Rattle.std.specs.Option.{option_map}
+use Rattle.std.specs.Prelude.{◌≡◌, ◌⊎◌, ℕ, true, Option, Result, Ok, Err, List}
 use Rattle.ovl_lookup.specs.Stacks.{StackView}
 use Rattle.ovl_board.specs.declared.pieces.Piece.{Piece}
-use Rattle.ovl_check.specs.declared.contents.Content.{Content}
 use Rattle.ovl_check.specs.declared.findings.Finding.{Finding}
 use Rattle.ovl_check.specs.Blobs.{BlobView}
-use Rattle.ovl_check.specs.Conditions.{find_blob}
-use Rattle.ovl_check.specs.Contents.{contents_of, contents_ascend}
+use Rattle.ovl_check.specs.Contents.{bytes_named}
 use Rattle.ovl_check.specs.Findings.{findings}
 use Rattle.ovl_check.specs.Stated.{IsStated}
 use Rattle.ovl_commands.specs.declared.requests.Command.{Command}
@@ -19,20 +16,6 @@ use Rattle.ovl_engine.specs.declared.contents.CommandFault.TheVariants.{Engine, 
 use Rattle.ovl_commands.specs.Commands.{checks}
 use Rattle.ovl_engine.specs.Requests.{Request}
 use Rattle.ovl_engine.specs.Outcomes.{IsAccepted, IsRefusal, IsRun, MayRefuseLayers, MayRefuseOwn, stack_of}
-
--- the bytes of a name, among blobs
-abbrev pub bytes_named : List BlobView → List ℕ → Option (List ℕ)
-bytes_named blobs name = option_map (λ blob. blob.bytes) (find_blob blobs name)
-
--- these are the contents of blobs, each under one of these names, ascending, and under each name is
--- what may be there
-pub record AreTold (may_be : List ℕ → Option (List ℕ) → Type 0) (names : List (List ℕ))
-    (told : List Content) : Type 0 where
-  pub blobs : List BlobView
-  pub contents : told ≡ contents_of blobs
-  pub ascend : contents_ascend told ≡ true
-  pub asked : All (λ content. Contains names content.name) told
-  pub each : (name : List ℕ) → Contains names name → may_be name (bytes_named blobs name)
 
 -- what these blobs have under the names that a stack's layers state may be there; whatever they
 -- have under others

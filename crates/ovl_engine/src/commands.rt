@@ -4,13 +4,13 @@ ghost use Rattle.ovl_lookup.specs.Stacks.{layer_limit};
 ghost use Rattle.ovl_board.specs.Machine.{worker_limit};
 ghost use Rattle.ovl_lookup.specs.Sound.{IsSoundStack};
 ghost use Rattle.ovl_check.specs.declared.findings.Finding.{Finding};
-ghost use Rattle.ovl_check.specs.Blobs.{blob_views, are_in_order};
+ghost use Rattle.ovl_check.specs.Blobs.{blob_views, are_in_order, blob_limit, blob_bytes};
 ghost use Rattle.ovl_check.specs.Findings.{findings};
 ghost use Rattle.ovl_engine.specs.FsckReports as fsck_reports;
 ghost use Rattle.ovl_commands.specs.declared.requests.Command.TheVariants.{Show, Fsck};
 ghost use Rattle.ovl_engine.specs.declared.faults.EngineFault.TheVariants.{Workers, Layers, DataLayers};
 ghost use Rattle.ovl_engine.specs.Requests.{request_of};
-ghost use Rattle.ovl_engine.specs.Refusals.{blob_limit, blob_bytes, blob_refusal};
+ghost use Rattle.ovl_engine.specs.Refusals.{blob_refusal};
 ghost use Rattle.ovl_engine.specs.Refusals as refusals;
 ghost use Rattle.ovl_engine.specs.Outcomes.{IsAccepted, IsRefusal, IsOutcome, IsRun, IsFailedWalk, MayRefuse, MayRefuseCheck, MayRefuseOwn};
 ghost use Rattle.ovl_commands.specs.Commands.{makes_layers, stays_sound, stands_alone};
@@ -28,7 +28,7 @@ use crate::stacks::{drop_in_parallel, read_stack};
 use crate::teams::WorkerTeam;
 use crate::vacuums::vacuum;
 use ovl_board::WORKER_LIMIT;
-use ovl_check::{Blob, Finding, blobs_in_order};
+use ovl_check::{BLOB_LIMIT, Blob, Finding, blobs_in_order};
 use ovl_commands::{Answer, Command};
 use ovl_lookup::{LAYER_LIMIT, Stack};
 use ovl_pool::Gate;
@@ -259,9 +259,6 @@ fn wants_lower(what: Command) -> bool
         Command::Merge => true,
     }
 }
-
-/// The most bytes that all blobs of a command have together.
-pub const BLOB_LIMIT: usize = 268_435_456;
 
 // What the blobs are refused for, if there is anything.
 fn blob_fault(blobs: &[Blob]) -> Option<EngineFault>

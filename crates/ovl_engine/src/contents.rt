@@ -4,7 +4,7 @@ ghost use Rattle.ovl_names.specs.Order.{ascends};
 ghost use Rattle.ovl_check.specs.Blobs.{digest_cmp};
 ghost use Rattle.ovl_engine.specs.declared.contents.CommandFault.TheVariants.{Engine};
 ghost use Rattle.ovl_engine.specs.declared.faults.EngineFault.TheVariants.{Memory};
-ghost use Rattle.ovl_engine.specs.Told.{AreTold};
+ghost use Rattle.ovl_check.specs.Contents.{AreTold};
 
 use crate::faults::EngineFault;
 use ovl_check::Content;

@@ -19,12 +19,12 @@ mod teams;
 mod vacuums;
 
 pub use blobs::named_blobs;
-pub use commands::{BLOB_LIMIT, command};
+pub use commands::command;
 pub use contents::{CommandFault, Contents};
 pub use faults::EngineFault;
 pub use manifests::Manifests;
 pub use merges_down::{merge_down, merge_down_told, question_down};
-pub use ovl_check::{Blob, Code, Content, Finding};
+pub use ovl_check::{BLOB_LIMIT, Blob, Code, Content, Finding};
 pub use ovl_commands::{Answer, Command};
 pub use ovl_reports::{EmitFault, ShowWork, emit};
 pub use questions::{Question, answer_told, command_over, question_of};

@@ -5,7 +5,7 @@ ghost use Rattle.ovl_lookup.specs.Stacks.{layer_limit};
 ghost use Rattle.ovl_lookup.specs.Sound.{IsSoundStack};
 ghost use Rattle.ovl_board.specs.Machine.{worker_limit};
 ghost use Rattle.ovl_check.specs.Blobs.{BlobView};
-ghost use Rattle.ovl_check.specs.Contents.{contents_of, contents_ascend};
+ghost use Rattle.ovl_check.specs.Contents.{AreTold, contents_of, contents_ascend};
 ghost use Rattle.ovl_check.specs.Findings.{findings};
 ghost use Rattle.ovl_engine.specs.FsckReports.{is_clean};
 ghost use Rattle.ovl_engine.specs.declared.faults.EngineFault.TheVariants.{Workers, Layers, DataLayers};
@@ -13,7 +13,7 @@ ghost use Rattle.ovl_engine.specs.declared.contents.CommandFault.TheVariants.{Co
 ghost use Rattle.ovl_engine.specs.Requests.{request_of};
 ghost use Rattle.ovl_engine.specs.Refusals.{is_outside};
 ghost use Rattle.ovl_engine.specs.Outcomes.{IsAccepted, IsRefusal, IsRun, IsFailedWalk, MayRefuseLayers};
-ghost use Rattle.ovl_engine.specs.Told.{AreTold, IsOutcomeOver, MayRefuseTold};
+ghost use Rattle.ovl_engine.specs.Told.{IsOutcomeOver, MayRefuseTold};
 ghost use Rattle.ovl_engine.specs.Questions.{AreAsked, IsQuestionOf};
 ghost use Rattle.ovl_commands.specs.Commands.{makes_layers, stays_sound, stands_alone, wants_lower};
 ghost use Rattle.ovl_commands.specs.Commands as commands;

@@ -18,7 +18,7 @@ use Rattle.ovl_check.specs.declared.contents.Content.{Content}
 use Rattle.ovl_check.specs.Blobs.{BlobView, digest_cmp}
 use Rattle.ovl_check.specs.Conditions.{find_blob}
 use Rattle.ovl_check.specs.Contents.{content_cmp, content_of}
-use Rattle.ovl_engine.specs.Told.{AreTold, bytes_named}
+use Rattle.ovl_check.specs.Contents.{AreTold, bytes_named}
 use Rattle.ovl_program.specs.BlobFolders.{IsToldOf, anything, told_of}
 
 -- a test that all elements pass

@@ -4,7 +4,7 @@ ghost use Rattle.ovl_names.specs.Order.{ascends};
 ghost use Rattle.ovl_check.specs.Blobs.{digest_cmp};
 ghost use Rattle.ovl_commands.specs.declared.requests.Command.TheVariants.{Merge};
 ghost use Rattle.ovl_engine.specs.Requests.{request_of};
-ghost use Rattle.ovl_engine.specs.Told.{AreTold};
+ghost use Rattle.ovl_check.specs.Contents.{AreTold};
 ghost use Rattle.ovl_program.specs.BlobFolders.{anything};
 ghost use Rattle.ovl_program.specs.Faults.{IsUnread};
 ghost use Rattle.ovl_program.specs.Reported.{IsComingDownOver, IsComingOver};
