@@ -1,9 +1,7 @@
 -- What comes of a command over contents that are reported.
-use Rattle.std.proofs.Common.{◌≡◌, ℕ, Bool, true, false, Option, Result, Ok, Err, List, [], inr, refl, subst, sym, ap, ◌∙◌}
-use Rattle.std.proofs.lemmas.List.Elements.{All-nil}
+use Rattle.std.proofs.Common.{◌≡◌, ℕ, Bool, true, false, Option, Result, Ok, Err, List, inr, refl, subst, sym, ap, ◌∙◌}
 use Rattle.ovl_names.specs.Order.{ascends}
 use Rattle.ovl_lookup.specs.Stacks.{StackView}
-use Rattle.ovl_board.proofs.LawsOfMembers.{In-Contains}
 use Rattle.ovl_board.specs.declared.pieces.Piece.{Piece}
 use Rattle.ovl_check.specs.declared.contents.Content.{Content}
 use Rattle.ovl_check.specs.Blobs.{BlobView, digest_cmp}
@@ -23,16 +21,6 @@ use Rattle.ovl_engine.specs.Told.{IsOutcomeTold, IsRunTold, MayRefuseTold}
 use Rattle.ovl_engine.specs.MergesDown.{IsAcceptedDown, IsOutcomeDownTold, IsRunDown, IsRunDownTold}
 
 module _ (may_be : List ℕ → Option (List ℕ) → Type 0) where
-  -- of no names nothing is reported
-  pub nothing_told : AreTold may_be [] []
-  nothing_told = record {
-    blobs = [];
-    contents = refl;
-    ascend = refl;
-    asked = All-nil _;
-    each = λ name inside. absurd (In-Contains name [] inside);
-  }
-
   -- where the names that are asked for are reported, what comes with blobs of these contents comes over what may be there
   pub run_told : (command : Command) (stack : StackView) (may_refuse : Piece → Type 0) (names : List (List ℕ)) (told : List Content) (result : Result Answer EngineFault)
       → AreAsked command stack names → AreTold may_be names told

@@ -1,6 +1,6 @@
 -- What comes of a line, by what comes of its parts.
-use Rattle.std.proofs.Common.{◌≡◌, ◌<◌, ◌≤◌, ◌⊎◌, Bool, true, false, cond, ℕ, [], refl, Option, None, Some, Result, Ok, Err, List, IfErr, IfNone, IfOk, MatchResult, inl, inr, length, take, sym, ap, subst, arith, String, Vec, Global, string_bytes}
-use Rattle.std.specs.Io.KnownBytes.{Appends}
+use Rattle.std.proofs.Common.{◌≡◌, ◌<◌, ◌≤◌, ◌⊎◌, Bool, true, false, cond, ℕ, [], refl, Option, None, Some, Result, Ok, Err, List, IfNone, IfOk, MatchResult, inl, inr, length, take, sym, ap, subst, arith, String, Vec, Global, string_bytes}
+use Rattle.std.specs.Io.KnownBytes.{Appends, Keeps}
 use Rattle.std.proofs.lemmas.List.{length-map}
 use Rattle.ovl_layer.specs.Layers.{Entries}
 use Rattle.ovl_manifest.specs.Text.{manifest_text}
@@ -18,13 +18,15 @@ use Rattle.ovl_command_line.specs.declared.options.Line.{Line}
 use Rattle.ovl_program.specs.declared.output.status.Ending.{Ending}
 use Rattle.ovl_program.specs.declared.faults.ProgramFault.{ProgramFault}
 use Rattle.ovl_program.specs.declared.faults.ProgramFault.TheVariants.{Usage, Words, Input, Unread, Unwritten, Output, Engine}
-use Rattle.ovl_program.specs.Faults.{IsUnread, IsMemory}
-use Rattle.ovl_program.specs.BlobFolders.{IsInFolder}
+use Rattle.ovl_files.specs.declared.faults.FileFault.{FileFault}
+use Rattle.ovl_files.specs.declared.faults.FileFault.TheVariants.{Unread as UnreadFile, Memory as FileMemory}
+use Rattle.ovl_files.specs.BlobFolders.{IsInFolder}
+use Rattle.ovl_files.specs.Faults.{IsUnread}
+use Rattle.ovl_program.specs.Faults.{IsMemory, unread_file}
 use Rattle.ovl_program.specs.LayerFiles.{IsUnfinished}
 use Rattle.ovl_program.specs.Status.{ending_of}
-use Rattle.ovl_program.specs.Programs.{IsComingFor, IsComingIn, IsOfBlobs, IsRequestFor, IsPerformed, folder_in_parts, left_of}
+use Rattle.ovl_program.specs.Programs.{IsComingFor, IsComingIn, IsOfBlobs, IsOfLine, IsRequestFor, IsPerformed, folder_in_parts, left_of}
 use Rattle.ovl_program.specs.Reported.{IsComing, IsComingOver, IsComingDown, IsComingDownOver, IsReported, IsTold, has_report}
-use Rattle.ovl_program.proofs.Unread.{unread_of_more}
 
 -- a report of what was read
 module _ (line : Line) (before after : Option (List ℕ)) where
@@ -39,6 +41,16 @@ module _ (line : Line) (before after : Option (List ℕ)) where
   performed (Err Words) request of reported = elim reported [ ]
   performed (Err Input) request of reported = elim reported [ ]
 
+-- nothing is written if a file or folder of a line isn't read
+kept : (before : Option (List ℕ)) → Keeps before before
+kept None = tt
+kept (Some bytes) = refl
+
+pub unread : (line : Line) (before : Option (List ℕ)) (P : List ℕ → Type 0) → ((path : List ℕ) → P path → IsOfLine line path) → (fault : FileFault) → IsUnread P fault
+    → IsPerformed line before before (Err (unread_file fault))
+unread line before P of (UnreadFile path) inside = (of _ inside, kept before)
+unread line before P of FileMemory inside = (inl tt, kept before)
+
 -- what comes of a command is what may come for the line
 pub coming_for : (line : Line) (from : Option (String Global)) → from ≡ folder_in_parts line → (request : Request) (result : Result Answer EngineFault)
     → IsComingIn (left_of line.what line.down_to) from request result → IsComingFor line request result
@@ -51,6 +63,10 @@ asked_folder line folder asked = by line.any_size asked
     by : (b : Bool) → cond b line.blobs None ≡ Some folder → line.blobs ≡ Some folder
     by true is = is
     by false is = cc
+
+pub not_some : {X : Type 0} → (found : Option X) → ((x : X) → found ≡ Some x → ⊥) → found ≡ None
+not_some None never = refl
+not_some (Some x) never = absurd (never x refl)
 
 pub none_asked : (asked : Option (String Global)) (blobs : List BlobView) → blobs ≡ [] → IfNone asked (blobs ≡ [])
 none_asked None blobs is = is
@@ -78,9 +94,9 @@ module _ (one other : Result Answer EngineFault → Type 0) (more : (result : Re
 
 module _ (line : Line) (folder : String Global) (asked : line.blobs ≡ Some folder) (text : List ℕ) (same : text ≡ string_bytes folder) where
   -- what isn't read of a line's folder is of its blobs
-  pub unread_of_blobs : {X : Type 0} (result : Result X ProgramFault) → IfErr result (λ fault. IsUnread (IsInFolder text) fault) → IfErr result (λ fault. IsUnread (IsOfBlobs line) fault)
-  unread_of_blobs (Ok blobs) unread = tt
-  unread_of_blobs (Err fault) unread = unread_of_more (IsInFolder text) (IsOfBlobs line) (λ path inside. (folder, (asked, rw same at inside))) fault unread
+  pub unread_of_blobs : (fault : FileFault) → IsUnread (IsInFolder text) fault → IsUnread (IsOfBlobs line) fault
+  unread_of_blobs (UnreadFile path) inside = (folder, (asked, rw same at inside))
+  unread_of_blobs FileMemory unread = tt
 
 -- ---- what is reported
 

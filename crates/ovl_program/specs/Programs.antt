@@ -13,7 +13,7 @@ use Rattle.ovl_program.specs.declared.output.status.Ending.{Ending}
 use Rattle.ovl_program.specs.declared.faults.ProgramFault.{ProgramFault}
 use Rattle.ovl_program.specs.declared.faults.ProgramFault.TheVariants.{Usage, Words, Input, Unread, Unwritten, Output, Engine}
 use Rattle.ovl_program.specs.Faults.{IsMemory}
-use Rattle.ovl_program.specs.BlobFolders.{IsInFolder}
+use Rattle.ovl_files.specs.BlobFolders.{IsInFolder}
 use Rattle.ovl_program.specs.Reported.{IsComingDown, IsComingDownOver, IsReported}
 
 -- the line's folder of blobs, or a blob in it

@@ -17,7 +17,7 @@ use Rattle.ovl_program.specs.declared.faults.ProgramFault.{ProgramFault}
 use Rattle.ovl_program.specs.declared.faults.ProgramFault.TheVariants.{Usage, Words, Input, Unread, Unwritten, Output, Engine}
 use Rattle.ovl_program.specs.Status.{ending_of}
 use Rattle.ovl_program.specs.Faults.{IsMemory}
-use Rattle.ovl_program.specs.BlobFolders.{anything}
+use Rattle.ovl_files.specs.BlobFolders.{anything}
 use Rattle.ovl_command_line.specs.Commands.{default_workers}
 use Rattle.ovl_program.specs.LayerFiles.{IsOutFile}
 

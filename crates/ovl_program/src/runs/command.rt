@@ -3,19 +3,18 @@ ghost use Rattle.std.specs.Prelude.{◌≡◌, [], true, option_map, IfOk, IfErr
 ghost use Rattle.ovl_check.specs.Blobs.{blob_views, are_in_order};
 ghost use Rattle.ovl_commands.specs.declared.requests.Command.TheVariants.{Merge};
 ghost use Rattle.ovl_engine.specs.Requests.{request_of};
-ghost use Rattle.ovl_program.specs.Faults.{IsUnread};
+ghost use Rattle.ovl_files.specs.Faults.{IsUnread};
 ghost use Rattle.ovl_program.specs.Reported.{IsComingDown};
 ghost use Rattle.ovl_program.specs.Programs.{IsOfBlobs, IsPerformed};
 ghost use Rattle.ovl_program.specs.Programs as programs;
 
 use crate::faults::ProgramFault;
-use crate::files::blob_folder::read_blobs;
-use crate::files::manifests::{SharedFiles, read_files};
 use crate::output::report::write_report;
 use crate::output::status::Ending;
 use crate::runs::in_parts::perform_in_parts;
 use ovl_command_line::Line;
 use ovl_engine::{Answer, Blob, Command, EngineFault, command, merge_down};
+use ovl_files::{FileFault, SharedFiles, read_blobs, read_files};
 use ovl_pool::OpenGate;
 use std::io::Write;
 use std::rt::Files;
@@ -105,7 +104,7 @@ fn folder_in_parts(line: &Line) -> Option<&String>
 fn blobs_of_line<R: Files + SharedFiles + AllocGlobal + Clone + Drop + Threads + Sync>(
     rt: &R,
     line: &Line,
-) -> Result<Vec<Blob>, ProgramFault>
+) -> Result<Vec<Blob>, FileFault>
     ensures in_order { IfOk result (λ blobs. are_in_order (blob_views blobs.items) ≡ true) }
     ensures none { IfNone line.now.blobs (IfOk result (λ blobs. blob_views blobs.items ≡ [])) }
     ensures fault { IfErr result (λ fault. IsUnread (IsOfBlobs line.now) fault) }

@@ -5,15 +5,13 @@ ghost use Rattle.ovl_check.specs.Blobs.{digest_cmp};
 ghost use Rattle.ovl_commands.specs.declared.requests.Command.TheVariants.{Merge};
 ghost use Rattle.ovl_engine.specs.Requests.{request_of};
 ghost use Rattle.ovl_check.specs.Contents.{AreTold};
-ghost use Rattle.ovl_program.specs.BlobFolders.{anything};
-ghost use Rattle.ovl_program.specs.Faults.{IsUnread};
+ghost use Rattle.ovl_files.specs.BlobFolders.{anything};
+ghost use Rattle.ovl_files.specs.Faults.{IsUnread};
 ghost use Rattle.ovl_program.specs.Reported.{IsComingDownOver, IsComingOver};
 ghost use Rattle.ovl_program.specs.Programs.{IsOfBlobs, IsPerformed, folder_in_parts};
 ghost use Rattle.ovl_program.specs.Programs as programs;
 
 use crate::faults::ProgramFault;
-use crate::files::folder_in_parts::tell_blobs;
-use crate::files::manifests::SharedFiles;
 use crate::output::report::write_report;
 use crate::output::status::Ending;
 use crate::runs::command::left_of;
@@ -21,6 +19,7 @@ use ovl_command_line::Line;
 use ovl_engine::{
     Answer, Content, EngineFault, answer_told, merge_down_told, question_down, question_of,
 };
+use ovl_files::{FileFault, SharedFiles, tell_blobs};
 use ovl_inode::Digest;
 use ovl_pool::OpenGate;
 use std::io::Write;
@@ -52,7 +51,7 @@ fn answer_in_parts<R: Files + SharedFiles + AllocGlobal + Threads + Wait + Sync>
     line: &Line,
     folder: &String,
     manifests: Vec<Vec<u8>>,
-) -> Result<Result<Answer, EngineFault>, ProgramFault>
+) -> Result<Result<Answer, EngineFault>, FileFault>
     requires { folder_in_parts line.now ≡ Some folder.now }
     ensures coming { IfOk result (IsComingDownOver (programs.left_of line.now.what line.now.down_to)
         (request_of line.now.what manifests.items line.now.data_layers [] line.now.workers)) }
@@ -71,7 +70,7 @@ fn merged_in_parts<R: Files + SharedFiles + AllocGlobal + Threads + Wait + Sync>
     folder: &String,
     manifests: Vec<Vec<u8>>,
     left: usize,
-) -> Result<Result<Answer, EngineFault>, ProgramFault>
+) -> Result<Result<Answer, EngineFault>, FileFault>
     requires { folder_in_parts line.now ≡ Some folder.now }
     ensures coming { IfOk result (IsComingDownOver (Some left)
         (request_of Merge manifests.items line.now.data_layers [] line.now.workers)) }
@@ -92,7 +91,7 @@ fn done_in_parts<R: Files + SharedFiles + AllocGlobal + Threads + Wait + Sync>(
     line: &Line,
     folder: &String,
     manifests: Vec<Vec<u8>>,
-) -> Result<Result<Answer, EngineFault>, ProgramFault>
+) -> Result<Result<Answer, EngineFault>, FileFault>
     requires { folder_in_parts line.now ≡ Some folder.now }
     ensures coming { IfOk result (IsComingOver
         (request_of line.now.what manifests.items line.now.data_layers [] line.now.workers)) }
@@ -120,7 +119,7 @@ fn contents_in<R: Files + SharedFiles + AllocGlobal + Threads + Sync>(
     line: &Line,
     folder: &String,
     names: &[Digest],
-) -> Result<Vec<Content>, ProgramFault>
+) -> Result<Vec<Content>, FileFault>
     requires folder { folder_in_parts line.now ≡ Some folder.now }
     requires ascend { ascends digest_cmp names.now ≡ true }
     ensures told { IfOk result (λ told. AreTold anything names.now told.items) }

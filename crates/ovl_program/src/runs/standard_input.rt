@@ -6,11 +6,11 @@ ghost use Rattle.ovl_program.specs.declared.faults.ProgramFault.TheVariants.{Inp
 ghost use Rattle.ovl_program.specs.Reported.{IsComing, IsReported, input_request};
 
 use crate::faults::ProgramFault;
-use crate::files::reads::{INPUT_LIMIT, read_all};
 use crate::output::report::write_report;
 use crate::output::status::Ending;
 use ovl_command_line::DEFAULT_WORKERS;
 use ovl_engine::{Command, command};
+use ovl_files::{INPUT_LIMIT, read_all};
 use ovl_pool::OpenGate;
 use std::io::{Read, Write};
 use std::rt::Files;

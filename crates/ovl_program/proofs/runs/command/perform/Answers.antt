@@ -1,13 +1,23 @@
-use Rattle.std.proofs.Common.{◌∙◌, ◌≡◌, ℕ, None, refl, sym, subst, ap, length, Vec, Global, Result}
+use Rattle.std.proofs.Common.{◌∙◌, ◌≡◌, ℕ, None, Contains, inl, inr, refl, sym, subst, ap, length, map, string_bytes, Vec, Global, Result}
 use Rattle.std.proofs.lemmas.List.{length-map}
+use Rattle.std.proofs.lemmas.Result.{err_from_is_err_and}
 use Rattle.ovl_commands.specs.declared.requests.Answer.{Answer}
 use Rattle.ovl_engine.specs.declared.faults.EngineFault.{EngineFault}
 use Rattle.ovl_engine.specs.Requests.{Request, request_of}
 use Rattle.ovl_program.specs.Reported.{IsComingDown}
-use Rattle.ovl_program.specs.Programs.{IsComingFor, IsRequestFor, left_of}
-use Rattle.ovl_program.proofs.Performed.{coming_for, few_coming_down, performed, reported_more}
-use Rattle.ovl_program.proofs.Telling.{not_some}
+use Rattle.ovl_program.specs.Programs.{IsComingFor, IsOfBlobs, IsRequestFor, left_of}
+use Rattle.ovl_program.proofs.Performed.{coming_for, few_coming_down, not_some, performed, reported_more, unread}
 use Rattle.ovl_program.proofs.runs.command.perform.Goals as goal
+
+pub returns-in_err-manifests : goal.returns-in_err-manifests
+returns-in_err-manifests g c =
+    let out = err_from_is_err_and c.from_residual.result c.from_residual.ensures.1 in
+    rw (out.1, out.2) (unread c.args.line.now (g.W.Write.contents c.args.writer.now) (Contains (map string_bytes c.deref.result.now)) (λ path inside. inl (rw c.deref.ensures.value at inside)) c.in_err-manifests.field-0.0 c.in_err-manifests.ensures.fault)
+
+pub returns-in_err-blobs : goal.returns-in_err-blobs
+returns-in_err-blobs g c =
+    let out = err_from_is_err_and c.from_residual-in_err-blobs.result c.from_residual-in_err-blobs.ensures.1 in
+    rw (out.1, out.2) (unread c.args.line.now (g.W.Write.contents c.args.writer.now) (IsOfBlobs c.args.line.now) (λ path inside. inr inside) c.in_err-blobs.field-0.0 c.in_err-blobs.ensures.fault)
 
 pub write_report-requires : goal.write_report-requires
 write_report-requires g c =

@@ -1,7 +1,7 @@
 use Rattle.std.proofs.Common.{[]}
 use Rattle.ovl_engine.proofs.LawsOfTold.{asked_ascend, outcome_told, run_told}
 use Rattle.ovl_engine.specs.Requests.{Request, request_of}
-use Rattle.ovl_program.specs.BlobFolders.{anything}
+use Rattle.ovl_files.specs.BlobFolders.{anything}
 use Rattle.ovl_program.specs.Reported.{refuses_nothing}
 use Rattle.ovl_program.proofs.runs.in_parts.done_in_parts.Goals as goal
 

@@ -2,7 +2,7 @@ use Rattle.std.proofs.Common.{[], refl}
 use Rattle.ovl_engine.proofs.LawsOfTold.{asked_ascend, outcome_down_told}
 use Rattle.ovl_commands.specs.declared.requests.Command.TheVariants.{Merge}
 use Rattle.ovl_engine.specs.Requests.{Request, request_of}
-use Rattle.ovl_program.specs.BlobFolders.{anything}
+use Rattle.ovl_files.specs.BlobFolders.{anything}
 use Rattle.ovl_program.specs.Reported.{refuses_nothing}
 use Rattle.ovl_program.proofs.runs.in_parts.merged_in_parts.Goals as goal
 

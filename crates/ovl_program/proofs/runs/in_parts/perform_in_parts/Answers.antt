@@ -1,12 +1,18 @@
-use Rattle.std.proofs.Common.{◌∙◌, ◌≡◌, ℕ, [], Some, refl, sym, subst, Vec, Global, Result}
+use Rattle.std.proofs.Common.{◌∙◌, ◌≡◌, ℕ, [], Some, inr, refl, sym, subst, Vec, Global, Result}
 use Rattle.std.proofs.lemmas.List.{length-map}
+use Rattle.std.proofs.lemmas.Result.{err_from_is_err_and}
 use Rattle.ovl_commands.specs.declared.requests.Answer.{Answer}
 use Rattle.ovl_engine.specs.declared.faults.EngineFault.{EngineFault}
 use Rattle.ovl_engine.specs.Requests.{Request, request_of}
 use Rattle.ovl_program.specs.Reported.{IsComingDownOver}
-use Rattle.ovl_program.specs.Programs.{IsComingFor, IsRequestFor, left_of}
-use Rattle.ovl_program.proofs.Performed.{coming_for, few_coming_down_over, none_asked, performed, reported_more}
+use Rattle.ovl_program.specs.Programs.{IsComingFor, IsOfBlobs, IsRequestFor, left_of}
+use Rattle.ovl_program.proofs.Performed.{coming_for, few_coming_down_over, none_asked, performed, reported_more, unread}
 use Rattle.ovl_program.proofs.runs.in_parts.perform_in_parts.Goals as goal
+
+pub returns-in_err-answered : goal.returns-in_err-answered
+returns-in_err-answered g c =
+    let out = err_from_is_err_and c.from_residual.result c.from_residual.ensures.1 in
+    rw (out.1, out.2) (unread c.args.line.now (g.W.Write.contents c.args.writer.now) (IsOfBlobs c.args.line.now) (λ path inside. inr inside) c.in_err-answered.field-0.0 c.in_err-answered.ensures.fault)
 
 pub write_report-requires : goal.write_report-requires
 write_report-requires g c =
