@@ -112,16 +112,9 @@ def run_program(program: str, words: Sequence[str], folder: str, report: str, fa
     What it refuses is printed as it is: its own words, or the report, among the faults, if it has any. With no place for
     faults the report keeps them, and they refuse nothing.
     """
-    report, command = f"{folder}/{report}", [program, *words]
-    environment = with_huge_pages(os.environ)
-    detail(f"runs {shlex.join(command)}")
-    with (
-        writing(report), open(report, "xb") as file,
-        running(command, stdout=file, stderr=subprocess.PIPE, folder=folder, environment=environment) as process,
-    ):
-        messages = _messages(process, Progress(f"{NAME} {words[0]}"))
-    print(messages.decode("utf-8", "replace"), end="", file=sys.stderr)
-    status = process.returncode
+    status, messages = try_program(program, words, folder, report, Progress(f"{NAME} {words[0]}"))
+    print(messages, end="", file=sys.stderr)
+    report = f"{folder}/{report}"
     if status == FAULTY:
         if faults is None:
             return _last_line(report)
@@ -132,6 +125,20 @@ def run_program(program: str, words: Sequence[str], folder: str, report: str, fa
         first = _first_fault(report) if status == FAULTY else ""
         raise Refused(f"{NAME} {words[0]} ended with status {status}; nothing is written{first}", status)
     return _last_line(report)
+
+
+def try_program(program: str, words: Sequence[str], folder: str, report: str, progress: Progress) -> tuple[int, str]:
+    """Runs it so, whatever comes of that. Gives its status and what it says."""
+    report, command = f"{folder}/{report}", [program, *words]
+    detail(f"runs {shlex.join(command)}")
+    with (
+        writing(report), open(report, "xb") as file,
+        running(
+            command, stdout=file, stderr=subprocess.PIPE, folder=folder, environment=with_huge_pages(os.environ),
+        ) as process,
+    ):
+        messages = _messages(process, progress)
+    return process.returncode, messages.decode("utf-8", "replace")
 
 
 def _messages(process: "subprocess.Popen[bytes]", progress: Progress) -> bytes:

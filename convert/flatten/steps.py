@@ -19,6 +19,7 @@ from ..model.entries import METACOPY, REDIRECT, Entry, named
 from ..model.links import links_path, numbered_names
 from ..model.manifests import has_attribute, read_manifest, write_manifest
 from ..model.show_report import escaped_path, read_report, report_of
+from ..model.show_runs import run_show
 from ..model.shown_files import Files, files_in, shown_files
 from .exclusion import lines_without, write_without
 
@@ -157,9 +158,10 @@ class Runner:
 
     def run_on(self, what: str, layers: Sequence[str], new: str, own: Sequence[str] = ()) -> str:
         """Runs the program, in the folder of the work, on layers there; gives the last line of its report."""
-        blobs = f"{STACK}/{stacks.BLOBS}"
-        words = words_of(what, layers, blobs, new, sum(layer in self.data_layers for layer in layers), own)
-        report = new
+        blobs, data_layers = f"{STACK}/{stacks.BLOBS}", sum(layer in self.data_layers for layer in layers)
+        if what == "show":
+            return run_show(self._program, layers, self._folder, new, data_layers)
+        words, report = words_of(what, layers, blobs, new, data_layers, own), new
         if makes_layers(what):
             with writing(self.path(new)):
                 os.mkdir(self.path(new))

@@ -2,13 +2,12 @@
 
 import contextlib
 import os
-import sys
 from collections.abc import Iterator, Sequence
 from dataclasses import dataclass, replace
 
 from ..common.budgets import TooMuch
 from ..common.faults import ReadFault, TarFault, UsageFault, cannot_read, writing
-from ..common.program import require_program, run_program, words_of
+from ..common.program import require_program
 from ..common.progress import note
 from ..folder.mounted import report as report_of_folder
 from ..folder.stack_layers import StackOptions, read_stack, require_ordinary
@@ -17,6 +16,7 @@ from ..image.images import Image, Spoilt, image_place, opened_image, paths_of_im
 from ..image.members import STANDARD_INPUT
 from ..image.unpack import UnpackOptions, unpack_opened
 from ..model import stacks
+from ..model.show_runs import run_show
 
 _SHOWN = "show"
 _STACK = "stack"
@@ -169,5 +169,5 @@ def _require_digests(image: Image) -> None:
 
 def _report(program: str, layers: Sequence[str], folder: str, data_layers: int = 0) -> str:
     """What the proved program shows of manifests, whose paths count from the folder."""
-    run_program(program, words_of("show", layers, "", "", data_layers), folder, _SHOWN, sys.stderr)
+    run_show(program, layers, folder, _SHOWN, data_layers)
     return f"{folder}/{_SHOWN}"

@@ -55,6 +55,14 @@ _FIRST = _Version(1, {kind: _BASE | more for kind, more in _MORE.items()}, rules
 _SECOND = _Version(2, {kind: _BASE | {_BELOW_SECOND} | more for kind, more in _MORE.items()}, rules.MAX_NAMES)
 _VERSIONS = {version.number: version for version in (_FIRST, _SECOND)}
 _HEAD = '{"entries":['
+WRITTEN_HEAD, WRITTEN_TAIL = _HEAD.encode(), _SECOND.tail().encode()  # of a text as it is written
+_QUOTED = rb'"[^"\\]*(?:\\.[^"\\]*)*"'
+# An entry's text as it is written, with its path: each member once, in its place. The program looks at the values.
+WRITTEN_ENTRY = re.compile(
+    rb'\{(?:"blob":"[^"\\]*",)?"gid":[-0-9]*,"kind":"[^"\\]*",(?:"major":[-0-9]*,"minor":[-0-9]*,)?"mode":[-0-9]*,'
+    rb'"mtime":[-0-9]*,"mtime-nsec":[-0-9]*,"path":(%(text)b),(?:"size":[-0-9]*,)?(?:"target":%(text)b,)?"uid":[-0-9]*,'
+    rb'"xattrs":\{(?:%(text)b:"[^"\\]*",?)*\}\}' % {b"text": _QUOTED}
+)
 _DECODER = json.JSONDecoder()
 _PIECE = 1 << 18
 _HEXADECIMAL = re.compile(r"(?:[0-9a-f]{2})*\Z")

@@ -1,14 +1,13 @@
 """`sizes`: what each layer of an image, or of a stack, holds, and what of it is still shown."""
 
 import os
-import sys
 import tempfile
 from collections.abc import Callable, Iterable, Sequence
 from dataclasses import dataclass
 
 from ..common.faults import FAULTY, Fault, UsageFault, writing
 from ..common.outputs import STANDARD_OUTPUT, passing_folder
-from ..common.program import require_program, run_program, words_of
+from ..common.program import require_program
 from ..folder.stack_layers import StackOptions, read_stack, require_ordinary
 from ..image.base import layers_of_base
 from ..image.configuration import platform_text
@@ -16,6 +15,7 @@ from ..image.images import Image, image_place, opened_image, paths_of_image
 from ..image.members import STANDARD_INPUT
 from ..image.unpack import UnpackOptions, unpack_opened
 from ..model import stacks
+from ..model.show_runs import run_show
 from .advice import advice_of, json_members
 from .history import steps_of
 from .layer_sizes import sizes_of
@@ -61,8 +61,7 @@ def sizes(options: SizesOptions, print_lines: Callable[[Iterable[str]], None]) -
     program = require_program(_given_paths(options))
     with passing_folder(tempfile.gettempdir()) as folder:
         given = _given_image(options, folder) if options.stack is None else _given_stack(options, options.stack, folder)
-        words = words_of("show", stacks.layer_paths(_STACK, len(given.layers)), "", "", options.data_layers)
-        run_program(program, words, folder, _SHOWN, sys.stderr)
+        run_show(program, stacks.layer_paths(_STACK, len(given.layers)), folder, _SHOWN, options.data_layers)
         found = sizes_of(given.layers, options.data_layers, f"{folder}/{_SHOWN}")
     waste = waste_of(found, given.base)
     origins = given.subject.origins

@@ -189,11 +189,14 @@ class CheckTest(FolderTest):
     def setUp(self) -> None:
         super().setUp()
         self.report = "faults 0 notes 0\n"
-        for module in ("convert.check.command", "convert.look.sources"):
-            for name, more in (("require_program", {"return_value": "none"}), ("run_program", {"side_effect": self._run})):
-                patch = mock.patch(f"{module}.{name}", **more)
-                patch.start()
-                self.addCleanup(patch.stop)
+        found, ran = {"return_value": "none"}, {"side_effect": self._run}
+        for name, more in (
+            ("check.command.require_program", found), ("look.sources.require_program", found),
+            ("check.command.run_program", ran), ("model.show_runs.run_program", ran),
+        ):
+            patch = mock.patch(f"convert.{name}", **more)
+            patch.start()
+            self.addCleanup(patch.stop)
 
     def _run(self, program: str, words: Sequence[str], folder_: str, report: str, faults: object) -> str:
         if words[0] == "show":

@@ -79,12 +79,25 @@ drwx------     0     0     - 1970-01-01 00:00 1 /etc/d (opaque)
 """
 _MEASURED = """
 import sys
+from unittest import mock
 sys.path.insert(0, sys.argv[1])
 from convert.cli import main
-status = main(sys.argv[2:])
+from convert.model import parts
+parts.MOST_BYTES //= 25
+with mock.patch("convert.common.program.find_program", return_value=sys.argv[2]):
+    status = main(sys.argv[3:])
 with open("/proc/self/status") as file:
     most = next(line.split()[1] for line in file if line.startswith("VmHWM"))
 sys.stderr.write(f"{status} {most}")
+"""
+# A program, after which its most memory is in a file, or that of this script if it is more.
+_NOTED = """#!{python} -BIS
+import os, resource, sys
+child = os.posix_spawn({program!r}, [{program!r}, *sys.argv[1:]], os.environ)
+status = os.waitstatus_to_exitcode(os.waitpid(child, 0)[1])
+with open({peaks!r}, "a") as file:
+    print(resource.getrusage(resource.RUSAGE_CHILDREN).ru_maxrss, file=file)
+sys.exit(status)
 """
 _ENTRIES = 40_000
 
@@ -97,7 +110,7 @@ class Definitions(FolderTest):
         for seed in range(_STACKS):
             layers, data_layers = random_stack(seed)
             if seed % 2:
-                layers = [[_without_redirect(entry) for entry in layer] for layer in layers]
+                layers = [[without_redirect(entry) for entry in layer] for layer in layers]
             stack = PlainStack(layers, data_layers)
             found = self.layers(layers, stack, data_layers)
             wanted, used = list[tuple[str, int, int | None]](), set[tuple[int, str]]()
@@ -173,7 +186,7 @@ def used_from(stack: PlainStack, top: int) -> set[tuple[int, str]]:
     return {(place[0], text_of(place[1])) for place in places if place is not None}
 
 
-def _without_redirect(entry: Entry) -> Entry:
+def without_redirect(entry: Entry) -> Entry:
     """The same entry, but a directory that was moved is opaque."""
     if entry.kind == DIRECTORY and REDIRECT in entry.attributes:
         return replace(entry, attributes={OPAQUE: b"y"})
@@ -413,7 +426,7 @@ def _wanted(printed: str) -> list[tuple[str, ...]]:
 
 
 class Memory(FolderTest):
-    """Of many entries few are held."""
+    """Of many entries few are held, in the converter and in the program, which gets parts as short as the stack is."""
 
     def test_bound(self) -> None:
         if not program_words():
@@ -427,11 +440,32 @@ class Memory(FolderTest):
                 file.write(data)
         with open(self.path("stack", "shown.links"), "wb"):
             pass
+        program = noted(self.path("program"), self.path("peaks"))
         for words in (["ls", self.path("stack")], ["diff", self.path("stack"), self.path("stack")]):
-            done = subprocess.run([sys.executable, "-B", "-c", _MEASURED, str(ROOT), *words], capture_output=True, text=True, check=True)
+            command = [sys.executable, "-B", "-c", _MEASURED, str(ROOT), program, *words]
+            done = subprocess.run(command, capture_output=True, text=True, check=True)
             status, most = map(int, done.stderr.split())
             self.assertEqual((status, done.stdout.count("\n")), (0, _ENTRIES if words[0] == "ls" else 0))
             self.assertLess(most, 36_000, words)  # KiB, of which Python with its modules has 27,000; if all were held, 50,000
+            peaks = peaks_in(self.path("peaks"))
+            self.assertGreater(len(peaks), 20)
+            self.assertLess(max(peaks), 12_000, words)  # at once the program takes 20,000
+
+
+def noted(path: str, peaks: str) -> str:
+    """Writes a script that runs the program, and notes in a file how much memory that took."""
+    with open(path, "w", encoding="utf-8") as file:
+        file.write(_NOTED.format(python=sys.executable, program=program_words()[0], peaks=peaks))
+    os.chmod(path, 0o755)
+    return path
+
+
+def peaks_in(path: str) -> list[int]:
+    """What is noted, in KiB, which is taken away."""
+    with open(path, encoding="ascii") as file:
+        found = list(map(int, file))
+    os.unlink(path)
+    return found
 
 
 if __name__ == "__main__":

@@ -84,7 +84,7 @@ class SizesTest(FolderTest):
         width.start()
         self.addCleanup(width.stop)
         found = mock.patch("convert.sizes.command.require_program", return_value="none")
-        run = mock.patch("convert.sizes.command.run_program", autospec=True, side_effect=plain_program)
+        run = mock.patch("convert.model.show_runs.run_program", autospec=True, side_effect=plain_program)
         found.start()
         self.program = run.start()
         self.addCleanup(found.stop)
