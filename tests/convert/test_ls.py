@@ -13,9 +13,10 @@ import unittest
 from dataclasses import replace
 from unittest import mock
 
-from images import archive, folder, member, put_index, put_manifest
+from images import archive, folder, member, put_index, put_manifest, write_layout
 from plain_stacks import PlainStack, random_stack, text_of
 from support import COMMAND, ROOT, FolderTest, call, program_words, run, why_no_trusted
+from test_bounds import _contents
 from test_diff import _NAMES, _entry, _fit, write_image
 
 from convert.common.escaping import unescaped
@@ -100,6 +101,7 @@ with open({peaks!r}, "a") as file:
 sys.exit(status)
 """
 _ENTRIES = 40_000
+_FILES, _FILE_MEMORY = 40_000, 350  # bytes of a file in all processes, with what reading a long layer takes; if all is shown at once, 500
 
 
 class Definitions(FolderTest):
@@ -440,16 +442,34 @@ class Memory(FolderTest):
                 file.write(data)
         with open(self.path("stack", "shown.links"), "wb"):
             pass
-        program = noted(self.path("program"), self.path("peaks"))
         for words in (["ls", self.path("stack")], ["diff", self.path("stack"), self.path("stack")]):
-            command = [sys.executable, "-B", "-c", _MEASURED, str(ROOT), program, *words]
-            done = subprocess.run(command, capture_output=True, text=True, check=True)
-            status, most = map(int, done.stderr.split())
-            self.assertEqual((status, done.stdout.count("\n")), (0, _ENTRIES if words[0] == "ls" else 0))
+            lines, most, peaks = self.measured(*words)
+            self.assertEqual(lines, _ENTRIES if words[0] == "ls" else 0)
             self.assertLess(most, 36_000, words)  # KiB, of which Python with its modules has 27,000; if all were held, 50,000
-            peaks = peaks_in(self.path("peaks"))
             self.assertGreater(len(peaks), 20)
             self.assertLess(max(peaks), 12_000, words)  # at once the program takes 20,000
+
+    def test_images(self) -> None:
+        """With the program they take little more for many files than for one."""
+        if not program_words():
+            self.skipTest("the program isn't built")
+        for name, count in (("one", 1), ("many", _FILES)):
+            write_layout(self.path(name), [gzip.compress(_contents(count), 1)])
+        for words in (["ls"], ["diff"]):
+            taken = []
+            for name in ("one", "many"):
+                _, most, peaks = self.measured(*words, *[self.path(name)] * (1 + (words == ["diff"])))
+                taken.append(most + max(peaks))
+            self.assertLess((taken[1] - taken[0]) * 1024, _FILE_MEMORY * _FILES, words)
+
+    def measured(self, *words: str) -> tuple[int, int, list[int]]:
+        """Runs a command. Gives how many lines it prints, and in KiB the most that it takes and that each of the program's runs does."""
+        program = noted(self.path("program"), self.path("peaks"))
+        command = [sys.executable, "-B", "-c", _MEASURED, str(ROOT), program, *words]
+        done = subprocess.run(command, capture_output=True, text=True, check=True)
+        status, most = map(int, done.stderr.splitlines()[-1].split())
+        self.assertEqual(status, 0)
+        return done.stdout.count("\n"), most, peaks_in(self.path("peaks"))
 
 
 def noted(path: str, peaks: str) -> str:
