@@ -1,6 +1,6 @@
 use Rattle.std.proofs.Common.{◌≡◌, drop}
 use Rattle.ovl_lookup.specs.Merged.{full_file_in}
-use Rattle.ovl_lookup.proofs.looks.full_file_in.Given as goal
+use Rattle.ovl_lookup.proofs.stacks.full_file_in.Given as goal
 
 -- the file that the layers that are left have is that of all of them
 abbrev pub invariant-loop-layer : goal.invariant-loop-layer
