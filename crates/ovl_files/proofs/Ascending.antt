@@ -5,8 +5,8 @@ use Rattle.std.specs.List.{AllByRecursion, list_all}
 use Rattle.std.specs.List.Sorted.{IsStrictlySortedBy}
 use Rattle.std.specs.Ordering.{is_lt}
 use Rattle.std.specs.declared.cmp.Ordering.TheVariants.{Less}
-use Rattle.ovl_check.specs.declared.blobs.Blob.{Blob}
-use Rattle.ovl_check.specs.Blobs.{BlobView, blob_views, digest_cmp, are_in_order}
+use Rattle.ovl_blobs.specs.declared.blobs.Blob.{Blob}
+use Rattle.ovl_blobs.specs.Blobs.{BlobView, blob_views, digest_cmp, are_in_order}
 
 before_all : (name : List ℕ) (blobs : List Blob) → AllByRecursion (λ other. digest_cmp name other ≡ Less) (map (λ (blob : Blob). blob.name) blobs)
     → list_all (λ (blob : BlobView). is_lt (digest_cmp name blob.name)) (blob_views blobs) ≡ true

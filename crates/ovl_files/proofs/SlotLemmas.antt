@@ -11,8 +11,8 @@ use Rattle.std.proofs.lemmas.List.Elements.{Contains-append_left, Contains-push,
 use Rattle.std.proofs.lemmas.Option.{slice_get_read, unwrap_or-slice_get}
 use Rattle.ovl_names.specs.Order.{ascends}
 use Rattle.ovl_names.proofs.Ascending.{both, list_all-get}
-use Rattle.ovl_check.specs.Blobs.{digest_cmp}
-use Rattle.ovl_check.specs.declared.contents.Content.{Content}
+use Rattle.ovl_blobs.specs.Blobs.{digest_cmp}
+use Rattle.ovl_blobs.specs.declared.contents.Content.{Content}
 use Rattle.ovl_files.specs.declared.faults.FileFault.{FileFault}
 use Rattle.ovl_files.specs.declared.faults.FileFault.TheVariants.{Memory}
 use Rattle.ovl_files.specs.declared.slots.Slots.{Slots}

@@ -2,7 +2,7 @@
 use Rattle.std.specs.Prelude.{◌≡◌, ◌≤◌, ◌==◌, ℕ, Option, Some, None, Result, Ok, Err, List, [], All, Contains, IfSome, Vec, find, reverse, slice_get, unwrap_or}
 use Rattle.std.specs.Global.{Global}
 use Rattle.std.specs.Option.{option_map}
-use Rattle.ovl_check.specs.declared.contents.Content.{Content}
+use Rattle.ovl_blobs.specs.declared.contents.Content.{Content}
 use Rattle.ovl_files.specs.declared.slots.Slots.{Slots}
 use Rattle.ovl_files.specs.declared.slots.Stop.{Stop}
 use Rattle.ovl_files.specs.declared.slots.Told.{Told}

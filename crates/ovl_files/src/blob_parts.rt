@@ -4,7 +4,7 @@ ghost use Rattle.ovl_files.specs.BlobFolders.{IsToldOf};
 
 use crate::reads::ReadFault;
 use crate::regular_files::regular_length;
-use ovl_check::{Content, PART, content_in};
+use ovl_blobs::{Content, PART, content_in};
 use ovl_inode::Digest;
 use std::alloc::{AllocError, Global};
 use std::fs;

@@ -2,10 +2,10 @@
 ghost use Rattle.std.specs.Prelude.{◌≡◌, ◌∷◌, ◌++◌, [], Option, Ok, true, min, length, vec_len, IfOk, IfErr, IfSome, OnOk, All};
 ghost use Rattle.std.specs.Thread.{IsSync};
 ghost use Rattle.ovl_names.specs.Order.{ascends};
-ghost use Rattle.ovl_check.specs.Blobs.{digest_cmp};
-ghost use Rattle.ovl_check.specs.Contents.{AreTold};
+ghost use Rattle.ovl_blobs.specs.Blobs.{digest_cmp};
+ghost use Rattle.ovl_blobs.specs.Contents.{AreTold};
 ghost use Rattle.ovl_files.specs.Faults.{IsUnread};
-ghost use Rattle.ovl_check.specs.declared.contents.Content.{Content};
+ghost use Rattle.ovl_blobs.specs.declared.contents.Content.{Content};
 ghost use Rattle.ovl_files.specs.BlobFolders.{anything, IsInFolder, IsToldOf};
 ghost use Rattle.ovl_files.specs.Slots.{AreSlotsOf, IsAsSaid, IsShareOf};
 
@@ -14,7 +14,7 @@ use crate::faults::FileFault;
 use crate::reads::ReadFault;
 use crate::shared_files::SharedFiles;
 use crate::slots::{Slots, Stop, Told, joined};
-use ovl_check::Content;
+use ovl_blobs::Content;
 use ovl_inode::Digest;
 use std::alloc::{AllocError, Global};
 use std::fs;

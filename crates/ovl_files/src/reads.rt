@@ -5,7 +5,7 @@ ghost use Rattle.std.specs.IoError.{error_kind, raw_os_error};
 ghost use Rattle.std.specs.declared.io.ErrorKind.TheVariants.{OutOfMemory};
 ghost use Rattle.ovl_files.specs.declared.reads.ReadFault.TheVariants.{TooLong, Memory};
 
-use ovl_check::{BLOB_LIMIT, PartFault};
+use ovl_blobs::{BLOB_LIMIT, PartFault};
 use std::alloc::{AllocError, AllocFailed, Global};
 use std::io::{self, ErrorKind, Read};
 use thiserror::Error;

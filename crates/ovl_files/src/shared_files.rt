@@ -7,7 +7,7 @@ use crate::blob_parts::tell_file;
 use crate::faults::FileFault;
 use crate::reads::{INPUT_LIMIT, ReadFault};
 use crate::whole_files::read_file;
-use ovl_check::Content;
+use ovl_blobs::Content;
 use ovl_inode::Digest;
 
 /// A runtime whose files several threads may read: a bound by `Files` holds of only one thread.

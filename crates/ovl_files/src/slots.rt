@@ -7,7 +7,7 @@ ghost use Rattle.ovl_files.specs.declared.slots.Stop.{Stop};
 ghost use Rattle.ovl_files.specs.Slots.{AreSlotsOf, IsFirstStop, IsShareOf, IsToldAmong, slot_at, told_at, told_by};
 
 use crate::faults::FileFault;
-use ovl_check::Content;
+use ovl_blobs::Content;
 use ovl_inode::Digest;
 use std::alloc::{AllocError, Global};
 use thiserror::Error;

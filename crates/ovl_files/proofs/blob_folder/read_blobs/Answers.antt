@@ -2,8 +2,8 @@ use Rattle.std.proofs.Common.{◌∙◌, ap, map, subst, sym, ℕ, List}
 use Rattle.std.specs.List.Sorted.{IsStrictlySortedBy}
 use Rattle.std.specs.Map.{keys_of}
 use Rattle.std.proofs.lemmas.Simd.{map-map}
-use Rattle.ovl_check.specs.declared.blobs.Blob.{Blob}
-use Rattle.ovl_check.specs.Blobs.{digest_cmp}
+use Rattle.ovl_blobs.specs.declared.blobs.Blob.{Blob}
+use Rattle.ovl_blobs.specs.Blobs.{digest_cmp}
 use Rattle.ovl_files.specs.declared.blob_folder.BlobFile.{BlobFile}
 use Rattle.ovl_files.proofs.Ascending.{ascending_blobs}
 use Rattle.ovl_files.proofs.blob_folder.read_blobs.Goals as goal
