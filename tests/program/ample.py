@@ -36,7 +36,8 @@ from small_layers import First, Layer, write
 
 OPAQUE, WHITEOUT = "trusted.overlay.opaque", "trusted.overlay.whiteout"
 CONTENTS = ("", "a", "b", "abc")
-NAMES, DEEPEST = ("a", "b", "c", "d"), 5
+# The first is how other unions write the whiteout of `a`, and means nothing here; the last two have one length.
+NAMES, DEEPEST = (".wh.a", "b", "directory-c", "directory-d"), 5
 NANOSECONDS = (0, 1, 500_000_000, 999_999_999)
 REWRITES = ("vacuum", "deref", "merge", "flatten")
 # What `fsck` prints if it finds nothing.
@@ -192,7 +193,8 @@ def spoil(rng: random.Random, layers: list[Layer]) -> None:
     elif way == 1 and spoilt["kind"] == "dir":
         attrs[OPAQUE] = b"y".hex()
     elif way == 2 and (spoilt["kind"] == "dir" or METACOPY in attrs):
-        attrs[REDIRECT] = rng.choice(("/a", "/b/c", "d", "/d/a/b", "/", "a/b")).encode().hex()
+        a, b, c, d = NAMES
+        attrs[REDIRECT] = rng.choice((f"/{a}", f"/{b}/{c}", d, f"/{d}/{a}/{b}", "/", f"{a}/{b}")).encode().hex()
     elif way == 3 and "blob" in spoilt:
         del spoilt["blob"]
         attrs[METACOPY] = ""

@@ -63,6 +63,13 @@ refuses() {
     ends "$wanted" printed "$@" && says told "ovl_layers: $text"$'\n' "$@"
 }
 
+# The same, but something may be on standard output.
+cuts() {
+    local wanted=$1 text=$2
+    shift 2
+    ends "$wanted" empty.json "$@" && says told "ovl_layers: $text"$'\n' "$@"
+}
+
 # By the words after STATUS and TEXT: this status and text on standard output, nothing on standard error.
 prints() {
     local wanted=$1 text
@@ -311,6 +318,7 @@ prints 0 'faults 0 notes 0\n' fsck --blobs blobs k.json
 prints 0 'faults 0 notes 0\n' fsck --blobs blobs/ --workers 1 root.json k.json
 prints 1 'fault blob-digest 0 /k\nfaults 1 notes 0\n' fsck --blobs wrong k.json
 prints 1 'fault blob-missing 1 /k\nfaults 1 notes 0\n' fsck --blobs none root.json k.json
+prints 1 'fault blob-digest 1 /k\nfaults 1 notes 0\n' fsck --blobs wrong --data-layers 1 root.json k.json
 prints 1 'fault blob-size 0 /k\nfault blob-digest 0 /k\nfaults 2 notes 0\n' fsck --blobs short k.json
 prints 1 'fault blob-size 0 /k\nfault blob-digest 0 /k\nfaults 2 notes 0\n' fsck --blobs hollow k.json
 prints 0 'faults 0 notes 0\n' fsck --blobs most root.json
@@ -662,12 +670,25 @@ gives new k.json
 sed 's/"mtime-nsec":0,//g; s/"overlay-layer":2/"overlay-layer":1/' k.json > first.json
 prints 0 'removed 0 kept 2\n' vacuum --blobs blobs --out new first.json root.json
 gives new k.json
+# (What goes from directories of one name has the path of its own.)
+for top in a b; do
+    at dir "/$top" "$plain"
+    at dir "/$top/x" "$plain"
+    at fifo "/$top/x/f" "$plain"
+done | layer > alike.json
+sed 's/"dir","mode":493/"dir","mode":448/g' alike.json > alike.lower.json
+prints 0 'removed /a/x/f\nremoved /b/x/f\nremoved 2 kept 5\n' vacuum --blobs none --out new alike.json alike.lower.json
 rm -f new/layer-0.json
 refuses 5 'result over the limits' deref --blobs none --out new moved.json deeper.json
 prints 1 'fault blob-missing 1 /k\nfaults 1 notes 0\n' deref --blobs none --out new meta.json k.json
 gives new
 prints 0 'leaf /k\nentries 2\n' deref --blobs blobs --out new meta.json k.json
 gives new k.json
+# (An attribute of its own may be empty, as that of a metacopy file is.)
+sed 's/"trusted.overlay.metacopy":""/"a":"",&,"user.k":""/' meta.json > tagged.json
+sed 's/"path":"\/k",\(.*\)"xattrs":{}/"path":"\/k",\1"xattrs":{"a":"","user.k":""}/' k.json > tagged.k.json
+prints 0 'leaf /k\nentries 2\n' deref --blobs blobs --out new tagged.json k.json
+gives new tagged.k.json
 rewritten=(--blobs none --out new)
 closes 'whiteout /x\nentries 67\n' deref "${rewritten[@]}" moved.json half.json
 closes 'whiteout /x\nentries 130\n' deref "${rewritten[@]}" moved.json deep.json
@@ -722,6 +743,12 @@ for left in 2 127; do
     refuses 3 'no lower layer' merge --down-to "$left" --blobs blobs --out missing meta.json k.json
 done
 refuses 3 'no lower layer' merge --down-to 1 --data-layers 1 --blobs blobs --out missing meta.json k.json
+# (Manifests come before the folder, and with --any-size it comes after all else that refuses them.)
+refuses 3 'cannot read missing.json' merge --down-to 1 --blobs missing --out new missing.json k.json
+refuses 3 'cannot read missing' merge --down-to 1 --blobs missing --out new shape.json k.json
+refuses 3 'layer 0: wrong shape' merge --any-size --down-to 1 --blobs missing --out new shape.json k.json
+refuses 3 'no lower layer' merge --any-size --down-to 2 --blobs missing --out new meta.json k.json
+refuses 3 'cannot read missing' merge --any-size --down-to 1 --blobs missing --out new meta.json k.json
 for left in 0 128 two ''; do
     ends 2 printed merge --down-to "$left" --blobs blobs --out missing meta.json k.json && same=$((same + 1))
 done
@@ -851,6 +878,10 @@ for way in without_output without_room into_a_broken_pipe; do
         over=$way refuses 4 'cannot write standard output' $words
     done
 done
+# (Or after the first thousand bytes.)
+most=1000
+each write /dev/stdout '5 28' cuts 4 'cannot write standard output' --help
+most=
 for way in without_errors without_room_for_errors; do
     over=$way ends 3 told show missing.json && same=$((same + 1))
 done

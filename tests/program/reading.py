@@ -9,7 +9,7 @@ a value is made: the report must be the same, with at least five times the reque
 that might be left to the other way, up to the second layer, which is none.
 
 Then come the requests of commands that make a layer and of lines, the bytes that are held at once, threads that start
-others, reads and opens of files, idle workers that yield their processor, and peaks of memory.
+others, reads, writes and opens of files, idle workers that yield their processor, and peaks of memory.
 
     python3 tests/program/reading.py --program crates/ovl_layers/out/ovl_layers
 """
@@ -293,6 +293,13 @@ def of_reads(bench: Bench) -> Iterator[Count]:
         yield at_most(f"reads of 400 KB of {what}", bench.met("read", words, path=path)[1], size // part + 3)
 
 
+def of_writes(bench: Bench) -> Iterator[Count]:
+    layer, blobs, out = bench.write("lines", files("/d", 10_000)), str(bench.folder("none")), str(bench.folder("out"))
+    for what, words, path in (("a report", ["show", layer], "/dev/stdout"),
+                              ("a new layer", ["flatten", "--blobs", blobs, "--out", out, layer], "layer-0.json")):
+        yield at_most(f"writes of 400 KB of {what}", bench.met("write", words, path=path)[1], 2)
+
+
 def of_opens(bench: Bench) -> Iterator[Count]:
     """Of many blobs whose names end alike the first that is opened can't be."""
     blobs = bench.folder("many")
@@ -317,8 +324,8 @@ def of_yields(bench: Bench) -> Iterator[Count]:
 
 
 PARTS: tuple[Callable[[Bench], Iterator[Count]], ...] = (
-    of_peaks, of_forms, of_manifests, of_commands, of_held, of_rooms, of_repeats, of_ends, of_lines, of_starters, of_reads, of_opens,
-    of_yields)
+    of_peaks, of_forms, of_manifests, of_commands, of_held, of_rooms, of_repeats, of_ends, of_lines, of_starters, of_reads,
+    of_writes, of_opens, of_yields)
 
 
 def main() -> None:

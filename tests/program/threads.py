@@ -2,9 +2,9 @@
 """Counts the threads that PROGRAM starts, of which no contract says how many share a thing, and what the first of them does.
 
 Python 3.11, standard library, and `rt`, whose compiler builds refuse.c. Forty layers with forty contents, and a layer whose
-report has many lines, are given to each command by 2, 4 and 12 workers. So a command is found in which one thread reads all
-manifests or contents or writes all lines, one that starts a thread for each of them, and one of too few workers. Of many
-contents in parts no one thread reads most.
+report has many lines, are given to each command by 2, 4 and 12 workers, and the layers to `show` by 40. So a command is found
+in which one thread reads all manifests or contents or writes all lines, one that starts a thread for each of them, and one of
+too few workers. Of many contents in parts no one thread reads most.
 
     python3 tests/program/threads.py --program crates/ovl_layers/out/ovl_layers
 """
@@ -58,6 +58,7 @@ class Crew:
 def crews() -> Iterator[Crew]:
     for stack, (_, commands) in STARTS.items():
         yield from (Crew(command, stack, workers) for command in commands for workers in (2, 4, 12))
+    yield Crew("show", "forty_layers", 40)
 
 
 def counted(program: str, library: str, crew: Crew) -> str | None:
