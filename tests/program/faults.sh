@@ -511,6 +511,10 @@ for how in fsck 'fsck --any-size'; do
     over='failing open ff 1 5' REFUSE_ON=1 REFUSE_WAIT=50 refuses 3 "cannot read eight/${name/#7/0}" $how --workers 8 --blobs eight eight.json
 done
 rm eight/*
+# (So is the first of layers, which are there.)
+for workers in 1 2 64; do
+    over='failing open .json 1 5' REFUSE_ON=1 refuses 3 'cannot read root.json' show --workers "$workers" root.json k.json meta.json
+done
 # (A path of almost 4,000 bytes is reported whole.)
 far_folder=$(printf './%.0s' {1..1900})blobs
 for how in fsck 'fsck --any-size'; do
