@@ -229,7 +229,8 @@ def _spoilt(pick: random.Random, data: bytes) -> bytes:
     for _ in range(pick.randrange(1, 3)):
         if len(entries) > 1:
             one, other = sorted(pick.sample(range(len(entries)), 2))
-            entries[one:other + 1] = pick.choice(([], entries[one:other + 1] * 2, entries[one:other + 1][::-1], entries[one:one + 1]))
+            some = entries[one:other + 1]
+            entries[one:other + 1] = pick.choice((some[:0], some * 2, some[::-1], some[:1]))
     return b",{".join([begin, *entries, *last])
 
 
