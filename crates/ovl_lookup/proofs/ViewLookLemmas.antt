@@ -8,10 +8,8 @@ use Rattle.std.proofs.lemmas.Option.{slice_get_read, get_or_from_slice_get, slic
 use Rattle.ovl_names.specs.Paths.{PathNames}
 use Rattle.ovl_inode.specs.declared.inodes.Inode.{Inode}
 use Rattle.ovl_inode.specs.declared.marks.Mark.{Mark}
-use Rattle.ovl_inode.specs.declared.marks.Mark.TheVariants.{Whiteout, DirOpaque, DirMoved, DirBad, DirPlain, Meta, MetaBad, Leaf}
-use Rattle.ovl_inode.specs.declared.marks.Redirect.TheVariants.{To, Beside}
 use Rattle.ovl_inode.specs.Inodes.{visible}
-use Rattle.ovl_inode.specs.Marks.{mark_of, is_whiteout, is_data, is_metacopy, is_metacopy_mark, is_regular, has_metacopy}
+use Rattle.ovl_inode.specs.Marks.{mark_of, is_whiteout, is_metacopy, is_regular, has_metacopy}
 use Rattle.ovl_layer.specs.Layers.{Entries, entry_at, names_below}
 use Rattle.ovl_layer.specs.Sheets.{path_at}
 use Rattle.ovl_layer.specs.RowsBelow.{NamedRow, LiesBelow}
@@ -21,16 +19,13 @@ use Rattle.ovl_lookup.specs.declared.tops.Top.{Top}
 use Rattle.ovl_lookup.specs.declared.views.DirPlace.{DirPlace}
 use Rattle.ovl_lookup.specs.Stacks.{StackView}
 use Rattle.ovl_lookup.specs.Trace.{things_found}
-use Rattle.ovl_lookup.specs.Merged.{data_of, shown_of, is_nothing, without_blob, place_of_data}
+use Rattle.ovl_lookup.specs.Merged.{data_of, shown_of, is_nothing, without_blob}
 use Rattle.ovl_lookup.specs.Passes.{data_below, shown_with}
-use Rattle.ovl_lookup.specs.ShownKinds.{shown_kind_of, shown_kind_of_kind}
 use Rattle.ovl_lookup.specs.Views.{ReachedDirectory, entry_in, below_entry, found_below}
 use Rattle.ovl_lookup.specs.ViewPasses.{First, AreTops, top_told, tops_told, look_from_top, looks_from_tops}
-use Rattle.ovl_lookup.specs.NextLookups.{path_on}
 use Rattle.ovl_lookup.specs.DirViews.{place_in, places_in}
 use Rattle.ovl_lookup.proofs.LawsOfInodes.{bare_file}
-use Rattle.ovl_lookup.proofs.LawsOfFound.{data_of-metacopy, data_of-bad, data_below-metacopy, data_below-data, data_below-other, shown_of-full, any_found, shown-any}
-use Rattle.ovl_lookup.proofs.ShownKindLemmas.{shown_kind-first}
+use Rattle.ovl_lookup.proofs.LawsOfFound.{data_of-metacopy, data_of-bad, data_below-metacopy, data_below-other, shown_of-full, any_found, shown-any}
 use Rattle.ovl_lookup.proofs.WalkFacts.{take-rest}
 use Rattle.ovl_lookup.proofs.ViewSteps.{found-whiteout, found-entry, looks-next}
 use Rattle.ovl_lookup.specs.NamedLists.{names_of}

@@ -36,9 +36,9 @@ IsSearchOver stack (Rows places name) = All (IsPlaceOver stack) places.now
 IsSearchOver stack _ = ⊤
 
 -- the first thing found has its mark, and those below it are sought in the stack
-abbrev pub IsOver : StackView → Option Hit → Type 0
-IsOver stack None = ⊤
-IsOver stack (Some hit) =
+abbrev pub IsHitOver : StackView → Option Hit → Type 0
+IsHitOver stack None = ⊤
+IsHitOver stack (Some hit) =
     (hit.found.mark.now ≡ mark_of hit.found.inode.now) × IsSearchOver stack hit.below
 
 -- the first of the things found that is no metacopy file, and where data-only layers have the data

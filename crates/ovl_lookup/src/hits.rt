@@ -8,7 +8,7 @@ ghost use Rattle.ovl_lookup.specs.Merged as merged;
 ghost use Rattle.ovl_lookup.specs.Passes.{data_below};
 ghost use Rattle.ovl_lookup.specs.Views.{below_entry, found_below};
 ghost use Rattle.ovl_lookup.specs.DirViews.{IsPlaceOver, places_in};
-ghost use Rattle.ovl_lookup.specs.Hits.{IsOver, IsSearchOver, found_by, found_of, found_on, past_metacopies};
+ghost use Rattle.ovl_lookup.specs.Hits.{IsHitOver, IsSearchOver, found_by, found_of, found_on, past_metacopies};
 ghost use Rattle.ovl_lookup.specs.Hits as hits;
 
 use crate::steps::{Found, RopeStep, follow};
@@ -76,7 +76,7 @@ impl<'v, 'a> Search<'v, 'a> {
         requires { IsSearchOver stack.now self }
         ensures found { IfOk result
             (λ first. found_of stack.now first ≡ found_by stack.now self.entry) }
-        ensures over { IfOk result (IsOver stack.now) }
+        ensures over { IfOk result (IsHitOver stack.now) }
     {
         let (from, path) = match self {
             Search::Walks(from, path) => (from, path),
@@ -99,7 +99,7 @@ pub(crate) fn first_on<'v, 'a>(
     ensures found { IfOk result
         (λ first. found_of stack.now first
         ≡ things_found (drop from stack.now.layers) path.entry) }
-    ensures over { IfOk result (IsOver stack.now) }
+    ensures over { IfOk result (IsHitOver stack.now) }
 {
     let mut path = path;
     for i in from..stack.ordinary() {
@@ -129,7 +129,7 @@ pub(crate) fn first_in<'v, 'a>(
     requires { All (IsPlaceOver stack.now) places.now }
     ensures found { found_of stack.now result
         ≡ found_below stack.now.layers name.now (places_in stack.now places.now) }
-    ensures over { IsOver stack.now result }
+    ensures over { IsHitOver stack.now result }
 {
     let _ = &stack.layers;
     for i in 0..places.len() {
@@ -159,7 +159,7 @@ pub(crate) fn past_metacopies<'a>(
     first: Option<Hit<'_, 'a>>,
     place_told: Option<&'a Path>,
 ) -> Result<(Option<&'a Inode>, Option<&'a Path>), AllocError>
-    requires { IsOver stack.now first }
+    requires { IsHitOver stack.now first }
     ensures { IfOk result
         (λ past. (option_map (λ inode. inode.now) past.0, option_map (λ told. told.now) past.1)
         ≡ hits.past_metacopies (option_map (λ told. told.now) place_told.entry)
@@ -185,7 +185,7 @@ pub(crate) fn data_of<'a>(
     first: Option<Hit<'_, 'a>>,
     place_told: Option<&'a Path>,
 ) -> Result<Option<&'a Inode>, AllocError>
-    requires { IsOver stack.now first }
+    requires { IsHitOver stack.now first }
     ensures { IfOk result (λ found. option_map (λ inode. inode.now) found
         ≡ data_below stack.now.data_only (option_map (λ told. told.now) place_told.entry)
         (found_of stack.now first.entry)) }

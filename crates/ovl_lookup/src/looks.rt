@@ -7,7 +7,7 @@ ghost use Rattle.ovl_lookup.specs.Merged.{shown_of, is_nothing, is_shown_directo
 ghost use Rattle.ovl_lookup.specs.Merged as merged;
 ghost use Rattle.ovl_lookup.specs.ShownInodes.{inode_shown};
 ghost use Rattle.ovl_lookup.specs.Passes.{shown_with};
-ghost use Rattle.ovl_lookup.specs.Hits.{IsOver, found_of};
+ghost use Rattle.ovl_lookup.specs.Hits.{IsHitOver, found_of};
 ghost use Rattle.ovl_lookup.specs.Equal.{look_eq};
 ghost use Rattle.ovl_lookup.specs.Sound as sound;
 ghost use Rattle.ovl_lookup.specs.EqualLaws.{look_eq_equiv};
@@ -83,7 +83,7 @@ pub(crate) fn look_of<'a>(
     stack: &'a Stack,
     first: Option<Hit<'_, 'a>>,
 ) -> Result<Look, AllocError>
-    requires { IsOver stack.now first }
+    requires { IsHitOver stack.now first }
     ensures { IfOk result
         (λ look. look ≡ shown_of stack.now.data_only (found_of stack.now first.entry)) }
 {

@@ -3,11 +3,11 @@ use Rattle.std.specs.Option.{option_map}
 use Rattle.ovl_names.specs.Paths.{PathNames}
 use Rattle.ovl_inode.specs.declared.inodes.Inode.{Inode}
 use Rattle.ovl_inode.specs.declared.marks.Mark.{Mark}
-use Rattle.ovl_inode.specs.Marks.{mark_of, is_metacopy, is_metacopy_mark}
+use Rattle.ovl_inode.specs.Marks.{is_metacopy, is_metacopy_mark}
 use Rattle.ovl_lookup.specs.declared.hits.Hit.{Hit}
 use Rattle.ovl_lookup.specs.Stacks.{StackView}
 use Rattle.ovl_lookup.specs.Merged.{place_of_data}
-use Rattle.ovl_lookup.specs.Hits.{IsOver, found_by, found_of, past_metacopies}
+use Rattle.ovl_lookup.specs.Hits.{IsHitOver, found_by, found_of, past_metacopies}
 use Rattle.ovl_lookup.proofs.FoundLemmas.{past-metacopy, past-other}
 use Rattle.ovl_lookup.proofs.hits.past_metacopies.Goals as goal
 
@@ -16,7 +16,7 @@ returns-then-not-is_well_formed_metacopy c =
     let stack : StackView = c.args.stack.now in
     let hit : Hit = c.in-Some.field-0 in
     let told : Option PathNames = option_map (λ told. told.now) c.loop-next.told in
-    let over : IsOver stack (Some hit) = subst (IsOver stack) c.in-Some.is c.loop-next.invariant.over in
+    let over : IsHitOver stack (Some hit) = subst (IsHitOver stack) c.in-Some.is c.loop-next.invariant.over in
     let meta : is_metacopy hit.found.inode.now ≡ false = sym (ap is_metacopy_mark over.0) ∙ (sym c.is_well_formed_metacopy.ensures ∙ c.if-not-is_well_formed_metacopy.true) in
     sym (past-other told hit.found.inode.now (found_by stack hit.below) meta)
     ∙ (sym (ap (λ (next : Option Hit). past_metacopies told (found_of stack next)) c.in-Some.is) ∙ c.loop-next.invariant.found)
@@ -26,7 +26,7 @@ loop-next-preserved c =
     let stack : StackView = c.args.stack.now in
     let hit : Hit = c.in-Some.field-0 in
     let told : Option PathNames = option_map (λ told. told.now) c.loop-next.told in
-    let over : IsOver stack (Some hit) = subst (IsOver stack) c.in-Some.is c.loop-next.invariant.over in
+    let over : IsHitOver stack (Some hit) = subst (IsHitOver stack) c.in-Some.is c.loop-next.invariant.over in
     let meta : is_metacopy hit.found.inode.now ≡ true = sym (ap is_metacopy_mark over.0) ∙ (sym c.is_well_formed_metacopy.ensures ∙ c.if-not-is_well_formed_metacopy.false) in
     record {
       found =

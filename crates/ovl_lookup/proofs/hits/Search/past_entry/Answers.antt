@@ -1,8 +1,4 @@
-use Rattle.std.proofs.Common.{List, drop, sym}
-use Rattle.ovl_names.specs.Names.{PathName}
-use Rattle.ovl_names.specs.Paths.{PathNames}
-use Rattle.ovl_inode.specs.declared.inodes.Inode.{Inode}
-use Rattle.ovl_lookup.specs.Stacks.{StackView}
+use Rattle.std.proofs.Common.{drop, sym}
 use Rattle.ovl_lookup.specs.Trace.{things_found}
 use Rattle.ovl_lookup.specs.Views.{found_below}
 use Rattle.ovl_lookup.specs.DirViews.{places_in}
