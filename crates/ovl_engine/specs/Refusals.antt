@@ -16,6 +16,7 @@ use Rattle.ovl_merge.specs.declared.faults.MergeFault.{MergeFault}
 use Rattle.ovl_merge.specs.declared.faults.MergeFault.TheVariants.{NoLower as MergeLower, LimitOut as MergeLimit, Memory as MergeMemory}
 use Rattle.ovl_engine.specs.declared.faults.EngineFault.{EngineFault}
 use Rattle.ovl_engine.specs.declared.faults.EngineFault.TheVariants.{Workers, Layers, Layer, BlobOrder, BlobSize, NoLower, Faulty, LimitOut, Run, Memory, DataLayers}
+use Rattle.ovl_commands.specs.declared.requests.Command.{Command}
 use Rattle.ovl_commands.specs.Commands.{wants_lower}
 use Rattle.ovl_engine.specs.Requests.{Request}
 
@@ -64,10 +65,16 @@ input_refusal request =
 abbrev pub ordinary_layers : Request → ℕ
 ordinary_layers request = length request.manifests - request.bottom
 
--- the fault of fewer than two such layers, where a command wants one under the topmost
+-- there are fewer such layers than a command wants: one under the topmost, where it wants that; or
+-- where merges are to leave some, one more than these, and these aren't none
+abbrev pub lacks_layers : Command → Option ℕ → ℕ → Bool
+lacks_layers what None layers = wants_lower what && nat_lt layers 2
+lacks_layers what (Some left) layers = left == 0 || nat_le layers left
+
+-- the fault of these
 abbrev pub lower_refusal : Request → Option EngineFault
 lower_refusal request =
-    if wants_lower request.what && nat_lt (ordinary_layers request) 2 then Some NoLower else None
+    if lacks_layers request.what request.left (ordinary_layers request) then Some NoLower else None
 
 -- what a request is refused for: the first of seven that holds
 abbrev pub first_refusal : Request → Option EngineFault

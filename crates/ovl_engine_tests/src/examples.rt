@@ -2,7 +2,9 @@
 //! in other files of tests, and the tests say what comes of them.
 
 use crate::samples::{manifest_of, manifests_of};
-use ovl_engine::{Answer, Command, EngineFault, command, merge_down, named_blobs};
+use ovl_engine::{
+    Answer, Command, EngineFault, Task, answer, command, digest_blobs, named_blobs, prepare,
+};
 use ovl_inode::{Inode, Mark, Redirect, mark_of};
 use ovl_layer::Sheet;
 use ovl_lookup::{Look, Stack, walk};
@@ -170,8 +172,10 @@ fn merged_down<R: Threads + Wait + Sync>(
     contents: &[Vec<u8>],
 ) -> Result<Answer, EngineFault> {
     let blobs = named_blobs(alloc, contents)?;
-    let left = 2;
-    merge_down(rt, alloc, manifests, 0, &blobs, left, 4, &OpenGate)
+    let task = Task::MergeDown(2);
+    let prepared = prepare(rt, alloc, task, manifests, 0, &blobs, 4)?;
+    let known = digest_blobs(rt, alloc, &prepared, &blobs, 4, &OpenGate)?;
+    answer(rt, alloc, prepared, known, 4, &OpenGate)
 }
 
 // The contents of one file, `a`.

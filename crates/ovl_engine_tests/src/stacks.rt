@@ -2,7 +2,7 @@
 
 use crate::commands::command_of_word;
 use crate::samples::{blobs_of, manifest_of, manifests_of};
-use ovl_engine::{Answer, EngineFault, command, merge_down};
+use ovl_engine::{Answer, EngineFault, Task, answer, command, digest_blobs, prepare};
 use ovl_pool::OpenGate;
 use ovl_test_rows::same;
 use std::alloc::{AllocError, Global};
@@ -336,6 +336,21 @@ fn fault_text(alloc: Global, fault: EngineFault) -> Result<String, Fail> {
     }
 }
 
+// What a task gives, part by part.
+fn done<R: Threads + Wait + Sync>(
+    rt: &R,
+    alloc: Global,
+    task: Task,
+    manifests: Vec<Vec<u8>>,
+    bottom: u16,
+    blobs: &[Blob],
+    workers: usize,
+) -> Result<Answer, EngineFault> {
+    let prepared = prepare(rt, alloc, task, manifests, bottom, blobs, workers)?;
+    let known = digest_blobs(rt, alloc, &prepared, blobs, workers, &OpenGate)?;
+    answer(rt, alloc, prepared, known, workers, &OpenGate)
+}
+
 // The same of what a command answers.
 fn answered<R: Threads + Wait + Sync>(
     rt: &R,
@@ -353,10 +368,8 @@ fn answered<R: Threads + Wait + Sync>(
             rt, alloc, what, manifests, bottom, &blobs, workers, &OpenGate,
         )
     } else {
-        let left = left.parse()?;
-        merge_down(
-            rt, alloc, manifests, bottom, &blobs, left, workers, &OpenGate,
-        )
+        let task = Task::MergeDown(left.parse()?);
+        done(rt, alloc, task, manifests, bottom, &blobs, workers)
     };
     match ended {
         Ok(answer) => answer_text(answer),

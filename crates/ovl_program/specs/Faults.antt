@@ -1,5 +1,5 @@
 -- The faults of the program, and the exit status of each.
-use Rattle.std.specs.Prelude.{⊤, ℕ}
+use Rattle.std.specs.Prelude.{⊤, ℕ, List, string_bytes}
 use Rattle.ovl_engine.specs.declared.faults.EngineFault.{EngineFault}
 use Rattle.ovl_engine.specs.declared.faults.EngineFault.TheVariants.{Workers, Layers, Layer, BlobOrder, BlobSize, NoLower, Faulty, LimitOut, Run, Memory, DataLayers}
 use Rattle.ovl_files.specs.declared.faults.FileFault.{FileFault}
@@ -33,6 +33,16 @@ IsMemory (Faulty report) = ⊥
 IsMemory LimitOut = ⊥
 IsMemory (Run fault) = ⊥
 IsMemory DataLayers = ⊥
+
+-- a file or folder isn't read, of which this holds of the path; out of memory may come at any time
+abbrev pub IsUnreadFile : (List ℕ → Type 0) → ProgramFault → Type 0
+IsUnreadFile P (Unread path) = P (string_bytes path)
+IsUnreadFile P (Engine fault) = IsMemory fault
+IsUnreadFile P (Usage text) = ⊥
+IsUnreadFile P Words = ⊥
+IsUnreadFile P Input = ⊥
+IsUnreadFile P (Unwritten path) = ⊥
+IsUnreadFile P Output = ⊥
 
 -- 1 where they have faults, 3 where they aren't taken, 5 for what isn't the input's fault
 abbrev pub engine_status : EngineFault → ℕ

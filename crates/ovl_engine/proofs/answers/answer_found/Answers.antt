@@ -1,7 +1,7 @@
 use Rattle.std.proofs.Common.{sym, subst}
 use Rattle.ovl_commands.specs.declared.requests.Command.{Command}
 use Rattle.ovl_engine.specs.Outcomes.{IsRun, MayRefuseOwn}
-use Rattle.ovl_engine.proofs.commands.answer.Goals as goal
+use Rattle.ovl_engine.proofs.answers.answer_found.Goals as goal
 
 pub returns-in-Show-clause-outcome : goal.returns-in-Show-clause-outcome
 returns-in-Show-clause-outcome g c all same =

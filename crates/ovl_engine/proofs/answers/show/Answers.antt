@@ -2,7 +2,7 @@ use Rattle.std.proofs.lemmas.Result.{err_from_is_err_and}
 use Rattle.ovl_commands.specs.declared.requests.Command.TheVariants.{Show}
 use Rattle.ovl_engine.specs.Outcomes.{MayRefuseOwn}
 use Rattle.ovl_engine.proofs.OutcomeLemmas.{unwalked}
-use Rattle.ovl_engine.proofs.commands.show.Goals as goal
+use Rattle.ovl_engine.proofs.answers.show.Goals as goal
 
 pub returns-in_err-parcels : goal.returns-in_err-parcels
 returns-in_err-parcels g c =

@@ -1,6 +1,6 @@
 use Rattle.std.proofs.lemmas.Result.{IfErr-weaker}
 use Rattle.ovl_program.proofs.Performed.{unread_of_blobs}
-use Rattle.ovl_program.proofs.runs.command.blobs_of_line.Goals as goal
+use Rattle.ovl_program.proofs.runs.command.held_blobs.Goals as goal
 
 pub returns-in-Some-clause-fault : goal.returns-in-Some-clause-fault
 returns-in-Some-clause-fault g c =
