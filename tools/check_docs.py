@@ -36,7 +36,7 @@ MADE = (
     r"|\bout_of_memory (?:=|: true)|\.fail\(\)"
     r"|\bReadFault::(?:Device|TooLong)\b|\bProgramFault::(?:Input|Unread|Unwritten|Output)\b|\bErr\(\w*PartFault::"
 )
-TESTS = {"ovl_test_rows", "ovl_pool_tests", "ovl_engine_tests", "ovl_program_tests", "ovl_refusal_tests"}
+TESTS = {"ovl_test_rows", "ovl_tests", "ovl_refusal_tests"}
 
 
 def crates():
@@ -354,7 +354,7 @@ def blocks():
 def worked_stacks():
     """Whether the test of the worked stacks has the lines of stacks.txt."""
     lines = [line for line in (TOP / "examples/stacks.txt").read_text(encoding="utf-8").splitlines() if not line.startswith("#")]
-    test = TOP / "crates/ovl_engine_tests/src/stacks.rt"
+    test = TOP / "crates/ovl_tests/src/stacks.rt"
     if f'r#"\n{chr(10).join(lines).strip()}\n"#' not in test.read_text(encoding="utf-8"):
         yield f"{test.relative_to(TOP)} hasn't the lines of examples/stacks.txt: copy them"
 

@@ -1,4 +1,4 @@
-use Rattle.ovl_pool_tests.proofs.pool.deliver_all.Given as goal
+use Rattle.ovl_tests.proofs.pool.deliver_all.Given as goal
 
 abbrev pub ghosts-deliver_by-K-Ledger : goal.ghosts-deliver_by-K-Ledger
 ghosts-deliver_by-K-Ledger a = record { name = a.kids.name; parts = a.kids.parts }

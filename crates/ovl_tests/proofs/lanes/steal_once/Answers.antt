@@ -1,6 +1,6 @@
 use Rattle.std.proofs.Common.{rules, sym, ◌∙◌, subst}
 use Rattle.ovl_lanes.specs.Lanes.{IsPass}
-use Rattle.ovl_pool_tests.proofs.lanes.steal_once.Goals as goal
+use Rattle.ovl_tests.proofs.lanes.steal_once.Goals as goal
 
 pub steal-piece-requires : goal.steal-piece-requires
 steal-piece-requires c =

@@ -1,6 +1,6 @@
 use Rattle.std.proofs.Common.{◌≡◌}
 use Rattle.ovl_lanes.specs.Lanes.{account_of, IsSameLane}
-use Rattle.ovl_pool_tests.proofs.thieves.pushing.Given as goal
+use Rattle.ovl_tests.proofs.thieves.pushing.Given as goal
 
 abbrev pub invariant-loop-space : goal.invariant-loop-space
 invariant-loop-space l = record {
