@@ -228,7 +228,9 @@ def _found_in(text: bytes, at: int, begin: int) -> _Found:
     match = WRITTEN_ENTRY.match(text, at)
     if match is None:
         raise NotCut
+    quoted = match[1]
     try:
-        return _Found(rules.path_key(json.loads(match[1])), match[0], begin + at)
+        path = json.loads(quoted) if b"\\" in quoted else quoted[1:-1].decode()
     except ValueError:
         raise NotCut from None
+    return _Found(rules.path_key(path), match[0], begin + at)

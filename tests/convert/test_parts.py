@@ -149,26 +149,44 @@ class OtherTexts(ProgramTest):
 
     def test_other_forms(self) -> None:
         root = Entry("/", DIRECTORY, 0o755)
-        lower = [root, Entry("/a", DIRECTORY, 0o755), Entry("/a/f", FILE, 0o644), Entry("/b", DIRECTORY, 0o755), Entry("/b/g", FILE, 0o644)]
+        lower = [root, *(Entry(path, DIRECTORY, 0o755) for path in ("/a", "/a/f", "/b", "/b/g", "/y", "/y/k"))]
         upper = [root, Entry("/a", DIRECTORY, 0o755, attributes={OPAQUE: b"y"}), Entry("/a/h", FILE, 0o644), Entry("/c", FILE, 0o644)]
         text = "".join(written(named(upper)))
-        first, second, third, fourth = (text.split(",{")[number] for number in range(4))
-        fake = '{"gid":0,"kind":"dir","mode":493,"mtime":0,"mtime-nsec":0,"path":"/a","uid":0,"xattrs":{}}'
-        for number, (old, new) in enumerate((
+        second, third, fourth = text.removesuffix('],"overlay-layer":2}\n').split(",{")[1:]
+        for old, new in (
             ("}}", "}} "), ("\n", ""), ("\n", "\n\n"), (":2}", ":1}"), ('"/a"', '"\\u002fa"'), ('"path":"/a"', '"path": "/a"'),
             ('"path":"/a"', '"path":"/c","path":"/a"'), ('"path":"/a"', '"\\u0070ath":"/a"'), ('"/a/h"', '"/z"'),
             ("opaque", "redirect"), ("trusted.overlay.opaque", "trusted.overlay.redirec\\u0074"), (",{" + second, ""),
-            (",{" + third, ",{" + third + ",{" + third), (f",{{{third},{{{fourth[:-22]}", f",{{{fourth[:-22]},{{{third}"),
-            (",{" + third, '],"entries":[' + first[len('{"entries":['):] + ",{" + third),
-            (",{" + third, '],"overlay-layer":[{' + third), (",{" + second, f',{{"xattrs":[{{}},{fake}],{second}'),
+            (",{" + third, ",{" + third + ",{" + third), (f",{{{third},{{{fourth}", f",{{{fourth},{{{third}"),
             ('"xattrs":{"tr', '"xattrs":{"path":"00"},"xattrs":{"tr'), ('"/a/h"', '"/a\\/h"'), ('"gid":0,', ""), ('"mode":493', '"mode":-0'),
-        )):
+        ):
             with self.subTest(old=old, new=new):
-                self.assertEqual(text.count(old) > 0, True)
-                names = self.write([upper, lower])
-                with open(self.path(names[0]), "w", encoding="utf-8") as file:
-                    file.write(text.replace(old, new, 1))
-                self.require_same_outcome(names)
+                self.require_same_text(text.replace(old, new, 1), text, lower)
+
+    def test_other_lists_inside(self) -> None:
+        """Entries in the value of a member that is there twice aren't the layer's."""
+        root, opaque = Entry("/", DIRECTORY, 0o755), Entry("/a", DIRECTORY, 0o755, attributes={OPAQUE: b"y"})
+        lower = [root, Entry("/a", DIRECTORY, 0o755), *(Entry(f"/a/{name}", FILE, 0o600) for name in "ghijklz")]
+        shown = [Entry(f"/a/{name}", FILE, 0o644) for name in "ghijkl"]
+        text = "".join(written(named([root, Entry("/0", FILE, 0o644), opaque, *shown])))
+        entries = [f"{{{entry}" for entry in text.split(",{")]
+        opened, inner = entries[2], entries[4]  # `/a` and `/a/h`
+        fakes = ",".join("".join(written(named([Entry(path, DIRECTORY, 0o755)])))[12:-21] for path in ("/A", "/a", "/a/0"))
+        doubled = opened.replace('"gid":0,', "").replace('"xattrs":', f'"gid":0,"xattrs":[{{}},{fakes}],"xattrs":')
+        front = "".join(written(named([root])))[:-21]
+        for old, new in (
+            (opened, doubled), (f",{inner}", f'],"overlay-layer":[{inner}'), (f",{inner}", f'],"entries":{front[11:]},{inner}'),
+        ):
+            with self.subTest(new=new):
+                self.require_same_text(text.replace(old, new, 1), text, lower, 1_300)
+
+    def require_same_text(self, text: str, before: str, lower: Sequence[Entry], most: int = 300) -> None:
+        """A text in place of the upper layer's, which differs from what that was before."""
+        self.assertNotEqual(text, before)
+        names = self.write([[lower[0]], lower])
+        with open(self.path(names[0]), "w", encoding="utf-8") as file:
+            file.write(text)
+        self.require_same_outcome(names, most)
 
     def test_spoilt(self) -> None:
         said = set[str]()
@@ -185,10 +203,10 @@ class OtherTexts(ProgramTest):
                 said.add(re.sub(r"\d+", "N", self.require_same_outcome(names)[1].partition("\n")[0]))
         self.assertLessEqual({"", *map("ovl_layers: layer N: {}".format, _FAULTS)}, said)
 
-    def require_same_outcome(self, names: Sequence[str]) -> tuple[bytes, str]:
+    def require_same_outcome(self, names: Sequence[str], most: int = 300) -> tuple[bytes, str]:
         """The same report, or the same fault."""
         whole = self.outcome(lambda: run_program(self.program, words_of("show", names, "", ""), self.folder, _WHOLE, None), _WHOLE)
-        with mock.patch.object(parts, "MOST_BYTES", 300):
+        with mock.patch.object(parts, "MOST_BYTES", most):
             self.assertEqual(self.outcome(lambda: run_show(self.program, names, self.folder, "joined"), "joined"), whole)
         return whole
 
