@@ -11,10 +11,11 @@ use Rattle.ovl_blobs.specs.Contents.{AreTold, contents_ascend, contents_of}
 use Rattle.ovl_commands.specs.Commands.{checks}
 use Rattle.ovl_check.specs.declared.findings.Finding.{Finding}
 use Rattle.ovl_blobs.specs.Blobs.{BlobView}
-use Rattle.ovl_engine.specs.Outcomes.{IsAnswerOf, IsFailedWalk, IsRewritten, MayRefuseBlobs, stack_of}
+use Rattle.ovl_engine.specs.Outcomes.{IsAccepted, IsAnswerOf, IsFailedWalk, IsRewritten, MayRefuseBlobs, stack_of}
 use Rattle.ovl_engine.specs.Prepared.{AreAsked, IsRunOf}
-use Rattle.ovl_engine.proofs.LawsOfOutcomes.{told_blobs}
-use Rattle.ovl_engine.specs.Tasks.{command_of}
+use Rattle.ovl_engine.proofs.LawsOfOutcomes.{outcome_over, told_blobs}
+use Rattle.ovl_engine.specs.Tasks.{command_of, left_of}
+use Rattle.ovl_engine.specs.declared.tasks.Task.{Task}
 use Rattle.ovl_commands.specs.declared.requests.Command.{Command}
 use Rattle.ovl_commands.specs.declared.requests.Command.TheVariants.{Show, Fsck, Vacuum, Deref, Merge, Flatten}
 use Rattle.ovl_engine.specs.Requests.{Request}
@@ -202,3 +203,16 @@ held_contents command from is stack held contents same some ascend = record {
   held = some;
   ascend = ascend;
 }
+
+-- ---- what comes of a line's task
+
+pub answered_for : (line : Line) (request : Request) (task : Task) (stack : StackView) (contents : List Content) (result : Result Answer EngineFault)
+    → request.what ≡ command_of task → request.left ≡ left_of task → IsAccepted request → stack ≡ stack_of request
+    → (known : AreContentsFor (command_of task) (IsKnownIn (folder_in_parts line) stack request.blobs) contents)
+    → ((blobs : List BlobView) → (checks (command_of task) ≡ true → contents_of blobs ≡ contents) → IsRunOf (command_of task) (left_of task) stack blobs refuses_nothing result)
+    → IsComingFor line request result
+answered_for line request task stack contents result what left accepted same known run =
+    outcome_over request (IsKnownIn (folder_in_parts line) (stack_of request) request.blobs) refuses_nothing stack known.blobs result accepted same
+    (λ checking. subst (λ (s : StackView). IsKnownIn (folder_in_parts line) s request.blobs known.blobs) same (known.there (subst (λ (one : Command). checks one ≡ true) what checking)))
+    (subst (λ (one : Command). IsRunOf one request.left stack known.blobs refuses_nothing result) (sym what)
+    (subst (λ (one : Option ℕ). IsRunOf (command_of task) one stack known.blobs refuses_nothing result) (sym left) (run known.blobs known.same)))
