@@ -2,7 +2,7 @@
 
 use crate::commands::command_of_word;
 use crate::samples::{blobs_of, manifest_of, manifests_of};
-use ovl_engine::{Answer, EngineFault, Task, answer, command, digest_blobs, prepare};
+use ovl_engine::{Answer, Blob, EngineFault, Task, answer, command, digest_blobs, prepare};
 use ovl_pool::OpenGate;
 use ovl_test_rows::same;
 use std::alloc::{AllocError, Global};
