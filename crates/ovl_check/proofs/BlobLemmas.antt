@@ -12,8 +12,8 @@ use Rattle.std.proofs.Math.Bool.{or-true}
 use Rattle.ovl_names.specs.Names.{PathName, name_eq, name_cmp}
 use Rattle.ovl_names.specs.Paths.{PathNames, is_root}
 use Rattle.ovl_names.specs.Order.{ascends}
-use Rattle.ovl_lookup.specs.Passes.{put_names}
-use Rattle.ovl_lookup.proofs.LawsOfKids.{ascends-put, put_names-append, any-put}
+use Rattle.ovl_names.specs.NameSets.{put_names}
+use Rattle.ovl_names.proofs.LawsOfNameSets.{ascends-put, put_names-append, any-put}
 use Rattle.ovl_board.specs.declared.pieces.Piece.{Piece}
 use Rattle.ovl_board.specs.Pieces.{IsBefore, IsOneBelow, AreLawfulKids, HasLawfulKids}
 use Rattle.ovl_names.proofs.Ascending.{both, ascends-filter}

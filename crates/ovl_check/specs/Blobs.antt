@@ -13,7 +13,7 @@ use Rattle.ovl_names.specs.Names.{PathName, name_eq}
 use Rattle.ovl_names.specs.Order.{ascends}
 use Rattle.ovl_names.specs.Paths.{PathNames, is_root}
 use Rattle.ovl_inode.specs.Bytes.{is_digest}
-use Rattle.ovl_lookup.specs.Passes.{put_names}
+use Rattle.ovl_names.specs.NameSets.{put_names}
 use Rattle.ovl_board.specs.declared.pieces.Piece.{Piece}
 use Rattle.ovl_board.specs.Pieces.{space_root, piece_in}
 use Rattle.ovl_check.specs.declared.blobs.Blob.{Blob}

@@ -2,8 +2,8 @@
 use Rattle.std.specs.Prelude.{◌≡◌, ℕ, zero, suc, ◌<◌, ◌≤◌, Bool, true, false, ◌||◌, Option, Some, None, List, [], ◌∷◌, ◌++◌, if◌then◌else◌, is_some, unwrap_or, length, drop, filter, map, IfSome}
 use Rattle.std.specs.Option.{option_map}
 use Rattle.std.specs.List.{flat_map}
-use Rattle.std.specs.BTreeSet.{insert_key}
-use Rattle.ovl_names.specs.Names.{PathName, name_cmp}
+use Rattle.ovl_names.specs.Names.{PathName}
+use Rattle.ovl_names.specs.NameSets.{put_names}
 use Rattle.ovl_names.specs.Paths.{PathNames, child_path}
 use Rattle.ovl_inode.specs.declared.inodes.Inode.{Inode}
 use Rattle.ovl_inode.specs.declared.marks.Mark.{Mark}
@@ -143,11 +143,6 @@ own_names_along [] path = []
 own_names_along (layer ∷ layers) path =
     names_below layer path
     ++ (if (walk layer path).closed then [] else own_names_along layers (walk layer path).next)
-
--- names put among ascending ones
-abbrev pub put_names : List PathName → List PathName → List PathName
-put_names names [] = names
-put_names names (name ∷ more) = put_names (insert_key name_cmp names name) more
 
 -- those of the layers' own names below which something is shown
 abbrev pub kids_along : StackView → PathNames → List PathName

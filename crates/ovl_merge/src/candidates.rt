@@ -3,7 +3,8 @@ ghost use Rattle.std.specs.Prelude.{◌≡◌, ◌<◌, [], Option, length, IfOk
 ghost use Rattle.ovl_names.specs.Paths.{PathNames};
 ghost use Rattle.ovl_layer.specs.Sheets.{path_at};
 ghost use Rattle.ovl_lookup.specs.NamedLists.{AreInOrder, both_joined};
-ghost use Rattle.ovl_lookup.specs.Passes.{own_names_along, put_names};
+ghost use Rattle.ovl_lookup.specs.Passes.{own_names_along};
+ghost use Rattle.ovl_names.specs.NameSets.{put_names};
 ghost use Rattle.ovl_merge.specs.Places.{merge_of, two_layers};
 ghost use Rattle.ovl_merge.specs.Stands.{StandsAt};
 ghost use Rattle.ovl_merge.specs.Reckoned.{IsVisited};
