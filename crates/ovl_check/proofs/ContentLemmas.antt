@@ -8,16 +8,17 @@ use Rattle.ovl_inode.specs.Kinds.{size_of, blob_of}
 use Rattle.ovl_layer.specs.Layers.{Entries, Entry}
 use Rattle.ovl_lookup.specs.Stacks.{StackView}
 use Rattle.ovl_lookup.proofs.LawsOfPaths.{all-first, all-rest}
-use Rattle.ovl_check.specs.declared.contents.Content.{Content}
+use Rattle.ovl_blobs.specs.declared.contents.Content.{Content}
 use Rattle.ovl_check.specs.declared.findings.Code.{Code}
 use Rattle.ovl_check.specs.declared.findings.Code.TheVariants.{BlobMissing, BlobSize, BlobDigest}
 use Rattle.ovl_check.specs.Codes.{all_codes, is_blob_fault}
-use Rattle.ovl_check.specs.Blobs.{BlobView, is_wrong}
-use Rattle.ovl_check.specs.Conditions.{find_blob, has_blob, holds}
+use Rattle.ovl_blobs.specs.Blobs.{BlobView, is_wrong, find_blob}
+use Rattle.ovl_check.specs.Conditions.{has_blob, holds}
 use Rattle.ovl_check.specs.Findings.{finding, any_code, findings_at, findings_in, data_findings_from, findings_from}
-use Rattle.ovl_check.specs.Contents.{content_of, contents_of, find_content, has_content, holds_of_contents, findings_of_contents_at, findings_of_contents_in, data_findings_of_contents_from, findings_of_contents_from, TellsOfNamed, TellsOfLayers}
+use Rattle.ovl_check.specs.Contents.{has_content, holds_of_contents, findings_of_contents_at, findings_of_contents_in, data_findings_of_contents_from, findings_of_contents_from, TellsOfNamed, TellsOfLayers}
+use Rattle.ovl_blobs.specs.Contents.{content_of, contents_of, find_content}
 use Rattle.ovl_check.specs.Laws.{FindingsNeedContents, FindingsNeedNamed}
-use Rattle.ovl_check.proofs.ListFacts.{find-map}
+use Rattle.ovl_blobs.proofs.FindLemmas.{find-content, not-not}
 
 -- ---- lists
 
@@ -32,13 +33,6 @@ flat_map-same f g same [] = refl
 flat_map-same f g same (x ∷ xs) = ap (λ ys. ys ++ flat_map f xs) (same x) ∙ ap (λ ys. g x ++ ys) (flat_map-same f g same xs)
 
 -- ---- the blob of a name
-
-pub not-not : (b : Bool) → not (not b) ≡ b
-not-not true = refl
-not-not false = refl
-
-pub find-content : (name : List ℕ) (blobs : List BlobView) → find_content (contents_of blobs) name ≡ option_map content_of (find_blob blobs name)
-find-content name blobs = find-map content_of (λ (content : Content). bytes_eq content.name name) blobs
 
 none-told : (found : Option BlobView) → is_none found ≡ is_none (option_map content_of found)
 none-told None = refl

@@ -32,8 +32,9 @@ use Rattle.ovl_check.specs.declared.facts.NamedBlob.TheVariants.{Unnamed}
 use Rattle.ovl_check.specs.declared.facts.Facts.{Facts}
 use Rattle.ovl_check.specs.Codes.{all_codes, is_double}
 use Rattle.ovl_check.specs.Findings.{finding}
-use Rattle.ovl_check.specs.declared.contents.Content.{Content}
-use Rattle.ovl_check.specs.Contents.{holds_of_contents as holds, find_content, has_content, content_is_missing, content_is_of_other_size, content_is_wrong}
+use Rattle.ovl_blobs.specs.declared.contents.Content.{Content}
+use Rattle.ovl_check.specs.Contents.{holds_of_contents as holds, has_content, content_is_missing, content_is_of_other_size, content_is_wrong}
+use Rattle.ovl_blobs.specs.Contents.{find_content}
 use Rattle.ovl_check.specs.Checks.{CheckView, sought_in, layer_at, layers_below, holds_alone, findings_alone, findings_at_path}
 use Rattle.ovl_check.specs.Conditions.{is_in_opaque as is_in_opaque_at, is_in_marked, whiteout_is_orphan, whiteout_is_in_opaque, whiteout_is_unmarked, opaque_is_ignored, redirect_is_ignored, metacopy_is_ignored, whiteout_is_ignored}
 use Rattle.ovl_check.specs.Facts.{AreFacts, tells, found_at_child, thing_shown, kind_at, blob_found, blob_named, is_whiteout_mark, is_lost, is_of_wrong_kind, is_open, lacks_data, has_data_of_other_size, is_missing, is_of_other_length, is_wrong, is_orphan, is_in_opaque, is_outside_marked, is_unmarked, mark_says_nothing}

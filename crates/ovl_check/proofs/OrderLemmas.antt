@@ -24,10 +24,10 @@ use Rattle.ovl_check.specs.contracts.findings.CodeOrd.TheImpl.Laws as code_laws
 use Rattle.ovl_check.specs.contracts.findings.FindingPartialEq.TheImpl as finding_partial_eq
 use Rattle.ovl_check.specs.contracts.findings.FindingEq.TheImpl.Laws as finding_eq_laws
 use Rattle.ovl_check.specs.Codes.{all_codes, is_blob_fault}
-use Rattle.ovl_check.specs.declared.contents.Content.{Content}
+use Rattle.ovl_blobs.specs.declared.contents.Content.{Content}
 use Rattle.ovl_check.specs.Findings.{finding, any_code}
 use Rattle.ovl_check.specs.Contents.{holds_of_contents as holds, findings_of_contents_at as findings_at, findings_of_contents_in as findings_in, data_findings_of_contents_from as data_findings_from, findings_of_contents_from as findings_from}
-use Rattle.ovl_check.proofs.Ascent.{Rises-ascends}
+use Rattle.ovl_blobs.proofs.Ascent.{Rises-ascends}
 use Rattle.ovl_check.proofs.DoubleLemmas.{same_path, equal}
 
 abbrev pub finding_cmp : Finding → Finding → Ordering

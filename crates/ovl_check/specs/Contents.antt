@@ -1,60 +1,20 @@
--- What is reported of blobs whose bytes aren't held, and the findings by that.
-use Rattle.std.specs.Prelude.{◌≡◌, ⊤, true, All, Contains, MatchOption, ℕ, ◌+◌, Bool, false, ◌&&◌, ◌==◌, not, Option, Some, None, List, [], ◌∷◌, ◌++◌, length, map, filter, is_none}
-use Rattle.std.specs.List.{find, flat_map}
-use Rattle.std.specs.Option.{option_map}
+-- The findings by what is reported of blobs whose bytes aren't held.
+use Rattle.std.specs.Prelude.{◌≡◌, ⊤, All, MatchOption, ℕ, ◌+◌, Bool, false, ◌&&◌, ◌==◌, not, Option, Some, None, List, [], ◌∷◌, ◌++◌, map, filter, is_none}
+use Rattle.std.specs.List.{flat_map}
 use Rattle.ovl_inode.specs.declared.inodes.Inode.{Inode}
 use Rattle.ovl_inode.specs.Kinds.{size_of, blob_of}
 use Rattle.ovl_layer.specs.Layers.{Entries, Entry}
 use Rattle.ovl_lookup.specs.Stacks.{StackView}
-use Rattle.std.specs.Str.{bytes_eq}
-use Rattle.ovl_check.specs.declared.contents.Content.{Content}
+use Rattle.ovl_blobs.specs.declared.contents.Content.{Content}
 use Rattle.ovl_check.specs.declared.findings.Code.{Code}
 use Rattle.ovl_check.specs.declared.findings.Code.TheVariants.{BlobMissing, BlobSize, BlobDigest}
 use Rattle.ovl_check.specs.declared.findings.Finding.{Finding}
 use Rattle.ovl_check.specs.Codes.{all_codes, is_blob_fault}
-use Rattle.ovl_check.specs.Blobs.{BlobView, is_wrong, digest_cmp}
-use Rattle.std.specs.declared.cmp.Ordering.{Ordering}
-use Rattle.ovl_names.specs.Order.{ascends}
-use Rattle.ovl_check.specs.Conditions.{find_blob, holds}
+use Rattle.ovl_blobs.specs.Contents.{find_content}
+use Rattle.ovl_check.specs.Conditions.{holds}
 use Rattle.ovl_check.specs.Findings.{finding, any_code}
 
--- what is reported of a blob: its name, its length, and whether its bytes have that SHA-256 digest
-abbrev pub content_of : BlobView → Content
-content_of blob = record {
-  name = blob.name;
-  size = length blob.bytes;
-  is_right = not (is_wrong blob);
-}
-
-abbrev pub contents_of : List BlobView → List Content
-contents_of blobs = map content_of blobs
-
--- the names ascend strictly
-abbrev pub content_cmp : Content → Content → Ordering
-content_cmp one other = digest_cmp one.name other.name
-
-abbrev pub contents_ascend : List Content → Bool
-contents_ascend contents = ascends content_cmp contents
-
--- the bytes of a name, among blobs
-abbrev pub bytes_named : List BlobView → List ℕ → Option (List ℕ)
-bytes_named blobs name = option_map (λ blob. blob.bytes) (find_blob blobs name)
-
--- these are the contents of blobs, each under one of these names, ascending, and under each name is
--- what may be there
-pub record AreTold (may_be : List ℕ → Option (List ℕ) → Type 0) (names : List (List ℕ))
-    (told : List Content) : Type 0 where
-  pub blobs : List BlobView
-  pub contents : told ≡ contents_of blobs
-  pub ascend : contents_ascend told ≡ true
-  pub asked : All (λ content. Contains names content.name) told
-  pub each : (name : List ℕ) → Contains names name → may_be name (bytes_named blobs name)
-
 -- ---- the conditions on blobs, by their contents; this profile's own
-
--- the content of a name
-abbrev pub find_content : List Content → List ℕ → Option Content
-find_content contents name = find (λ content. bytes_eq content.name name) contents
 
 -- the inode names a blob of which no content is reported
 abbrev pub content_is_missing : List Content → Inode → Bool

@@ -4,7 +4,8 @@ ghost use Rattle.ovl_check.specs.Facts as facts;
 
 use crate::findings::Code;
 use crate::marks::{attribute_is, is_malformed, is_quiet, mark_is_ignored};
-use ovl_inode::{Inode, Kind, Mark, file_size, is_directory, overlay};
+use ovl_blobs::KnownBlobs;
+use ovl_inode::{Inode, Kind, Mark, blob_of, file_size, is_directory, overlay};
 
 /// All codes, in their order.
 pub(crate) const CODES: [Code; 15] = [
@@ -70,6 +71,24 @@ pub(crate) enum NamedBlob {
     Missing,
     // Its length, and whether its bytes have another digest.
     Found { length: u64, is_wrong: bool },
+}
+
+impl NamedBlob {
+    /// The blob that an inode names, by what is known of it.
+    pub(crate) fn of(known: &KnownBlobs<'_>, inode: &Inode) -> NamedBlob
+        ensures { result ≡ facts.blob_named known.now inode.now }
+    {
+        let Some(name) = blob_of(inode) else {
+            return NamedBlob::Unnamed;
+        };
+        match known.find(&name) {
+            Some(content) => NamedBlob::Found {
+                length: content.size,
+                is_wrong: !content.is_right,
+            },
+            None => NamedBlob::Missing,
+        }
+    }
 }
 
 /// What the conditions ask of one entry.

@@ -11,7 +11,7 @@ ghost use Rattle.ovl_check.specs.Walks.{AreLayerWalks, double_at, places_with, m
 
 use crate::findings::{Code, Finding};
 use crate::lower_paths::LowerPathRef;
-use crate::subjects::{CheckOut, CheckWork};
+use crate::work::{CheckOut, CheckWork};
 use ovl_board::Parcel;
 use ovl_names::Path;
 use std::alloc::{AllocError, Global};

@@ -25,7 +25,7 @@ use crate::directories::{CheckedDirectory, Child};
 use crate::facts::{Facts, KindFacts, NamedBlob, OldPlace, ThingShown};
 use crate::marks::is_plain;
 use crate::places::{data_size_below, shown_kind_below, step_of};
-use crate::subjects::CheckWork;
+use crate::work::CheckWork;
 use ovl_inode::{Mark, Redirect};
 use ovl_lookup::{OwnStep, PathRope, ShownKind, Stack};
 use ovl_names::{Name, Path};

@@ -5,9 +5,9 @@ use Rattle.ovl_names.specs.Order.{ascends}
 use Rattle.ovl_lookup.specs.Stacks.{StackView}
 use Rattle.ovl_board.proofs.LawsOfMembers.{In-Contains}
 use Rattle.ovl_board.specs.declared.pieces.Piece.{Piece}
-use Rattle.ovl_check.specs.declared.contents.Content.{Content}
-use Rattle.ovl_check.specs.Blobs.{BlobView, digest_cmp}
-use Rattle.ovl_check.specs.Contents.{contents_of}
+use Rattle.ovl_blobs.specs.declared.contents.Content.{Content}
+use Rattle.ovl_blobs.specs.Blobs.{BlobView, digest_cmp}
+use Rattle.ovl_blobs.specs.Contents.{contents_of, AreTold}
 use Rattle.ovl_check.specs.Findings.{findings}
 use Rattle.ovl_commands.specs.declared.requests.Command.{Command}
 use Rattle.ovl_commands.specs.declared.requests.Command.TheVariants.{Merge}
@@ -18,7 +18,6 @@ use Rattle.ovl_commands.specs.Commands.{checks}
 use Rattle.ovl_engine.specs.Requests.{Request}
 use Rattle.ovl_engine.specs.Outcomes.{IsAccepted, IsRun, stack_of}
 use Rattle.ovl_engine.specs.Questions.{AreAsked, IsQuestionOf}
-use Rattle.ovl_check.specs.Contents.{AreTold}
 use Rattle.ovl_engine.specs.Told.{IsOutcomeTold, IsRunTold, MayRefuseTold}
 use Rattle.ovl_engine.specs.MergesDown.{IsAcceptedDown, IsOutcomeDownTold, IsRunDown, IsRunDownTold}
 

@@ -9,7 +9,7 @@ use Rattle.ovl_board.specs.declared.assembly.BoardFault.TheVariants.{Memory as B
 use Rattle.ovl_pool.specs.declared.runs.RunFault.{RunFault}
 use Rattle.ovl_pool.specs.declared.runs.RunFault.TheVariants.{Board, Memory as RunMemory}
 use Rattle.ovl_lookup.specs.Stacks.{layer_limit}
-use Rattle.ovl_check.specs.Blobs.{BlobView, are_in_order, blob_limit, blob_bytes}
+use Rattle.ovl_blobs.specs.Blobs.{BlobView, are_in_order, blob_limit, blob_bytes}
 use Rattle.ovl_rewrite.specs.declared.faults.RewriteFault.{RewriteFault}
 use Rattle.ovl_rewrite.specs.declared.faults.RewriteFault.TheVariants.{LimitOut as DerefLimit, Memory as DerefMemory}
 use Rattle.ovl_merge.specs.declared.faults.MergeFault.{MergeFault}

@@ -1,8 +1,8 @@
 -- What is asked of the engine.
 use Rattle.std.specs.Prelude.{ℕ, List, map, Vec}
 use Rattle.std.specs.Global.{Global}
-use Rattle.ovl_check.specs.declared.blobs.Blob.{Blob}
-use Rattle.ovl_check.specs.Blobs.{BlobView, blob_views}
+use Rattle.ovl_blobs.specs.declared.blobs.Blob.{Blob}
+use Rattle.ovl_blobs.specs.Blobs.{BlobView, blob_views}
 use Rattle.ovl_commands.specs.declared.requests.Command.{Command}
 
 -- a request: a command over manifests, the topmost first, of which the last `bottom` state

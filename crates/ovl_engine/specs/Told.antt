@@ -4,8 +4,8 @@ use Rattle.std.specs.Prelude.{◌≡◌, ◌⊎◌, ℕ, true, Option, Result, O
 use Rattle.ovl_lookup.specs.Stacks.{StackView}
 use Rattle.ovl_board.specs.declared.pieces.Piece.{Piece}
 use Rattle.ovl_check.specs.declared.findings.Finding.{Finding}
-use Rattle.ovl_check.specs.Blobs.{BlobView}
-use Rattle.ovl_check.specs.Contents.{bytes_named}
+use Rattle.ovl_blobs.specs.Blobs.{BlobView}
+use Rattle.ovl_blobs.specs.Contents.{bytes_named}
 use Rattle.ovl_check.specs.Findings.{findings}
 use Rattle.ovl_check.specs.Stated.{IsStated}
 use Rattle.ovl_commands.specs.declared.requests.Command.{Command}

@@ -4,7 +4,7 @@ ghost use Rattle.ovl_lookup.specs.Stacks.{layer_limit};
 ghost use Rattle.ovl_board.specs.Machine.{worker_limit};
 ghost use Rattle.ovl_lookup.specs.Sound.{IsSoundStack};
 ghost use Rattle.ovl_check.specs.declared.findings.Finding.{Finding};
-ghost use Rattle.ovl_check.specs.Blobs.{blob_views, are_in_order, blob_limit, blob_bytes};
+ghost use Rattle.ovl_blobs.specs.Blobs.{blob_views, are_in_order, blob_limit, blob_bytes};
 ghost use Rattle.ovl_check.specs.Findings.{findings};
 ghost use Rattle.ovl_engine.specs.FsckReports as fsck_reports;
 ghost use Rattle.ovl_commands.specs.declared.requests.Command.TheVariants.{Show, Fsck};

@@ -1,10 +1,10 @@
 //! Where contents come from that aren't held. It must not know files.
 ghost use Rattle.std.specs.Prelude.{◌≡◌, ℕ, Option, true, List, IfOk, IfErr};
 ghost use Rattle.ovl_names.specs.Order.{ascends};
-ghost use Rattle.ovl_check.specs.Blobs.{digest_cmp};
+ghost use Rattle.ovl_blobs.specs.Blobs.{digest_cmp};
 ghost use Rattle.ovl_engine.specs.declared.contents.CommandFault.TheVariants.{Engine};
 ghost use Rattle.ovl_engine.specs.declared.faults.EngineFault.TheVariants.{Memory};
-ghost use Rattle.ovl_check.specs.Contents.{AreTold};
+ghost use Rattle.ovl_blobs.specs.Contents.{AreTold};
 
 use crate::faults::EngineFault;
 use ovl_check::Content;

@@ -4,8 +4,8 @@ ghost use Rattle.std.specs.Prelude.{◌≡◌, ◌↔◌, ◌<◌, ◌≤◌, tr
 ghost use Rattle.ovl_lookup.specs.Stacks.{layer_limit};
 ghost use Rattle.ovl_lookup.specs.Sound.{IsSoundStack};
 ghost use Rattle.ovl_board.specs.Machine.{worker_limit};
-ghost use Rattle.ovl_check.specs.Blobs.{BlobView};
-ghost use Rattle.ovl_check.specs.Contents.{AreTold, contents_of, contents_ascend};
+ghost use Rattle.ovl_blobs.specs.Blobs.{BlobView};
+ghost use Rattle.ovl_blobs.specs.Contents.{AreTold, contents_of, contents_ascend};
 ghost use Rattle.ovl_check.specs.Findings.{findings};
 ghost use Rattle.ovl_engine.specs.FsckReports.{is_clean};
 ghost use Rattle.ovl_engine.specs.declared.faults.EngineFault.TheVariants.{Workers, Layers, DataLayers};

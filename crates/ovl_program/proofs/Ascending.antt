@@ -1,8 +1,8 @@
 -- Blobs whose names are the keys of a set.
 use Rattle.std.proofs.Common.{◌≡◌, ◌∙◌, ℕ, true, List, [], ◌∷◌, refl, sym, ap, subst, map}
 use Rattle.std.specs.List.Sorted.{IsStrictlySortedBy}
-use Rattle.ovl_check.specs.declared.blobs.Blob.{Blob}
-use Rattle.ovl_check.specs.Blobs.{BlobView, blob_views, digest_cmp, are_in_order}
+use Rattle.ovl_blobs.specs.declared.blobs.Blob.{Blob}
+use Rattle.ovl_blobs.specs.Blobs.{BlobView, blob_views, digest_cmp, are_in_order}
 use Rattle.ovl_engine.proofs.NamingLemmas as naming
 
 names_viewed : (blobs : List Blob) → map (λ (view : BlobView). view.name) (blob_views blobs) ≡ map (λ (blob : Blob). blob.name) blobs

@@ -7,7 +7,7 @@ use Rattle.std.proofs.lemmas.List.{take_more}
 use Rattle.std.proofs.lemmas.List.Sums.{sum_by-append}
 use Rattle.std.proofs.lemmas.Map.Text.{is_eq-slice_cmp}
 use Rattle.std.proofs.lemmas.Map.Views.{All-keys_found}
-use Rattle.ovl_check.specs.Blobs.{digest_cmp}
+use Rattle.ovl_blobs.specs.Blobs.{digest_cmp}
 use Rattle.ovl_program.specs.declared.files.blob_folder.BlobFile.{BlobFile}
 use Rattle.ovl_program.specs.BlobFolders.{IsNamedBy}
 use Rattle.ovl_program.specs.Listings.{length_of}

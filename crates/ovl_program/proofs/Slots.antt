@@ -9,9 +9,9 @@ use Rattle.std.proofs.lemmas.List.Elements.{Contains-append_left, Contains-push,
 use Rattle.std.proofs.lemmas.Option.{get_or_from_slice_get, slice_get-get_or, slice_get_read, slice_get_within, unwrap_or-slice_get}
 use Rattle.ovl_names.specs.Order.{ascends}
 use Rattle.ovl_layer.proofs.SheetLemmas.{ascends-apart}
-use Rattle.ovl_check.specs.Blobs.{digest_cmp}
-use Rattle.ovl_check.specs.declared.contents.Content.{Content}
-use Rattle.ovl_check.specs.Contents.{content_of}
+use Rattle.ovl_blobs.specs.Blobs.{digest_cmp}
+use Rattle.ovl_blobs.specs.declared.contents.Content.{Content}
+use Rattle.ovl_blobs.specs.Contents.{content_of}
 use Rattle.ovl_engine.specs.declared.faults.EngineFault.TheVariants.{Memory}
 use Rattle.ovl_program.specs.declared.faults.ProgramFault.{ProgramFault}
 use Rattle.ovl_program.specs.declared.faults.ProgramFault.TheVariants.{Engine}

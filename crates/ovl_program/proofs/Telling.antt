@@ -14,11 +14,9 @@ use Rattle.std.proofs.lemmas.List.Elements.{All-push, Contains-append_left, Cont
 use Rattle.ovl_names.specs.Order.{ascends}
 use Rattle.ovl_names.proofs.Ascending.{ascends-across, ascends-more, both, is_lt-Less, list_all-front}
 use Rattle.ovl_board.proofs.LawsOfMembers.{Every, Every-All, Contains-In, In-Contains, In-map}
-use Rattle.ovl_check.specs.declared.contents.Content.{Content}
-use Rattle.ovl_check.specs.Blobs.{BlobView, digest_cmp}
-use Rattle.ovl_check.specs.Conditions.{find_blob}
-use Rattle.ovl_check.specs.Contents.{content_cmp, content_of}
-use Rattle.ovl_check.specs.Contents.{AreTold, bytes_named}
+use Rattle.ovl_blobs.specs.declared.contents.Content.{Content}
+use Rattle.ovl_blobs.specs.Blobs.{BlobView, digest_cmp, find_blob}
+use Rattle.ovl_blobs.specs.Contents.{content_cmp, content_of, AreTold, bytes_named}
 use Rattle.ovl_program.specs.BlobFolders.{IsToldOf, anything, told_of}
 
 -- a test that all elements pass

@@ -3,8 +3,8 @@ use Rattle.std.specs.Prelude.{◌≡◌, ◌⊎◌, ⊤, ◌∷◌, ◌++◌, �
 use Rattle.std.specs.Option.{option_map}
 use Rattle.hex.specs.Hex.{encode_lower}
 use Rattle.ovl_inode.specs.Hexadecimal.{digest_of_text}
-use Rattle.ovl_check.specs.declared.contents.Content.{Content}
-use Rattle.ovl_check.specs.Contents.{content_of}
+use Rattle.ovl_blobs.specs.declared.contents.Content.{Content}
+use Rattle.ovl_blobs.specs.Contents.{content_of}
 
 -- the path of the blob of this digest: the folder, a slash (47) and the digest's digits
 abbrev pub blob_path : List ℕ → List ℕ → List ℕ

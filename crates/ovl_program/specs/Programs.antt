@@ -2,7 +2,7 @@
 use Rattle.std.specs.Prelude.{◌≡◌, ◌⊎◌, if◌then◌else◌, ℕ, true, Option, Some, None, Result, Ok, Err, List, [], length, map, string_bytes, Contains, IfNone, String}
 use Rattle.std.specs.Global.{Global}
 use Rattle.std.specs.Io.KnownBytes.{Keeps}
-use Rattle.ovl_check.specs.Blobs.{are_in_order}
+use Rattle.ovl_blobs.specs.Blobs.{are_in_order}
 use Rattle.ovl_engine.specs.Requests.{Request}
 use Rattle.ovl_commands.specs.declared.requests.Command.{Command}
 use Rattle.ovl_commands.specs.declared.requests.Command.TheVariants.{Show, Fsck, Vacuum, Deref, Merge, Flatten}

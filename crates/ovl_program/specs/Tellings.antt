@@ -2,7 +2,7 @@
 use Rattle.std.specs.Prelude.{◌≡◌, ◌≤◌, ℕ, Option, Some, Result, Ok, Err, List, All, Contains, Vec, slice_get}
 use Rattle.std.specs.Global.{Global}
 use Rattle.std.specs.Option.{option_map}
-use Rattle.ovl_check.specs.declared.contents.Content.{Content}
+use Rattle.ovl_blobs.specs.declared.contents.Content.{Content}
 use Rattle.ovl_program.specs.declared.files.tellings.Held.{Held}
 use Rattle.ovl_program.specs.declared.files.tellings.Slots.{Slots}
 use Rattle.ovl_program.specs.declared.files.tellings.Stop.{Stop}

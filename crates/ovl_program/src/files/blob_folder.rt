@@ -4,7 +4,7 @@ ghost use Rattle.std.specs.BTreeMap.{IsOrdered, get, keys};
 ghost use Rattle.std.specs.Fs.{dir_entry_name};
 ghost use Rattle.std.specs.Thread.{IsSync};
 ghost use Rattle.ovl_inode.specs.Hexadecimal.{digest_of_text};
-ghost use Rattle.ovl_check.specs.Blobs.{blob_views, digest_cmp, are_in_order, blob_limit, blob_bytes};
+ghost use Rattle.ovl_blobs.specs.Blobs.{blob_views, digest_cmp, are_in_order, blob_limit, blob_bytes};
 ghost use Rattle.ovl_program.specs.declared.files.reads.ReadFault.TheVariants.{TooLong};
 ghost use Rattle.ovl_program.specs.Faults.{IsUnread};
 ghost use Rattle.ovl_program.specs.BlobFolders.{IsInFolder, IsNamedBy, IsSpelt};

@@ -2,8 +2,8 @@
 ghost use Rattle.std.specs.Prelude.{◌≡◌, ◌∷◌, ◌++◌, [], Option, Ok, true, min, length, vec_len, IfOk, IfErr, IfSome, OnOk, All};
 ghost use Rattle.std.specs.Thread.{IsSync};
 ghost use Rattle.ovl_names.specs.Order.{ascends};
-ghost use Rattle.ovl_check.specs.Blobs.{digest_cmp};
-ghost use Rattle.ovl_check.specs.Contents.{AreTold};
+ghost use Rattle.ovl_blobs.specs.Blobs.{digest_cmp};
+ghost use Rattle.ovl_blobs.specs.Contents.{AreTold};
 ghost use Rattle.ovl_program.specs.Faults.{IsUnread};
 ghost use Rattle.ovl_program.specs.BlobFolders.{anything, IsInFolder};
 ghost use Rattle.ovl_program.specs.declared.files.tellings.Held.{Held};

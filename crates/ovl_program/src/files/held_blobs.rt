@@ -1,6 +1,6 @@
 //! Blobs that are read, with no more of their bytes than a command takes.
 ghost use Rattle.std.specs.Prelude.{◌≡◌, ◌<◌, ◌≤◌, ◌+◌, [], ◌∷◌, ◌++◌, if◌then◌else◌, IsOk, OnErr, OnOk, vec_capacity, vec_len, map, All, nat_lt};
-ghost use Rattle.ovl_check.specs.Blobs.{blob_views, blob_limit, blob_bytes};
+ghost use Rattle.ovl_blobs.specs.Blobs.{blob_views, blob_limit, blob_bytes};
 ghost use Rattle.ovl_program.specs.declared.files.reads.TheConstants.{INPUT_LIMIT};
 ghost use Rattle.ovl_program.specs.BlobFolders.{IsSpelt};
 

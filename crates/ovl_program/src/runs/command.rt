@@ -1,6 +1,6 @@
 //! A line done with contents that are held.
 ghost use Rattle.std.specs.Prelude.{◌≡◌, [], true, option_map, IfOk, IfErr, IfNone, IfSome};
-ghost use Rattle.ovl_check.specs.Blobs.{blob_views, are_in_order};
+ghost use Rattle.ovl_blobs.specs.Blobs.{blob_views, are_in_order};
 ghost use Rattle.ovl_commands.specs.declared.requests.Command.TheVariants.{Merge};
 ghost use Rattle.ovl_engine.specs.Requests.{request_of};
 ghost use Rattle.ovl_program.specs.Faults.{IsUnread};

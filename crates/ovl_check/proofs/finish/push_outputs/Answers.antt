@@ -6,7 +6,7 @@ use Rattle.std.specs.List.{flat_map}
 use Rattle.std.specs.List.Sorted.{IsPermutation}
 use Rattle.ovl_board.specs.declared.works.Parcel.{Parcel}
 use Rattle.ovl_check.specs.declared.findings.Finding.{Finding}
-use Rattle.ovl_check.specs.declared.subjects.CheckOut.{CheckOut}
+use Rattle.ovl_check.specs.declared.work.CheckOut.{CheckOut}
 use Rattle.ovl_check.specs.Walks.{all_left}
 use Rattle.ovl_check.proofs.Moves.{one-more, moved-all}
 use Rattle.ovl_check.proofs.finish.push_outputs.Goals as goal

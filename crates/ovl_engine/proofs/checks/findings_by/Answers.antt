@@ -1,5 +1,5 @@
 use Rattle.std.proofs.Common.{◌≡◌, ◌∙◌, List, sym, ap}
-use Rattle.ovl_check.specs.declared.contents.Content.{Content}
+use Rattle.ovl_blobs.specs.declared.contents.Content.{Content}
 use Rattle.ovl_check.specs.Checks.{CheckView}
 use Rattle.ovl_check.specs.Contents.{findings_of_contents}
 use Rattle.ovl_check.specs.Findings.{findings}

@@ -1,6 +1,6 @@
 use Rattle.std.proofs.Common.{◌≡◌, ◌∙◌, inl, sym, ap}
 use Rattle.std.proofs.lemmas.Result.{err_from_is_err_and}
-use Rattle.ovl_check.specs.Blobs.{blob_views}
+use Rattle.ovl_blobs.specs.Blobs.{blob_views}
 use Rattle.ovl_check.specs.Checks.{CheckView}
 use Rattle.ovl_check.specs.Contents.{findings_of_contents}
 use Rattle.ovl_check.specs.Findings.{findings}

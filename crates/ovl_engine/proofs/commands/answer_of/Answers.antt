@@ -1,6 +1,6 @@
 use Rattle.std.proofs.Common.{inl, inr}
 use Rattle.std.proofs.lemmas.Result.{err_from_is_err_and}
-use Rattle.ovl_check.specs.Blobs.{blob_views}
+use Rattle.ovl_blobs.specs.Blobs.{blob_views}
 use Rattle.ovl_check.specs.Findings.{findings}
 use Rattle.ovl_engine.specs.Outcomes.{MayRefuse, MayRefuseCheck, MayRefuseOwn}
 use Rattle.ovl_engine.proofs.OutcomeLemmas.{unwalked, walk-part, outcome-part}

@@ -1,6 +1,6 @@
 use Rattle.std.proofs.Common.{◌≡◌, ◌+◌, take, length}
 use Rattle.std.specs.List.{sum_by}
-use Rattle.ovl_check.specs.Blobs.{blob_limit}
+use Rattle.ovl_blobs.specs.Blobs.{blob_limit}
 use Rattle.ovl_engine.proofs.commands.are_over_limit.Given as goal
 
 -- what is left of the limit beside the blobs so far

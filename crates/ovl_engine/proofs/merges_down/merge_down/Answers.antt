@@ -1,7 +1,7 @@
 use Rattle.std.proofs.Common.{◌∙◌, Err, inl, inr, sym, subst}
 use Rattle.std.proofs.lemmas.Result.{IfOk-weaker, err_from_is_err_and}
 use Rattle.ovl_lookup.specs.Stacks.{StackView}
-use Rattle.ovl_check.specs.Blobs.{blob_views}
+use Rattle.ovl_blobs.specs.Blobs.{blob_views}
 use Rattle.ovl_commands.specs.declared.requests.Command.TheVariants.{Merge}
 use Rattle.ovl_engine.specs.Requests.{Request, request_of}
 use Rattle.ovl_engine.specs.Outcomes.{MayRefuse, MayRefuseBlobs, MayRefuseCheck, stack_of}

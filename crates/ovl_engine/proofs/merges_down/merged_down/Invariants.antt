@@ -1,8 +1,8 @@
 use Rattle.std.proofs.Common.{◌≡◌, List}
 use Rattle.ovl_names.specs.Paths.{PathNames}
 use Rattle.ovl_lookup.specs.Merged.{look}
-use Rattle.ovl_check.specs.Blobs.{BlobView}
-use Rattle.ovl_check.specs.Contents.{contents_of}
+use Rattle.ovl_blobs.specs.Blobs.{BlobView}
+use Rattle.ovl_blobs.specs.Contents.{contents_of}
 use Rattle.ovl_engine.specs.MergesDown.{MergesLead}
 use Rattle.ovl_engine.proofs.merges_down.merged_down.Given as goal
 

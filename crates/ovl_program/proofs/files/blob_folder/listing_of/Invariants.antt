@@ -1,6 +1,6 @@
 use Rattle.std.proofs.Common.{◌≡◌, ◌-◌, ◌^◌, ℕ, List, min, sum_by, take}
 use Rattle.std.specs.BTreeMap.{IsOrdered, get}
-use Rattle.ovl_check.specs.Blobs.{digest_cmp}
+use Rattle.ovl_blobs.specs.Blobs.{digest_cmp}
 use Rattle.ovl_program.specs.Listings.{length_of}
 use Rattle.ovl_program.proofs.files.blob_folder.listing_of.Given as goal
 

@@ -2,7 +2,7 @@ use Rattle.std.proofs.Common.{◌∙◌, ap, map, sym, ℕ, List}
 use Rattle.std.specs.BTreeMap.{keys}
 use Rattle.std.specs.Map.{keys_of}
 use Rattle.std.proofs.lemmas.Simd.{map-map}
-use Rattle.ovl_check.specs.declared.blobs.Blob.{Blob}
+use Rattle.ovl_blobs.specs.declared.blobs.Blob.{Blob}
 use Rattle.ovl_program.specs.declared.files.blob_folder.BlobFile.{BlobFile}
 use Rattle.ovl_program.proofs.Ascending.{ascending_blobs}
 use Rattle.ovl_program.proofs.files.blob_folder.read_blobs.Goals as goal

@@ -1,5 +1,5 @@
 use Rattle.std.proofs.Common.{take}
-use Rattle.ovl_check.specs.Contents.{AreTold}
+use Rattle.ovl_blobs.specs.Contents.{AreTold}
 use Rattle.ovl_program.specs.Slots.{IsAsSaid}
 use Rattle.ovl_program.proofs.files.folder_in_parts.contents_of.Given as goal
 

@@ -1,7 +1,7 @@
 use Rattle.std.proofs.Common.{refl, sym, subst, [], List}
 use Rattle.std.proofs.lemmas.List.Elements.{All-nil}
-use Rattle.ovl_check.specs.declared.contents.Content.{Content}
-use Rattle.ovl_check.specs.Contents.{AreTold}
+use Rattle.ovl_blobs.specs.declared.contents.Content.{Content}
+use Rattle.ovl_blobs.specs.Contents.{AreTold}
 use Rattle.ovl_refusal_tests.proofs.commands.NothingContents.tell.Goals as goal
 
 pub returns-clause-told : goal.returns-clause-told
