@@ -2,12 +2,11 @@
 use Rattle.std.proofs.Common.{◌≡◌, ℕ, Bool, true, false, cond, Option, Some, None, List, [], ◌∷◌, refl, sym, ap, ◌∙◌, suc, ◌+◌, ◌*◌, ◌≤◌, length, ◌++◌, arith, append_assoc, length-append, zero, ◌<◌}
 use Rattle.std.specs.Prelude.{◌||◌, ◌&&◌, not, filter}
 use Rattle.std.specs.List.{list_all, cons_option, list_any, All}
-use Rattle.std.specs.Ordering.{is_lt, ordering_reverse, match_ordering, ordering_then}
+use Rattle.std.specs.Ordering.{is_lt, ordering_reverse, ordering_then}
 use Rattle.std.specs.Cmp.Lexicographic.{bytes_decides, nat_list_cmp_total}
 use Rattle.std.proofs.lemmas.List.{append-nil}
 use Rattle.std.proofs.lemmas.List.Folds.{list_all-append}
-use Rattle.std.proofs.Math.Bool.{and-false, or-false}
-use Rattle.std.specs.BTreeSet.{insert_key}
+use Rattle.std.proofs.Math.Bool.{and-false}
 use Rattle.std.specs.declared.cmp.Ordering.{Ordering}
 use Rattle.std.specs.declared.cmp.Ordering.TheVariants.{Less, Equal, Greater}
 use Rattle.std.specs.Map.{lookup}
@@ -15,11 +14,11 @@ use Rattle.std.proofs.lemmas.Cmp.{tied_itself}
 use Rattle.ovl_names.specs.Names.{PathName, name_eq, name_cmp}
 use Rattle.ovl_names.specs.Order.{ascends}
 use Rattle.ovl_names.specs.Paths.{PathNames, child_path, path_cmp, path_eq, depth_limit}
-use Rattle.ovl_names.proofs.Ascending.{both, list_all-before, ascends-filter, is_lt-Less}
+use Rattle.ovl_names.proofs.LawsOfNameSets.{any-put, ascends-put}
+use Rattle.ovl_names.proofs.Ascending.{both, ascends-filter, is_lt-Less}
 use Rattle.ovl_inode.specs.declared.inodes.Inode.{Inode}
 use Rattle.ovl_layer.specs.Layers.{Entry, Entries, entry_cmp, name_below, names_below, IsLayer, entry_at}
 use Rattle.ovl_layer.proofs.SheetLemmas.{path_cmp-beside}
-use Rattle.ovl_layer.proofs.NodeLemmas.{name_eq-cmp}
 use Rattle.ovl_lookup.specs.declared.steps.Step.{Step}
 use Rattle.ovl_lookup.specs.declared.looks.Look.{Look}
 use Rattle.ovl_lookup.specs.declared.looks.Look.TheVariants.{Shown, Broken, Nothing}
