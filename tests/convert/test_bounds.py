@@ -19,7 +19,7 @@ SECONDS, SECONDS_A_MEGABYTE = 2.0, 0.02  # of processor, beside what Python's st
 START = 1.0
 MEMORY = 300 * MEGABYTE
 _BLOCK = 512  # bytes, in which the system counts what a process writes and archives are made
-_ENTRY_MEMORY, _ENTRIES = 250, 50_000  # bytes of an entry, with what reading a long layer takes
+_ENTRY_MEMORY, _ENTRIES = 275, 50_000  # bytes of an entry, with what reading a long layer takes
 _WITH_PEAK = """
 import sys
 sys.path.insert(0, sys.argv[1])
