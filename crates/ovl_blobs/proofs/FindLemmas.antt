@@ -11,7 +11,7 @@ use Rattle.ovl_names.specs.Order.{ascends}
 use Rattle.ovl_board.proofs.LawsOfMembers.{In, In-map, In-map-cases, get_or-In, Contains-In, In-Contains, In-filter-cases}
 use Rattle.ovl_blobs.specs.declared.blobs.Blob.{Blob}
 use Rattle.ovl_blobs.specs.Blobs.{BlobView, blob_view, blob_views, digest_cmp, blob_cmp, are_in_order, is_wrong, wrong_names, find_blob}
-use Rattle.ovl_blobs.specs.declared.contents.Content.{Content}
+use Rattle.ovl_blobs.specs.declared.contents.BlobInfo.{BlobInfo}
 use Rattle.ovl_blobs.specs.Contents.{content_of, contents_of, find_content}
 use Rattle.ovl_blobs.proofs.ListFacts.{find-map}
 use Rattle.ovl_blobs.proofs.Ascent.{Rises-ascends, In-filter}
@@ -62,7 +62,7 @@ wrong-told blobs up blob here r told = by r (is_wrong blob) refl told
 
 -- the content of a name
 pub find-content : (name : List ℕ) (blobs : List BlobView) → find_content (contents_of blobs) name ≡ option_map content_of (find_blob blobs name)
-find-content name blobs = find-map content_of (λ (content : Content). bytes_eq content.name name) blobs
+find-content name blobs = find-map content_of (λ (content : BlobInfo). bytes_eq content.name name) blobs
 
 -- what is reported of one more blob
 pub contents-more : (blobs : List Blob) (i : ℕ) (blob : Blob) → i < length blobs → blob ≡ get_or blobs i blob

@@ -2,7 +2,7 @@
 use Rattle.std.specs.Prelude.{◌≡◌, ℕ, List, length}
 use Rattle.sha2.specs.Sha256.{sha256}
 use Rattle.sha2.specs.Hashers.{Holds256}
-use Rattle.ovl_blobs.specs.declared.contents.Content.{Content}
+use Rattle.ovl_blobs.specs.declared.contents.BlobInfo.{BlobInfo}
 use Rattle.ovl_blobs.specs.Contents.{content_of}
 use Rattle.ovl_blobs.specs.declared.measuring.Measured.{Measured}
 use Rattle.ovl_blobs.specs.declared.measuring.Reading.{Reading}
@@ -18,5 +18,5 @@ pub record HasRead (bytes : List ℕ) (reading : Reading) : Type 0 where
   pub message : Holds256 reading.hasher bytes
 
 -- this is the content of a blob of this name and these bytes
-abbrev pub IsContentOf : List ℕ → List ℕ → Content → Type 0
+abbrev pub IsContentOf : List ℕ → List ℕ → BlobInfo → Type 0
 IsContentOf name bytes content = content ≡ content_of (record { name = name; bytes = bytes })

@@ -4,7 +4,7 @@ ghost use Rattle.std.specs.Option.{option_map};
 ghost use Rattle.ovl_blobs.specs.ByDigest.{names_ascend, element_named, IsStart, AreStarts};
 
 use crate::blobs::Blob;
-use crate::contents::Content;
+use crate::contents::BlobInfo;
 use ovl_inode::Digest;
 
 /// What has a digest for its name.
@@ -23,7 +23,7 @@ impl Named for Blob {
     }
 }
 
-impl Named for Content {
+impl Named for BlobInfo {
     ghost name_of = { λ content. content.name };
 
     fn name(&self) -> &Digest {

@@ -11,7 +11,7 @@ use std::alloc::{AllocError, Global};
 /// What is known of a blob whose bytes needn't be held: its length, and whether its bytes are those
 /// that its name says.
 #[derive(Clone, Copy, Debug, PartialEq, Eq)]
-pub struct Content {
+pub struct BlobInfo {
     /// The SHA-256 digest that the bytes should have.
     pub name: Digest,
     /// How many bytes it has.
@@ -26,7 +26,7 @@ pub fn contents_held(
     alloc: Global,
     blobs: &[Blob],
     wrong: &[Digest],
-) -> Result<Vec<Content>, AllocError>
+) -> Result<Vec<BlobInfo>, AllocError>
     requires ascend { are_in_order (blob_views blobs.now) ≡ true }
     requires all_wrong { wrong.now ≡ wrong_names (blob_views blobs.now) }
     ensures told { IfOk result (λ contents. contents.items ≡ contents_of (blob_views blobs.now)) }
@@ -41,13 +41,13 @@ pub fn contents_held(
 
 /// The content of one of blobs whose names ascend strictly. `wrong` has the names of those with
 /// wrong bytes.
-pub(crate) fn content_held(blob: &Blob, wrong: &[Digest]) -> Content
+pub(crate) fn content_held(blob: &Blob, wrong: &[Digest]) -> BlobInfo
     requires { ascends digest_cmp wrong.now ≡ true }
     ensures { (blobs : List BlobView) → are_in_order blobs ≡ true
         → Contains blobs (blob_view blob.now) → wrong.now ≡ wrong_names blobs
         → result ≡ content_of (blob_view blob.now) }
 {
-    Content {
+    BlobInfo {
         name: blob.name,
         size: blob.bytes.len() as u64,
         is_right: !is_among(wrong, &blob.name),

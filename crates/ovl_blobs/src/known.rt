@@ -5,7 +5,7 @@ ghost use Rattle.ovl_blobs.specs.Contents.{contents_ascend, contents_of, find_co
 
 use crate::blobs::Blob;
 use crate::by_digest::ByName;
-use crate::contents::{Content, content_held};
+use crate::contents::{BlobInfo, content_held};
 use ovl_inode::Digest;
 use std::marker::Model;
 
@@ -19,7 +19,7 @@ pub struct KnownBlobs<'a> {
 #[derive(Drop)]
 enum Source<'a> {
     Held(CheckedBlobs<'a>),
-    Measured(ByName<'a, Content>),
+    Measured(ByName<'a, BlobInfo>),
 }
 
 // Blobs that are held, and the names of those with wrong bytes.
@@ -32,10 +32,10 @@ struct CheckedBlobs<'a> {
 
 impl<'a> Model for KnownBlobs<'a> {
     ghost use Rattle.std.specs.Prelude.{List};
-    ghost use Rattle.ovl_blobs.specs.declared.contents.Content.{Content};
+    ghost use Rattle.ovl_blobs.specs.declared.contents.BlobInfo.{BlobInfo};
     ghost use Rattle.ovl_blobs.specs.Known.{known_contents};
 
-    ghost Value = { List Content };
+    ghost Value = { List BlobInfo };
 
     ghost view = { λ known. known_contents known.source };
 }
@@ -57,7 +57,7 @@ impl<'a> KnownBlobs<'a> {
     }
 
     /// What is known by contents that were measured, whose names ascend strictly.
-    pub fn measured(contents: &'a [Content]) -> KnownBlobs<'a>
+    pub fn measured(contents: &'a [BlobInfo]) -> KnownBlobs<'a>
         requires { contents_ascend contents.now ≡ true }
         ensures { result ≡ contents.now }
     {
@@ -67,7 +67,7 @@ impl<'a> KnownBlobs<'a> {
     }
 
     /// The content of the blob of a name.
-    pub fn find(&self, name: &Digest) -> Option<Content>
+    pub fn find(&self, name: &Digest) -> Option<BlobInfo>
         ensures { result ≡ find_content self.now name.now }
     {
         match &self.source {
@@ -78,7 +78,7 @@ impl<'a> KnownBlobs<'a> {
 }
 
 impl CheckedBlobs<'_> {
-    fn find(&self, name: &Digest) -> Option<Content>
+    fn find(&self, name: &Digest) -> Option<BlobInfo>
         ensures { result ≡ find_content (contents_of (blob_views self.now.blobs.elements.now)) name.now }
     {
         match self.blobs.find(name) {

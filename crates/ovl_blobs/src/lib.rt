@@ -8,6 +8,6 @@ mod known;
 mod measuring;
 
 pub use blobs::{BLOB_LIMIT, BLOB_SPACE, Blob, BlobWork, blobs_in_order, finish_blobs};
-pub use contents::{Content, contents_held};
+pub use contents::{BlobInfo, contents_held};
 pub use known::KnownBlobs;
-pub use measuring::{PART, PartFault, content_in};
+pub use measuring::{PART, PartFault, measure};

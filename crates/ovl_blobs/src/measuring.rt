@@ -4,13 +4,13 @@ ghost use Rattle.std.specs.Io.KnownBytes.{Consumes, IsAtEnd};
 ghost use Rattle.ovl_blobs.specs.declared.measuring.PartFault.TheVariants.{TooLong};
 ghost use Rattle.ovl_blobs.specs.Measuring.{IsMeasured, HasRead, IsContentOf};
 
-use crate::contents::Content;
+use crate::contents::BlobInfo;
 use ovl_inode::Digest;
 use sha2::Sha256;
 use std::io::Read;
 use thiserror::Error;
 
-/// How many bytes a room has that serves [`content_in`].
+/// How many bytes a room has that serves [`measure`].
 pub const PART: usize = 65536;
 
 /// Why the content of a reader isn't given.
@@ -35,11 +35,11 @@ struct Measured {
 /// parts that fill this room at most; rooms of [`PART`] bytes serve. No read is tried again, and
 /// the first fault that is met is given. Where more than 2^64 - 1 bytes come, that is a fault.
 /// Takes no memory. FIPS 180-4.
-pub fn content_in<R: Read>(
+pub fn measure<R: Read>(
     name: Digest,
     reader: &mut R,
     room: &mut [u8],
-) -> Result<Content, PartFault>
+) -> Result<BlobInfo, PartFault>
     requires { 0 < length room.old }
     ensures room { length room.new ≡ length room.old }
     ensures taken { IfOk result (λ content. (bytes : List ℕ)
@@ -54,7 +54,7 @@ pub fn content_in<R: Read>(
         → IfSome (R.remaining reader.old) (λ left. 2 ^ 64 - 1 < length left) }
 {
     let told = digest_in(reader, room)?;
-    Ok(Content {
+    Ok(BlobInfo {
         name,
         size: told.length,
         is_right: told.digest.as_slice() == name.as_bytes().as_slice(),

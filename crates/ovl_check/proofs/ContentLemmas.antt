@@ -8,7 +8,7 @@ use Rattle.ovl_inode.specs.Kinds.{size_of, blob_of}
 use Rattle.ovl_layer.specs.Layers.{Entries, Entry}
 use Rattle.ovl_lookup.specs.Stacks.{StackView}
 use Rattle.ovl_lookup.proofs.LawsOfPaths.{all-first, all-rest}
-use Rattle.ovl_blobs.specs.declared.contents.Content.{Content}
+use Rattle.ovl_blobs.specs.declared.contents.BlobInfo.{BlobInfo}
 use Rattle.ovl_check.specs.declared.findings.Code.{Code}
 use Rattle.ovl_check.specs.declared.findings.Code.TheVariants.{BlobMissing, BlobSize, BlobDigest}
 use Rattle.ovl_check.specs.Codes.{all_codes, is_blob_fault}
@@ -38,7 +38,7 @@ none-told : (found : Option BlobView) → is_none found ≡ is_none (option_map 
 none-told None = refl
 none-told (Some blob) = refl
 
-test-told : (test : BlobView → Bool) (told : Content → Bool) → ((blob : BlobView) → test blob ≡ told (content_of blob)) → (found : Option BlobView) →
+test-told : (test : BlobView → Bool) (told : BlobInfo → Bool) → ((blob : BlobView) → test blob ≡ told (content_of blob)) → (found : Option BlobView) →
     has_blob test found ≡ has_content told (option_map content_of found)
 test-told test told same None = refl
 test-told test told same (Some blob) = same blob
@@ -50,7 +50,7 @@ module _ (blobs : List BlobView) where
   missing None = refl
   missing (Some name) = none-told (find_blob blobs name) ∙ ap is_none (sym (find-content name blobs))
 
-  tested : (test : BlobView → Bool) (told : Content → Bool) → ((blob : BlobView) → test blob ≡ told (content_of blob)) → (named : Option (List ℕ)) →
+  tested : (test : BlobView → Bool) (told : BlobInfo → Bool) → ((blob : BlobView) → test blob ≡ told (content_of blob)) → (named : Option (List ℕ)) →
       (elim named as (λ _. Bool) [ Some name ↦ has_blob test (find_blob blobs name) | None ↦ false ])
       ≡ (elim named as (λ _. Bool) [ Some name ↦ has_content told (find_content (contents_of blobs) name) | None ↦ false ])
   tested test told same None = refl
@@ -97,7 +97,7 @@ flat_map-each f g P same (x ∷ xs) each =
     ap (λ ys. ys ++ flat_map f xs) (same x (all-first P x xs each))
     ∙ ap (λ ys. g x ++ ys) (flat_map-each f g P same xs (all-rest P x xs each))
 
-module _ (contents others : List Content) where
+module _ (contents others : List BlobInfo) where
   abbrev AgreeAt : Option (List ℕ) → Type 0
   AgreeAt named = MatchOption named ⊤ (λ name. find_content contents name ≡ find_content others name)
 
@@ -106,7 +106,7 @@ module _ (contents others : List Content) where
   named-missing None agree = refl
   named-missing (Some name) agree = ap is_none agree
 
-  named-tested : (test : Content → Bool) (named : Option (List ℕ)) → AgreeAt named → (elim named as (λ _. Bool) [ Some name ↦ has_content test (find_content contents name) | None ↦ false ])
+  named-tested : (test : BlobInfo → Bool) (named : Option (List ℕ)) → AgreeAt named → (elim named as (λ _. Bool) [ Some name ↦ has_content test (find_content contents name) | None ↦ false ])
       ≡ (elim named as (λ _. Bool) [ Some name ↦ has_content test (find_content others name) | None ↦ false ])
   named-tested test None agree = refl
   named-tested test (Some name) agree = ap (has_content test) agree

@@ -27,7 +27,7 @@ use Rattle.ovl_lookup.proofs.LawsOfWalks.{walk-whole, walk-stop}
 use Rattle.ovl_lookup.proofs.LawsOfPaths.{parent_path-child, length-child}
 use Rattle.ovl_lookup.proofs.LawsOfInodes.{metacopy-file, bare_file, directory-no_whiteout, is_directory_mark}
 use Rattle.ovl_lookup.proofs.LawsOfFound.{data_of-metacopy}
-use Rattle.ovl_blobs.specs.declared.contents.Content.{Content}
+use Rattle.ovl_blobs.specs.declared.contents.BlobInfo.{BlobInfo}
 use Rattle.ovl_check.specs.declared.directories.CheckedDirectory.{CheckedDirectory}
 use Rattle.ovl_check.specs.declared.facts.Facts.{Facts}
 use Rattle.ovl_check.specs.declared.facts.KindFacts.{KindFacts}
@@ -113,7 +113,7 @@ module _ (layer : Entries) (directory : CheckedDirectory) (is : IsGathered layer
       by _ e d = refl
 
   -- it names no blob
-  directory-unnamed : (contents : List Content) → Unnamed ≡ blob_named contents inode
+  directory-unnamed : (contents : List BlobInfo) → Unnamed ≡ blob_named contents inode
   directory-unnamed contents = by inode.kind is.kind
     where
       by : (kind : Kind) → elim kind as (λ _. Bool) [ Dir ↦ true | _ ↦ false ] ≡ true

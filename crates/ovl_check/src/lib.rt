@@ -19,7 +19,7 @@ pub use findings::{Code, Finding};
 pub use finish::finish_check;
 pub use lower_paths::LowerPath;
 pub use ovl_blobs::{
-    BLOB_LIMIT, BLOB_SPACE, Blob, BlobWork, Content, PART, PartFault, blobs_in_order, content_in,
+    BLOB_LIMIT, BLOB_SPACE, Blob, BlobWork, BlobInfo, PART, PartFault, blobs_in_order, measure,
     contents_held, finish_blobs,
 };
 pub use stated_blobs::stated_names;

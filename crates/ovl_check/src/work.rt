@@ -9,7 +9,7 @@ use crate::checks::directory_out;
 use crate::directories::{directory_at, kids_of};
 use crate::findings::Finding;
 use crate::lower_paths::LowerPath;
-use ovl_blobs::{Blob, Content, KnownBlobs};
+use ovl_blobs::{Blob, BlobInfo, KnownBlobs};
 use ovl_board::{Piece, Work};
 use ovl_inode::{Digest, Mark};
 use ovl_lookup::Stack;
@@ -65,7 +65,7 @@ impl<'a> CheckWork<'a> {
 
     /// The work of checking a stack with blobs that have these contents, whose names ascend
     /// strictly.
-    pub fn of_contents(stack: &'a Stack, contents: &'a [Content]) -> CheckWork<'a>
+    pub fn of_contents(stack: &'a Stack, contents: &'a [BlobInfo]) -> CheckWork<'a>
         requires { contents_ascend contents.now ≡ true }
         ensures { check_view result ≡ record { stack = stack.now; contents = contents.now } }
     {

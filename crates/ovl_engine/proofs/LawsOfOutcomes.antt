@@ -3,7 +3,7 @@ use Rattle.std.proofs.Common.{◌≡◌, ℕ, true, false, Bool, Option, Result,
 use Rattle.ovl_names.specs.Order.{ascends}
 use Rattle.ovl_lookup.specs.Stacks.{StackView}
 use Rattle.ovl_board.specs.declared.pieces.Piece.{Piece}
-use Rattle.ovl_blobs.specs.declared.contents.Content.{Content}
+use Rattle.ovl_blobs.specs.declared.contents.BlobInfo.{BlobInfo}
 use Rattle.ovl_blobs.specs.Blobs.{BlobView, digest_cmp}
 use Rattle.ovl_blobs.specs.Contents.{AreTold}
 use Rattle.ovl_commands.specs.declared.requests.Command.{Command}
@@ -23,7 +23,7 @@ asked_ascend command stack names asked = by (checks command) refl
     by false not_checking = subst (λ (ns : List (List ℕ)). ascends digest_cmp ns ≡ true) (sym (asked.none not_checking)) refl
 
 -- where the names that are asked for are reported, this is known of the blobs of that report
-pub told_blobs : (may_be : List ℕ → Option (List ℕ) → Type 0) (command : Command) (stack : StackView) (names : List (List ℕ)) (told : List Content)
+pub told_blobs : (may_be : List ℕ → Option (List ℕ) → Type 0) (command : Command) (stack : StackView) (names : List (List ℕ)) (told : List BlobInfo)
     → AreAsked command stack names → (are : AreTold may_be names told) → checks command ≡ true → AreBlobsOf may_be stack are.blobs
 told_blobs may_be command stack names told asked are checking = λ name stated. are.each name (((asked.stated checking).same name).1 stated)
 

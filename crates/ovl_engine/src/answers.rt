@@ -29,7 +29,7 @@ use crate::stacks::drop_in_parallel;
 use crate::tasks::{Task, checks};
 use crate::teams::WorkerTeam;
 use crate::vacuums::vacuum;
-use ovl_check::{Content, Finding};
+use ovl_check::{BlobInfo, Finding};
 use ovl_commands::{Answer, Command};
 use ovl_lookup::Stack;
 use ovl_pool::Gate;
@@ -50,7 +50,7 @@ pub fn answer<G: Gate + Sync, R: Threads + Wait + Sync>(
     rt: &R,
     alloc: Global,
     prepared: Prepared,
-    contents: Vec<Content>,
+    contents: Vec<BlobInfo>,
     workers: usize,
     gate: &G,
 ) -> Result<Answer, EngineFault>
@@ -87,7 +87,7 @@ fn answer_once<G: Gate + Sync, R: Threads + Wait + Sync>(
     team: &WorkerTeam<'_, G, R>,
     what: Command,
     stack: Stack,
-    contents: &[Content],
+    contents: &[BlobInfo],
 ) -> Result<Answer, EngineFault>
     requires number { (0 < team.now.workers) × (team.now.workers ≤ worker_limit) }
     requires several { wants_lower what ≡ true → 1 < length stack.layers }
@@ -112,7 +112,7 @@ fn found_in<G: Gate + Sync, R: Threads + Wait + Sync>(
     team: &WorkerTeam<'_, G, R>,
     what: Command,
     stack: &Stack,
-    contents: &[Content],
+    contents: &[BlobInfo],
 ) -> Result<Vec<Finding>, EngineFault>
     requires number { (0 < team.now.workers) × (team.now.workers ≤ worker_limit) }
     requires ascend { contents_ascend contents.now ≡ true }

@@ -18,7 +18,7 @@ use crate::faults::EngineFault;
 use crate::teams::WorkerTeam;
 use ovl_board::Parcel;
 use ovl_check::laws::{findings_need_contents, findings_tell_soundness};
-use ovl_check::{CheckOut, CheckWork, Content, Finding, finish_check};
+use ovl_check::{CheckOut, CheckWork, BlobInfo, Finding, finish_check};
 use ovl_lookup::Stack;
 use ovl_pool::Gate;
 use std::sync::Wait;
@@ -29,7 +29,7 @@ use std::thread::Threads;
 pub(crate) fn findings_of<G: Gate + Sync, R: Threads + Wait + Sync>(
     team: &WorkerTeam<'_, G, R>,
     stack: &Stack,
-    contents: &[Content],
+    contents: &[BlobInfo],
 ) -> Result<Vec<Finding>, EngineFault>
     requires number { (0 < team.now.workers) × (team.now.workers ≤ worker_limit) }
     requires ascend { contents_ascend contents.now ≡ true }

@@ -11,7 +11,7 @@ use crate::faults::EngineFault;
 use crate::preparations::Prepared;
 use crate::tasks::checks;
 use crate::teams::WorkerTeam;
-use ovl_check::{BLOB_SPACE, Blob, BlobWork, Content, contents_held, finish_blobs};
+use ovl_check::{BLOB_SPACE, Blob, BlobWork, BlobInfo, contents_held, finish_blobs};
 use ovl_inode::Digest;
 use ovl_pool::Gate;
 use std::alloc::Global;
@@ -28,7 +28,7 @@ pub fn digest_blobs<G: Gate + Sync, R: Threads + Wait + Sync>(
     blobs: &[Blob],
     workers: usize,
     gate: &G,
-) -> Result<Vec<Content>, EngineFault>
+) -> Result<Vec<BlobInfo>, EngineFault>
     requires number { (0 < workers) × (workers ≤ worker_limit) }
     requires ascend { are_in_order (blob_views blobs.now) ≡ true }
     ensures known { IfOk result (λ contents. commands.checks (command_of prepared.now.task) ≡ true

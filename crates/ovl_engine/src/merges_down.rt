@@ -22,7 +22,7 @@ use crate::faults::EngineFault;
 use crate::merges::{merge, merge_end};
 use crate::rewrites::expect_clean;
 use crate::teams::WorkerTeam;
-use ovl_check::Content;
+use ovl_check::BlobInfo;
 use ovl_commands::Answer;
 use ovl_layer::{Layer, Sheet};
 use ovl_lookup::Stack;
@@ -36,7 +36,7 @@ use std::thread::Threads;
 pub(crate) fn merged_down<G: Gate + Sync, R: Threads + Wait + Sync>(
     team: &WorkerTeam<'_, G, R>,
     stack: Stack,
-    contents: &[Content],
+    contents: &[BlobInfo],
     left: usize,
 ) -> Result<Answer, EngineFault>
     requires number { (0 < team.now.workers) × (team.now.workers ≤ worker_limit) }
@@ -61,7 +61,7 @@ pub(crate) fn merged_down<G: Gate + Sync, R: Threads + Wait + Sync>(
 fn merged_over<G: Gate + Sync, R: Threads + Wait + Sync>(
     team: &WorkerTeam<'_, G, R>,
     stack: Stack,
-    contents: &[Content],
+    contents: &[BlobInfo],
 ) -> Result<Stack, EngineFault>
     requires number { (0 < team.now.workers) × (team.now.workers ≤ worker_limit) }
     requires several { 1 < length stack.layers }

@@ -12,7 +12,7 @@ use Rattle.std.proofs.lemmas.Option.{slice_get_read, unwrap_or-slice_get}
 use Rattle.ovl_names.specs.Order.{ascends}
 use Rattle.ovl_names.proofs.Ascending.{both, list_all-get}
 use Rattle.ovl_blobs.specs.Blobs.{digest_cmp}
-use Rattle.ovl_blobs.specs.declared.contents.Content.{Content}
+use Rattle.ovl_blobs.specs.declared.contents.BlobInfo.{BlobInfo}
 use Rattle.ovl_files.specs.declared.faults.FileFault.{FileFault}
 use Rattle.ovl_files.specs.declared.faults.FileFault.TheVariants.{Memory}
 use Rattle.ovl_files.specs.declared.slots.Slots.{Slots}
@@ -32,9 +32,9 @@ on_ok P (Err e) never is = absurd (never e refl)
 -- ---- slots
 
 abbrev List-of-slots : Type 0
-List-of-slots = List (Option (Option Content))
+List-of-slots = List (Option (Option BlobInfo))
 
-abbrev at : List-of-slots → ℕ → Option (Option Content)
+abbrev at : List-of-slots → ℕ → Option (Option BlobInfo)
 at slots number = unwrap_or (slice_get slots number) None
 
 -- what is there after one more is put
@@ -52,9 +52,9 @@ slot_put slots told number inside =
 
 -- it is reported of the names
 pub slots_more : (names : List (List ℕ)) (slots : List-of-slots) (told : Told)
-    → ((number : ℕ) (content : Option Content) → at slots number ≡ Some content → IsToldAmong names (record { number = number; content = content }))
+    → ((number : ℕ) (content : Option BlobInfo) → at slots number ≡ Some content → IsToldAmong names (record { number = number; content = content }))
     → IsToldAmong names told → told.number < length slots
-    → (number : ℕ) (content : Option Content) → at (set slots told.number (Some told.content)) number ≡ Some content → IsToldAmong names (record { number = number; content = content })
+    → (number : ℕ) (content : Option BlobInfo) → at (set slots told.number (Some told.content)) number ≡ Some content → IsToldAmong names (record { number = number; content = content })
 slots_more names slots told are is inside number content there =
     by (told.number == number) refl (sym (slot_put slots told number inside) ∙ there)
   where
@@ -79,7 +79,7 @@ told_put before slots told one number inside is =
     by false = refl
 
 -- what is in the slot of a name is reported of it
-pub told_there : (names : List (List ℕ)) (slots : Slots) (number : ℕ) (name : List ℕ) (found : Option (Option Content)) → AreSlotsOf names slots → number < length names → name ≡ get_or names number name
+pub told_there : (names : List (List ℕ)) (slots : Slots) (number : ℕ) (name : List ℕ) (found : Option (Option BlobInfo)) → AreSlotsOf names slots → number < length names → name ≡ get_or names number name
     → found ≡ slot_at slots number → IfSome found (IsToldOf name)
 told_there names slots number name None are inside is found = tt
 told_there names slots number name (Some content) are inside is found =
@@ -111,19 +111,19 @@ its_number (first ∷ names) (suc one) (suc other) name up there also =
     ap suc (its_number names one other name (both {a = list_all (λ other. is_lt (digest_cmp first other)) names} {b = ascends digest_cmp names} up).1 there also)
 
 -- what is given of a name is what its slot says, if it does
-pub given_is : {E : Type 0} (slot : Option (Option Content)) (result : Result (Option Content) E) (content : Option Content) → IfSome slot (λ said. result ≡ Ok said) → result ≡ Ok content
+pub given_is : {E : Type 0} (slot : Option (Option BlobInfo)) (result : Result (Option BlobInfo) E) (content : Option BlobInfo) → IfSome slot (λ said. result ≡ Ok said) → result ≡ Ok content
     → IfSome slot (λ said. content ≡ said)
 given_is None result content given is = tt
 given_is {E} (Some said) result content given is =
-    let same : (◌≡◌ {A = Result (Option Content) E} (Ok content) (Ok said)) = sym is ∙ given in cc
+    let same : (◌≡◌ {A = Result (Option BlobInfo) E} (Ok content) (Ok said)) = sym is ∙ given in cc
 
 -- what is reported of a name where its slot says that, if anything
-pub as_said : (names : List (List ℕ)) (slots : Slots) (place : ℕ) (name : List ℕ) (content : Option Content) (is : IsToldOf name content) → ascends digest_cmp names ≡ true → slice_get names place ≡ Some name
+pub as_said : (names : List (List ℕ)) (slots : Slots) (place : ℕ) (name : List ℕ) (content : Option BlobInfo) (is : IsToldOf name content) → ascends digest_cmp names ≡ true → slice_get names place ≡ Some name
     → IfSome (slot_at slots place) (λ said. content ≡ said) → IsAsSaid names slots name is.0
 as_said names slots place name content is up there given number also =
     subst (λ n. IfSome (slot_at slots n) (λ said. said ≡ told_of name is.0)) (its_number names place number name up there also) (by (slot_at slots place) given)
   where
-    by : (slot : Option (Option Content)) → IfSome slot (λ said. content ≡ said) → IfSome slot (λ said. said ≡ told_of name is.0)
+    by : (slot : Option (Option BlobInfo)) → IfSome slot (λ said. content ≡ said) → IfSome slot (λ said. said ≡ told_of name is.0)
     by None given = tt
     by (Some said) given = sym given ∙ is.1
 

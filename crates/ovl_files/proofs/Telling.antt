@@ -14,7 +14,7 @@ use Rattle.std.proofs.lemmas.List.Elements.{All-nil, All-push, Contains-append_l
 use Rattle.ovl_names.specs.Order.{ascends}
 use Rattle.ovl_names.proofs.Ascending.{ascends-across, ascends-more, both, is_lt-Less, list_all-front}
 use Rattle.ovl_board.proofs.LawsOfMembers.{Every, Every-All, Contains-In, In-Contains, In-map}
-use Rattle.ovl_blobs.specs.declared.contents.Content.{Content}
+use Rattle.ovl_blobs.specs.declared.contents.BlobInfo.{BlobInfo}
 use Rattle.ovl_blobs.specs.Blobs.{BlobView, digest_cmp, find_blob}
 use Rattle.ovl_blobs.specs.Contents.{AreTold, bytes_named, content_cmp, content_of}
 use Rattle.ovl_files.specs.BlobFolders.{IsToldOf, anything, told_of}
@@ -86,7 +86,7 @@ nothing_told may_be = record {
 
 -- ---- one more name
 
-module _ (may_be : List ℕ → Option (List ℕ) → Type 0) (names : List (List ℕ)) (name : List ℕ) (up : ascends digest_cmp (names ++ name ∷ []) ≡ true) (told : List Content) (are : AreTold may_be names told) where
+module _ (may_be : List ℕ → Option (List ℕ) → Type 0) (names : List (List ℕ)) (name : List ℕ) (up : ascends digest_cmp (names ++ name ∷ []) ≡ true) (told : List BlobInfo) (are : AreTold may_be names told) where
   before : (other : List ℕ) → Contains names other → is_lt (digest_cmp other name) ≡ true
   before other inside =
       each_passes (λ (x : List ℕ). is_lt (digest_cmp x name)) names (ascends-across digest_cmp names name [] up) other (In-Contains other names inside)
@@ -96,7 +96,7 @@ module _ (may_be : List ℕ → Option (List ℕ) → Type 0) (names : List (Lis
 
   new : find_blob are.blobs name ≡ None
   new = none_found are.blobs name (λ blob h.
-      let asked = subst (Every (λ (content : Content). Contains names content.name)) are.contents each_asked in
+      let asked = subst (Every (λ (content : BlobInfo). Contains names content.name)) are.contents each_asked in
       unlike blob.name name (apart blob.name name (before blob.name (asked (content_of blob) (In-map content_of blob are.blobs h)))))
 
   still_asked : (other : List ℕ) → Contains names other → Contains (names ++ name ∷ []) other
@@ -123,8 +123,8 @@ module _ (may_be : List ℕ → Option (List ℕ) → Type 0) (names : List (Lis
         blobs = one_more are.blobs name bytes;
         contents = ap (λ contents. contents ++ content_of blob ∷ []) are.contents ∙ sym (map-append content_of are.blobs (blob ∷ []));
         ascend = ascends-more content_cmp told (content_of blob) are.ascend
-            (all_pass (λ (content : Content). is_lt (digest_cmp content.name name)) told (λ content h. before content.name (each_asked content h)));
-        asked = All-push (λ (content : Content). Contains (names ++ name ∷ []) content.name) told (content_of blob) (λ k d inside. still_asked _ (are.asked k d inside))
+            (all_pass (λ (content : BlobInfo). is_lt (digest_cmp content.name name)) told (λ content h. before content.name (each_asked content h)));
+        asked = All-push (λ (content : BlobInfo). Contains (names ++ name ∷ []) content.name) told (content_of blob) (λ k d inside. still_asked _ (are.asked k d inside))
             (Contains-append_right names (name ∷ []) name (Contains-In name (name ∷ []) (inl refl)));
         each = λ other inside. elim (Contains-push_cases names name other inside) [
           | inl earlier ↦ subst (may_be other) (sym (others_stay are.blobs name bytes other (λ same. apart other name (before other earlier) (sym same)))) (are.each other earlier)
@@ -143,7 +143,7 @@ ascends_front (x ∷ xs) ys up =
     let parts = both {a = list_all (λ later. is_lt (digest_cmp x later)) (xs ++ ys)} {b = ascends digest_cmp (xs ++ ys)} up in
     rw ((list_all-front (λ later. is_lt (digest_cmp x later)) xs ys parts.0).0) (ascends_front xs ys parts.1)
 
-module _ (may_be : List ℕ → Option (List ℕ) → Type 0) (names : List (List ℕ)) (place : ℕ) (name : List ℕ) (told : List Content) (up : ascends digest_cmp names ≡ true) (inside : place < length names)
+module _ (may_be : List ℕ → Option (List ℕ) → Type 0) (names : List (List ℕ)) (place : ℕ) (name : List ℕ) (told : List BlobInfo) (up : ascends digest_cmp names ≡ true) (inside : place < length names)
     (is : name ≡ get_or names place name) (are : AreTold may_be (take place names) told) where
   more : take (place + 1) names ≡ take place names ++ name ∷ []
   more = take_more names place name inside ∙ ap (λ n. take place names ++ n ∷ []) (sym is)
@@ -153,7 +153,7 @@ module _ (may_be : List ℕ → Option (List ℕ) → Type 0) (names : List (Lis
       (ascends_front (take (place + 1) names) (drop (place + 1) names) (subst (λ ns. ascends digest_cmp ns ≡ true) (sym (take-append-drop (place + 1) names)) up))
 
   -- the next name has a content
-  pub told_some : (content : Content) (is : IsToldOf name (Some content)) → may_be name is.0 → AreTold may_be (take (place + 1) names) (told ++ content ∷ [])
+  pub told_some : (content : BlobInfo) (is : IsToldOf name (Some content)) → may_be name is.0 → AreTold may_be (take (place + 1) names) (told ++ content ∷ [])
   told_some content is holds = subst (λ ns. AreTold may_be ns (told ++ content ∷ [])) (sym more) (by is.0 is.1 holds)
     where
       by : (held : Option (List ℕ)) → Some content ≡ told_of name held → may_be name held → AreTold may_be (take place names ++ name ∷ []) (told ++ content ∷ [])
@@ -171,7 +171,7 @@ module _ (may_be : List ℕ → Option (List ℕ) → Type 0) (names : List (Lis
       by (Some bytes) same holds = cc
 
 -- what is reported, whatever may be there
-pub told_anyhow : {E : Type 0} (may_be : List ℕ → Option (List ℕ) → Type 0) (names : List (List ℕ)) (result : Result (Vec Content Global) E)
+pub told_anyhow : {E : Type 0} (may_be : List ℕ → Option (List ℕ) → Type 0) (names : List (List ℕ)) (result : Result (Vec BlobInfo Global) E)
     → IfOk result (λ told. AreTold may_be names told.items) → IfOk result (λ told. AreTold anything names told.items)
 told_anyhow may_be names (Ok told) are =
     record { blobs = are.blobs; contents = are.contents; ascend = are.ascend; asked = are.asked; each = λ name inside. tt }

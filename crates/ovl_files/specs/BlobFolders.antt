@@ -3,7 +3,7 @@ use Rattle.std.specs.Prelude.{◌≡◌, ◌⊎◌, ⊤, ◌∷◌, ◌++◌, �
 use Rattle.std.specs.Option.{option_map}
 use Rattle.hex.specs.Hex.{encode_lower}
 use Rattle.ovl_inode.specs.Hexadecimal.{digest_of_text}
-use Rattle.ovl_blobs.specs.declared.contents.Content.{Content}
+use Rattle.ovl_blobs.specs.declared.contents.BlobInfo.{BlobInfo}
 use Rattle.ovl_blobs.specs.Contents.{content_of}
 
 -- the path of the blob of this digest: the folder, a slash (47) and the digest's digits
@@ -24,11 +24,11 @@ IsSpelt digest = digest_of_text (encode_lower digest) ≡ Some digest
 
 -- what is reported of the blob of this digest, where these are the bytes of its file; nothing where it
 -- has none
-abbrev pub told_of : List ℕ → Option (List ℕ) → Option Content
+abbrev pub told_of : List ℕ → Option (List ℕ) → Option BlobInfo
 told_of name held = option_map (λ bytes. content_of (record { name = name; bytes = bytes })) held
 
 -- this is reported of the blob of this digest, by some bytes of its file, or for lack of one
-abbrev pub IsToldOf : List ℕ → Option Content → Type 0
+abbrev pub IsToldOf : List ℕ → Option BlobInfo → Type 0
 IsToldOf name told = (held : Option (List ℕ)) × (told ≡ told_of name held)
 
 -- what may be under a name in a folder: of files nothing is known

@@ -2,7 +2,7 @@
 use Rattle.std.specs.Prelude.{◌≡◌, ◌≤◌, ◌==◌, ℕ, Option, Some, None, Result, Ok, Err, List, [], All, Contains, IfSome, Vec, find, reverse, slice_get, unwrap_or}
 use Rattle.std.specs.Global.{Global}
 use Rattle.std.specs.Option.{option_map}
-use Rattle.ovl_blobs.specs.declared.contents.Content.{Content}
+use Rattle.ovl_blobs.specs.declared.contents.BlobInfo.{BlobInfo}
 use Rattle.ovl_files.specs.declared.slots.Slots.{Slots}
 use Rattle.ovl_files.specs.declared.slots.Stop.{Stop}
 use Rattle.ovl_files.specs.declared.slots.Told.{Told}
@@ -15,12 +15,12 @@ told_by (Ok told) = told.items
 told_by (Err stop) = []
 
 -- what is reported of the name of this number; if several report of it, by the last
-abbrev pub told_at : List Told → ℕ → Option (Option Content)
+abbrev pub told_at : List Told → ℕ → Option (Option BlobInfo)
 told_at told number =
     option_map (λ one. one.content) (find (λ one. one.number == number) (reverse told))
 
 -- what is in the slot of this number
-abbrev pub slot_at : Slots → ℕ → Option (Option Content)
+abbrev pub slot_at : Slots → ℕ → Option (Option BlobInfo)
 slot_at slots number = unwrap_or (slice_get slots.told.items number) None
 
 -- this is reported of one of the names, by its number
@@ -37,7 +37,7 @@ IsShareOf folder names (Err stop) = IsUnread (IsInFolder folder) stop.fault
 -- what is in slots is reported of the names of their numbers
 abbrev pub AreSlotsOf : List (List ℕ) → Slots → Type 0
 AreSlotsOf names slots =
-    (number : ℕ) (content : Option Content) → slot_at slots number ≡ Some content
+    (number : ℕ) (content : Option BlobInfo) → slot_at slots number ≡ Some content
     → IsToldAmong names (record { number = number; content = content })
 
 -- a worker stopped there, and none at a lesser number

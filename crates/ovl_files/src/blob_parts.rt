@@ -4,7 +4,7 @@ ghost use Rattle.ovl_files.specs.BlobFolders.{IsToldOf};
 
 use crate::reads::ReadFault;
 use crate::regular_files::regular_length;
-use ovl_blobs::{Content, PART, content_in};
+use ovl_blobs::{BlobInfo, PART, measure};
 use ovl_inode::Digest;
 use std::alloc::{AllocError, Global};
 use std::fs;
@@ -18,11 +18,11 @@ const LEAST_PART: usize = 4096;
 /// and whether its bytes are those that the name says. It is read to its end whatever its length,
 /// in parts of at most [`PART`] bytes; no read is tried again. Nothing is given if there is nothing
 /// at the path, or something else, a link too. While a file changes it is what the reads give.
-pub fn tell_file<R: Files + AllocGlobal>(
+pub fn measure_file<R: Files + AllocGlobal>(
     rt: &R,
     path: &str,
     name: Digest,
-) -> Result<Option<Content>, ReadFault>
+) -> Result<Option<BlobInfo>, ReadFault>
     ensures { IfOk result (IsToldOf name) }
 {
     let Some(length) = file_length(rt, path)? else {
@@ -30,7 +30,7 @@ pub fn tell_file<R: Files + AllocGlobal>(
     };
     let mut file = fs::open(rt, path)?;
     let mut room = room_for_part(rt.alloc(), length)?;
-    Ok(Some(content_in(name, &mut file, &mut room)?))
+    Ok(Some(measure(name, &mut file, &mut room)?))
 }
 
 // The length of the regular file of a path, if there is one. It is asked before the file is opened,

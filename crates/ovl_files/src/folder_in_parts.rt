@@ -5,7 +5,7 @@ ghost use Rattle.ovl_names.specs.Order.{ascends};
 ghost use Rattle.ovl_blobs.specs.Blobs.{digest_cmp};
 ghost use Rattle.ovl_blobs.specs.Contents.{AreTold};
 ghost use Rattle.ovl_files.specs.Faults.{IsUnread};
-ghost use Rattle.ovl_blobs.specs.declared.contents.Content.{Content};
+ghost use Rattle.ovl_blobs.specs.declared.contents.BlobInfo.{BlobInfo};
 ghost use Rattle.ovl_files.specs.BlobFolders.{anything, IsInFolder, IsToldOf};
 ghost use Rattle.ovl_files.specs.Slots.{AreSlotsOf, IsAsSaid, IsShareOf};
 
@@ -14,7 +14,7 @@ use crate::faults::FileFault;
 use crate::reads::ReadFault;
 use crate::shared_files::SharedFiles;
 use crate::slots::{Slots, Stop, Told, joined};
-use ovl_blobs::Content;
+use ovl_blobs::BlobInfo;
 use ovl_inode::Digest;
 use std::alloc::{AllocError, Global};
 use std::fs;
@@ -27,12 +27,12 @@ use std::thread::{Threads, map_indices};
 /// a link too, or nothing is there, the name has none. Other names of the folder aren't looked at.
 /// At most as many threads read as there are workers, each the file of the next name that none has
 /// taken. The first blob, in the order of names, that can't be read is given.
-pub fn tell_blobs<R: Files + SharedFiles + AllocGlobal + Threads + Sync>(
+pub fn measure_blobs<R: Files + SharedFiles + AllocGlobal + Threads + Sync>(
     rt: &R,
     folder: &str,
     names: &[Digest],
     workers: usize,
-) -> Result<Vec<Content>, FileFault>
+) -> Result<Vec<BlobInfo>, FileFault>
     requires ascend { ascends digest_cmp names.now ≡ true }
     ensures told { IfOk result (λ told. AreTold anything names.now told.items) }
     ensures fault { IfErr result (λ fault. IsUnread (IsInFolder folder.now) fault) }
@@ -72,13 +72,13 @@ fn shares_of<R: SharedFiles + Threads + Sync>(
     let share = |_: usize| -> Result<Vec<Told>, Stop>
         requires { IsSync R.row }
         ensures { IsShareOf folder.entry.now names.entry.now result }
-    { tell_share(rt, alloc, folder, names, &next) };
+    { measure_share(rt, alloc, folder, names, &next) };
     map_indices(rt, alloc, workers.min(names.len()), &share)
 }
 
 // What one worker gives: again and again of the next name that none has taken. Where it stops, no
 // further name is taken; all before that one are by then.
-fn tell_share<R: SharedFiles>(
+fn measure_share<R: SharedFiles>(
     rt: &R,
     alloc: Global,
     folder: &str,
@@ -93,7 +93,7 @@ fn tell_share<R: SharedFiles>(
         let Some(name) = names.get(number) else {
             break;
         };
-        if let Err(fault) = tell_next(rt, alloc, folder, *name, number, &mut told) {
+        if let Err(fault) = measure_next(rt, alloc, folder, *name, number, &mut told) {
             next.store(names.len(), Ordering::Relaxed);
             return Err(Stop { number, fault });
         }
@@ -102,7 +102,7 @@ fn tell_share<R: SharedFiles>(
 }
 
 // Gives the content of the name of this number, after the others.
-fn tell_next<R: SharedFiles>(
+fn measure_next<R: SharedFiles>(
     rt: &R,
     alloc: Global,
     folder: &str,
@@ -110,12 +110,12 @@ fn tell_next<R: SharedFiles>(
     number: usize,
     told: &mut Vec<Told>,
 ) -> Result<(), FileFault>
-    ensures told { OnOk result ((content : Option Content)
+    ensures told { OnOk result ((content : Option BlobInfo)
         × ((told.new.items ≡ told.old.items ++ record { number = number; content = content } ∷ [])
         × IsToldOf name content)) }
     ensures fault { IfErr result (λ fault. IsUnread (IsInFolder folder.now) fault) }
 {
-    let content = tell_blob(rt, alloc, folder, name)?;
+    let content = measure_blob(rt, alloc, folder, name)?;
     told.push(Told { number, content })?;
     Ok(())
 }
@@ -127,7 +127,7 @@ fn contents_of<R: SharedFiles>(
     folder: &str,
     names: &[Digest],
     slots: &Slots,
-) -> Result<Vec<Content>, FileFault>
+) -> Result<Vec<BlobInfo>, FileFault>
     requires ascend { ascends digest_cmp names.now ≡ true }
     requires slots { AreSlotsOf names.now slots.now }
     ensures told { IfOk result
@@ -149,8 +149,8 @@ fn told_or_now<R: SharedFiles>(
     alloc: Global,
     folder: &str,
     name: Digest,
-    told: Option<Option<Content>>,
-) -> Result<Option<Content>, FileFault>
+    told: Option<Option<BlobInfo>>,
+) -> Result<Option<BlobInfo>, FileFault>
     requires { IfSome told (IsToldOf name) }
     ensures told { IfOk result (IsToldOf name) }
     ensures same { IfSome told (λ content. result ≡ Ok content) }
@@ -158,22 +158,22 @@ fn told_or_now<R: SharedFiles>(
 {
     match told {
         Some(content) => Ok(content),
-        None => tell_blob(rt, alloc, folder, name),
+        None => measure_blob(rt, alloc, folder, name),
     }
 }
 
 // The content of the blob of a name in a folder, if it has a file.
-fn tell_blob<R: SharedFiles>(
+fn measure_blob<R: SharedFiles>(
     rt: &R,
     alloc: Global,
     folder: &str,
     name: Digest,
-) -> Result<Option<Content>, FileFault>
+) -> Result<Option<BlobInfo>, FileFault>
     ensures told { IfOk result (IsToldOf name) }
     ensures fault { IfErr result (λ fault. IsUnread (IsInFolder folder.now) fault) }
 {
     let path = blob_path(alloc, folder, &name)?;
-    match rt.tell_shared(path.as_str(), name) {
+    match rt.measure_shared(path.as_str(), name) {
         Ok(content) => Ok(content),
         Err(fault) => Err(FileFault::unread(alloc, path.as_str(), fault)),
     }

@@ -13,9 +13,9 @@ mod slots;
 mod whole_files;
 
 pub use blob_folder::read_blobs;
-pub use blob_parts::tell_file;
+pub use blob_parts::measure_file;
 pub use faults::FileFault;
-pub use folder_in_parts::tell_blobs;
+pub use folder_in_parts::measure_blobs;
 pub use reads::{INPUT_LIMIT, ReadFault, read_all, read_expected};
 pub use shared_files::SharedFiles;
 pub use whole_files::{read_file, read_files};

@@ -3,11 +3,11 @@ ghost use Rattle.std.specs.Prelude.{◌≡◌, ◌≤◌, IfOk, MatchResult, vec
 ghost use Rattle.ovl_files.specs.BlobFolders.{IsToldOf};
 ghost use Rattle.ovl_files.specs.Faults.{IsUnread};
 
-use crate::blob_parts::tell_file;
+use crate::blob_parts::measure_file;
 use crate::faults::FileFault;
 use crate::reads::{INPUT_LIMIT, ReadFault};
 use crate::whole_files::read_file;
-use ovl_blobs::Content;
+use ovl_blobs::BlobInfo;
 use ovl_inode::Digest;
 
 /// A runtime whose files several threads may read: a bound by `Files` holds of only one thread.
@@ -18,8 +18,8 @@ pub trait SharedFiles {
             (λ bytes. vec_len bytes ≤ INPUT_LIMIT)
             (λ fault. IsUnread (λ told. told ≡ path.now) fault) };
 
-    /// What [`tell_file`] gives.
-    fn tell_shared(&self, path: &str, name: Digest) -> Result<Option<Content>, ReadFault>
+    /// What [`measure_file`] gives.
+    fn measure_shared(&self, path: &str, name: Digest) -> Result<Option<BlobInfo>, ReadFault>
         ensures { IfOk result (IsToldOf name) };
 }
 
@@ -28,7 +28,7 @@ impl SharedFiles for HostRuntime {
         read_file(self, path, expected)
     }
 
-    fn tell_shared(&self, path: &str, name: Digest) -> Result<Option<Content>, ReadFault> {
-        tell_file(self, path, name)
+    fn measure_shared(&self, path: &str, name: Digest) -> Result<Option<BlobInfo>, ReadFault> {
+        measure_file(self, path, name)
     }
 }

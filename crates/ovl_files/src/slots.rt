@@ -7,7 +7,7 @@ ghost use Rattle.ovl_files.specs.declared.slots.Stop.{Stop};
 ghost use Rattle.ovl_files.specs.Slots.{AreSlotsOf, IsFirstStop, IsShareOf, IsToldAmong, slot_at, told_at, told_by};
 
 use crate::faults::FileFault;
-use ovl_blobs::Content;
+use ovl_blobs::BlobInfo;
 use ovl_inode::Digest;
 use std::alloc::{AllocError, Global};
 use thiserror::Error;
@@ -16,7 +16,7 @@ use thiserror::Error;
 #[derive(Clone, Copy, Debug)]
 pub struct Told {
     pub number: usize,
-    pub content: Option<Content>,
+    pub content: Option<BlobInfo>,
 }
 
 /// Why a worker stopped, at the name of this number.
@@ -31,7 +31,7 @@ pub struct Stop {
 /// given is empty.
 #[derive(Drop)]
 pub struct Slots {
-    told: Vec<Option<Option<Content>>>,
+    told: Vec<Option<Option<BlobInfo>>>,
 }
 
 impl Slots {
@@ -62,7 +62,7 @@ impl Slots {
     }
 
     /// What is in the slot of this number, if anything is there.
-    pub fn get(&self, number: usize) -> Option<Option<Content>>
+    pub fn get(&self, number: usize) -> Option<Option<BlobInfo>>
         ensures { result ≡ slot_at self.now number }
     {
         match self.told.get(number) {

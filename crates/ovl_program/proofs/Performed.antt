@@ -6,7 +6,7 @@ use Rattle.ovl_layer.specs.Layers.{Entries}
 use Rattle.ovl_manifest.specs.Text.{manifest_text}
 use Rattle.ovl_lookup.specs.Stacks.{StackView}
 use Rattle.ovl_check.specs.Findings.{findings}
-use Rattle.ovl_blobs.specs.declared.contents.Content.{Content}
+use Rattle.ovl_blobs.specs.declared.contents.BlobInfo.{BlobInfo}
 use Rattle.ovl_blobs.specs.Contents.{AreTold, contents_ascend, contents_of}
 use Rattle.ovl_commands.specs.Commands.{checks}
 use Rattle.ovl_check.specs.declared.findings.Finding.{Finding}
@@ -182,7 +182,7 @@ undigested_memory blobs DataLayers failed = absurd failed
 -- ---- what is known of blobs
 
 -- contents that are reported of the files of a folder
-pub told_contents : (command : Command) (from : Option (String Global)) (folder : String Global) → from ≡ Some folder → (stack : StackView) (held : List BlobView) (names : List (List ℕ)) (contents : List Content)
+pub told_contents : (command : Command) (from : Option (String Global)) (folder : String Global) → from ≡ Some folder → (stack : StackView) (held : List BlobView) (names : List (List ℕ)) (contents : List BlobInfo)
     → AreAsked command stack names → AreTold anything names contents → AreContentsFor command (IsKnownIn from stack held) contents
 told_contents command from folder is stack held names contents asked told = record {
   blobs = told.blobs;
@@ -193,7 +193,7 @@ told_contents command from folder is stack held names contents asked told = reco
 }
 
 -- contents of blobs that are held
-pub held_contents : (command : Command) (from : Option (String Global)) → from ≡ None → (stack : StackView) (held : List BlobView) (contents : List Content)
+pub held_contents : (command : Command) (from : Option (String Global)) → from ≡ None → (stack : StackView) (held : List BlobView) (contents : List BlobInfo)
     → (checks command ≡ true → contents_of held ≡ contents) → (of : List BlobView) × (contents_of of ≡ contents) → contents_ascend contents ≡ true
     → AreContentsFor command (IsKnownIn from stack held) contents
 held_contents command from is stack held contents same some ascend = record {
@@ -206,7 +206,7 @@ held_contents command from is stack held contents same some ascend = record {
 
 -- ---- what comes of a line's task
 
-pub answered_for : (line : Line) (request : Request) (task : Task) (stack : StackView) (contents : List Content) (result : Result Answer EngineFault)
+pub answered_for : (line : Line) (request : Request) (task : Task) (stack : StackView) (contents : List BlobInfo) (result : Result Answer EngineFault)
     → request.what ≡ command_of task → request.left ≡ left_of task → IsAccepted request → stack ≡ stack_of request
     → (known : AreContentsFor (command_of task) (IsKnownIn (folder_in_parts line) stack request.blobs) contents)
     → ((blobs : List BlobView) → (checks (command_of task) ≡ true → contents_of blobs ≡ contents) → IsRunOf (command_of task) (left_of task) stack blobs refuses_nothing result)

@@ -3,7 +3,7 @@ use Rattle.std.specs.Prelude.{◌≡◌, ◌⊎◌, if◌then◌else◌, ℕ, tr
 use Rattle.std.specs.Global.{Global}
 use Rattle.std.specs.Io.KnownBytes.{Keeps}
 use Rattle.ovl_lookup.specs.Stacks.{StackView}
-use Rattle.ovl_blobs.specs.declared.contents.Content.{Content}
+use Rattle.ovl_blobs.specs.declared.contents.BlobInfo.{BlobInfo}
 use Rattle.ovl_blobs.specs.Blobs.{BlobView, are_in_order}
 use Rattle.ovl_blobs.specs.Contents.{contents_ascend, contents_of}
 use Rattle.ovl_commands.specs.Commands.{checks}
@@ -73,7 +73,7 @@ IsKnownIn None stack held blobs = blobs ≡ held
 -- these are the contents of blobs of which this is known, where a command checks the layers with
 -- them; their names ascend
 pub record AreContentsFor (command : Command) (known : List BlobView → Type 0)
-    (contents : List Content) : Type 0 where
+    (contents : List BlobInfo) : Type 0 where
   pub blobs : List BlobView
   pub there : checks command ≡ true → known blobs
   pub same : checks command ≡ true → contents_of blobs ≡ contents

@@ -12,7 +12,7 @@ pub use output::status::Ending;
 pub use ovl_command_line::{DEFAULT_WORKERS, Line, LineFault, line};
 pub use ovl_files::{
     FileFault, INPUT_LIMIT, ReadFault, SharedFiles, read_all, read_blobs, read_expected, read_file,
-    read_files, tell_blobs, tell_file,
+    read_files, measure_blobs, measure_file,
 };
 pub use runs::command::perform;
 pub use runs::program::run;

@@ -83,7 +83,7 @@ fn idle_rows(
     let mut place = 0;
     for number in 0..sheet.len() {
         if is_directory(sheet.inode(number)) {
-            tell_below(stack, number, &parcels[place].out, &mut idle);
+            mark_below(stack, number, &parcels[place].out, &mut idle);
             place += 1;
         }
     }
@@ -92,7 +92,7 @@ fn idle_rows(
 
 // Tells of the rows directly below a directory's whether their entries are idle, by what the
 // directory put out.
-fn tell_below(stack: &Stack, directory: u32, names: &[(Name, bool)], idle: &mut Vec<bool>)
+fn mark_below(stack: &Stack, directory: u32, names: &[(Name, bool)], idle: &mut Vec<bool>)
     requires inside { directory < length (top_layer stack.now) }
     requires names { names.now ≡ names_told stack.now directory }
     requires count { length idle.old.items ≡ length (top_layer stack.now) }

@@ -14,9 +14,9 @@ use crate::output::report::write_report;
 use crate::output::status::Ending;
 use ovl_command_line::Line;
 use ovl_engine::{
-    Answer, Blob, Command, Content, EngineFault, Prepared, Task, answer, digest_blobs, prepare,
+    Answer, Blob, Command, BlobInfo, EngineFault, Prepared, Task, answer, digest_blobs, prepare,
 };
-use ovl_files::{FileFault, SharedFiles, read_blobs, read_files, tell_blobs};
+use ovl_files::{FileFault, SharedFiles, read_blobs, read_files, measure_blobs};
 use ovl_pool::OpenGate;
 use std::io::Write;
 use std::rt::Files;
@@ -107,7 +107,7 @@ fn contents_for<R: Files + SharedFiles + AllocGlobal + Threads + Wait + Sync>(
     line: &Line,
     prepared: &Prepared,
     blobs: &[Blob],
-) -> Result<Vec<Content>, ProgramFault>
+) -> Result<Vec<BlobInfo>, ProgramFault>
     requires number { (0 < line.now.workers) × (line.now.workers ≤ worker_limit) }
     requires ascend { are_in_order (blob_views blobs.now) ≡ true }
     ensures known { IfOk result (λ contents. AreContentsFor (command_of prepared.now.task)
@@ -119,7 +119,7 @@ fn contents_for<R: Files + SharedFiles + AllocGlobal + Threads + Wait + Sync>(
     match folder_in_parts(line) {
         Some(folder) => {
             let names = prepared.wanted_names(alloc)?;
-            Ok(tell_blobs(
+            Ok(measure_blobs(
                 rt,
                 folder.as_str(),
                 &names,

@@ -9,7 +9,7 @@ use Rattle.ovl_lookup.specs.Words.{top_layer}
 use Rattle.ovl_lookup.proofs.LawsOfLooks.{top-layer}
 use Rattle.ovl_vacuum.specs.Directories.{IdleName, idle_name}
 use Rattle.ovl_vacuum.proofs.RowLemmas.{ToldExcept, except-all, except-next, except-none, drop-first}
-use Rattle.ovl_vacuum.proofs.finish.tell_below.Goals as goal
+use Rattle.ovl_vacuum.proofs.finish.mark_below.Goals as goal
 
 pub loop-row-init : goal.loop-row-init
 loop-row-init c =

@@ -2,7 +2,7 @@ use Rattle.std.proofs.lemmas.Result.{err_from_is_err_and}
 use Rattle.ovl_files.specs.Slots.{IsAsSaid}
 use Rattle.ovl_files.proofs.SlotLemmas.{first_unread}
 use Rattle.ovl_files.proofs.Telling.{told_anyhow}
-use Rattle.ovl_files.proofs.folder_in_parts.tell_blobs.Goals as goal
+use Rattle.ovl_files.proofs.folder_in_parts.measure_blobs.Goals as goal
 
 pub returns-in_err-slots-clause-fault : goal.returns-in_err-slots-clause-fault
 returns-in_err-slots-clause-fault g c =

@@ -5,7 +5,7 @@ use Rattle.ovl_layer.specs.RowsBelow.{LiesBelow}
 use Rattle.ovl_lookup.specs.Words.{top_layer}
 use Rattle.ovl_vacuum.specs.Directories.{idle_name}
 use Rattle.ovl_vacuum.proofs.RowLemmas.{ToldExcept}
-use Rattle.ovl_vacuum.proofs.finish.tell_below.Given as goal
+use Rattle.ovl_vacuum.proofs.finish.mark_below.Given as goal
 
 -- the names from this place on are those of the rows that are left
 abbrev pub invariant-loop-row : goal.invariant-loop-row
