@@ -31,7 +31,7 @@ impl Named for BlobInfo {
     }
 }
 
-// Where those of each first byte begin among elements whose names ascend, and where all end.
+// Where the elements of each first byte begin among elements whose names ascend, and where all end.
 type Starts = [usize; 257];
 
 /// Elements whose names ascend strictly, each sought among those of its name's first byte.
@@ -44,7 +44,7 @@ pub(crate) struct ByName<'a, T: Named> {
 }
 
 impl<'a, T: Named> ByName<'a, T> {
-    /// These elements, to be found by their names.
+    /// An index by name of elements whose names ascend strictly.
     pub(crate) fn of(elements: &'a [T]) -> ByName<'a, T>
         requires { names_ascend T.name_of elements.now ≡ true }
         ensures { result.elements.now ≡ elements.now }
@@ -80,7 +80,7 @@ fn starts_of<T: Named>(elements: &[T]) -> Starts
     starts
 }
 
-/// Where those of this first byte begin.
+/// Where the elements whose names have this first byte begin.
 pub(crate) fn start_in<T: Named>(elements: &[T], byte: usize) -> usize
     requires { names_ascend T.name_of elements.now ≡ true }
     ensures { IsStart T.name_of elements.now byte result }

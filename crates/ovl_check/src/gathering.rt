@@ -138,7 +138,8 @@ fn rope_of<'a>(alloc: Global, path: &'a Path) -> Result<PathRope<'a>, AllocError
     PathRope::of(alloc, &path.names())
 }
 
-// The same at a path where the layers below aren't hidden.
+// The old place of a moved directory of layer `i`, by its path, at which the layers below aren't
+// hidden.
 fn open_place<'a>(
     alloc: Global,
     stack: &'a Stack,

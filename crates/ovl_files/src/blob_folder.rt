@@ -88,7 +88,7 @@ fn blobs_of<R: SharedFiles + Threads + Sync>(
     Ok(held)
 }
 
-// The same, by this thread.
+// The blobs of these files of a folder, in their order, read by this thread.
 fn read_share<R: SharedFiles>(
     rt: &R,
     alloc: Global,

@@ -46,7 +46,7 @@ pub fn measure_blobs<R: Files + SharedFiles + AllocGlobal + Threads + Sync>(
     contents_of(rt, alloc, folder, names, &slots)
 }
 
-// That the path leads to a folder.
+// Fails if the path doesn't lead to a folder.
 fn find_folder(files: &impl Files, path: &str) -> Result<(), ReadFault> {
     // Made by hand (1): what leads to no folder isn't one.
     if fs::metadata(files, path)?.is_dir() {
@@ -56,8 +56,9 @@ fn find_folder(files: &impl Files, path: &str) -> Result<(), ReadFault> {
     }
 }
 
-// What the workers give of these names, each of those that it takes; no more of them than there are
-// names. Each has a share, in a thread of its own where it isn't the last.
+// Starts the workers, at most one for each name, and gives the share of each: a `Told` for each
+// name that it takes, with the content of its blob, or only a `Stop`, with the number of the name
+// whose blob it can't read, and the fault. Each but the last has a thread of its own.
 fn shares_of<R: SharedFiles + Threads + Sync>(
     rt: &R,
     alloc: Global,

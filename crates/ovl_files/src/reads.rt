@@ -49,8 +49,8 @@ pub fn read_all<R: Read>(alloc: Global, reader: &mut R, limit: usize) -> Result<
     read_through(reader, &mut [0; ROOM], Vec::new(alloc), limit)
 }
 
-/// The same, with room made at once for the bytes that are expected, so that they aren't copied as
-/// more come; there may be fewer or more.
+/// All that a reader gives up to its end, as by [`read_all`]. Room is made at once for the bytes
+/// that are expected, so that they aren't copied as more come; there may be fewer or more.
 pub fn read_expected<R: Read>(
     alloc: Global,
     reader: &mut R,

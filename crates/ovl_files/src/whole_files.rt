@@ -31,7 +31,7 @@ pub fn read_file<R: Files + AllocGlobal>(
     }
 }
 
-// The same, with a fault that doesn't name the file.
+// The bytes of a file, as `read_file` gives them, with a fault that doesn't name the file.
 fn read_bytes<R: Files + AllocGlobal>(
     rt: &R,
     path: &str,
@@ -111,7 +111,8 @@ fn read_by<R: SharedFiles + Threads + Sync>(
     Ok(files)
 }
 
-// The same, by this thread. Nothing is read after the first file that can't be read.
+// The bytes of each of these files, read by this thread. Nothing is read after the first file that
+// can't be read.
 fn read_share<R: SharedFiles>(
     rt: &R,
     alloc: Global,

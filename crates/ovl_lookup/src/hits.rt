@@ -30,7 +30,7 @@ pub(crate) struct Hit<'v, 'a> {
 pub(crate) enum Search<'v, 'a> {
     /// In the layers from one on, by the walks of a path.
     Walks(usize, PathRope<'a>),
-    /// The same by the path of an absolute redirect.
+    /// In the layers from one on, by the walks of an absolute redirect's path.
     Origin(usize, &'a Path),
     /// At a name in the directories of these places of a view.
     Rows(&'v [DirPlace], &'a Name),

@@ -129,14 +129,14 @@ pub(crate) fn lacks_contents(inode: &Inode) -> bool
     matches!(&inode.kind, Kind::File { .. }) && inode.attrs.get(overlay::METACOPY).is_some()
 }
 
-/// Whether this is the mark of a metacopy file whose redirect is absent or well formed.
+/// Whether the mark is that of a metacopy file whose redirect is absent or well formed.
 pub fn is_well_formed_metacopy(mark: &Mark) -> bool
     ensures { result ≡ is_metacopy_mark mark.now }
 {
     matches!(mark, Mark::Meta(_))
 }
 
-/// Whether this is the mark of a moved directory.
+/// Whether the mark is that of a moved directory.
 pub fn is_moved(mark: &Mark) -> bool
     ensures { result ≡ sound.is_moved (Some mark.now) }
 {

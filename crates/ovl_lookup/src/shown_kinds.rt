@@ -9,7 +9,7 @@ ghost use Rattle.ovl_lookup.specs.ShownKinds.{shown_kind_of, shown_kind_of_kind}
 use crate::hits::Hit;
 use ovl_inode::Kind;
 
-/// Of what kind it is that a stack shows at a path.
+/// The kind of what a stack shows at a path.
 #[derive(Clone, Copy, Debug)]
 pub enum ShownKind {
     /// Nothing is shown.
@@ -34,7 +34,7 @@ impl ShownKind {
         }
     }
 
-    // That of an inode of this kind.
+    // The kind of what is shown of an inode of this kind.
     fn of(kind: &Kind) -> ShownKind
         ensures { result ≡ shown_kind_of_kind kind.now }
     {

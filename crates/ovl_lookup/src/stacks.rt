@@ -36,7 +36,7 @@ pub enum StackFault {
     /// Out of memory.
     #[error("out of memory")]
     Memory,
-    /// All of them would be data-only.
+    /// All layers would be data-only.
     #[error("data layers must leave a layer")]
     DataCount,
 }
@@ -238,7 +238,8 @@ impl Stack {
         follow(alloc, self.any_sheet(i), rope)
     }
 
-    /// The same, with the path for the layer below only if marks turn it, see [`OwnStep::at`].
+    /// The walk of a rope in layer `i`, with the path for the layer below only if marks turn it,
+    /// see [`OwnStep::at`]; `i` is below the number of layers. Fails only when out of memory.
     pub fn own_step<'a>(
         &'a self,
         alloc: Global,
@@ -293,7 +294,8 @@ impl Stack {
         look_of(alloc, self, first)
     }
 
-    /// Of what kind that is, with nothing copied. Fails only when out of memory.
+    /// The kind of what the layers with index `from` and up show at a path, as [`Stack::look`]
+    /// finds it, with nothing copied. Fails only when out of memory.
     pub fn shown_kind<'a>(
         &'a self,
         alloc: Global,
@@ -438,7 +440,7 @@ impl Stack {
     }
 }
 
-// Whether this many layers are no stack.
+// Whether this many layers are too few or too many for a stack.
 fn is_outside(number: usize) -> bool
     ensures { IsTrue result ↔ ((number ≡ 0) ⊎ (layer_limit < number)) }
 {

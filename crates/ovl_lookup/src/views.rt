@@ -84,7 +84,8 @@ impl<'a> DirView<'a> {
         DirView::at(alloc, stack, from, rope)
     }
 
-    /// The same of the path of a rope.
+    /// The view of the path of a rope in the merged tree of the layers with index `from` and up,
+    /// and `None` if they show no directory there, see [`DirView::of`].
     pub fn at(
         alloc: Global,
         stack: &'a Stack,
@@ -182,7 +183,7 @@ impl<'a> DirView<'a> {
         Ok(look)
     }
 
-    /// Of what kind that is, with nothing copied; takes no memory.
+    /// The kind of what is shown at a name in this directory, with nothing copied; takes no memory.
     pub fn shown_kind(&self, stack: &Stack, name: &Name) -> ShownKind
         requires { IsViewOver stack.now self.now }
         ensures { result

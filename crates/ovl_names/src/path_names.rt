@@ -80,7 +80,7 @@ impl<'a> Names<'a> {
         self.text.is_empty()
     }
 
-    /// The same names, apart from these.
+    /// A copy of the names that are left; taking names from it leaves these as they are.
     pub fn rest(&self) -> Names<'a>
         ensures value { result ≡ self.now }
         ensures names { IsTrue (has_names self.now) }
@@ -91,7 +91,7 @@ impl<'a> Names<'a> {
         }
     }
 
-    /// Those after the first `count` names.
+    /// The names after the first `count`, and none where there are no more.
     pub fn after(&self, count: usize) -> Names<'a>
         ensures { result ≡ drop count self.now }
     {
@@ -131,7 +131,7 @@ impl<'a> Names<'a> {
         Some((last, above))
     }
 
-    /// Whether these names begin with those.
+    /// Whether the names begin with those of `front`.
     pub fn starts_with(&self, front: &Names<'_>) -> bool
         ensures { result ≡ starts_with name_eq self.now front.now }
     {

@@ -150,7 +150,7 @@ struct Remainder {
 }
 
 impl Remainder {
-    // That of only the root, which stays.
+    // The remainder of only the root, which stays.
     fn of_root(alloc: Global, stack: &Stack) -> Result<Remainder, AllocError>
         ensures { IfOk result (IsLeftTo stack.now 1) }
     {
@@ -162,7 +162,7 @@ impl Remainder {
         })
     }
 
-    // The same with the entry of the next row, which stays.
+    // The remainder with the entry of the next row too, which stays.
     fn with_row(self, alloc: Global, stack: &Stack, number: u32) -> Result<Remainder, AllocError>
         requires some { 1 ≤ number }
         requires inside { number < length (top_layer stack.now) }
@@ -202,8 +202,8 @@ fn begun(alloc: Global, root: Inode) -> Result<LayerBuilder, AllocError>
     }
 }
 
-// The builder with the entry `name` of a directory, after this many others. This too fails only
-// when out of memory.
+// The builder with the entry `name` of a directory, after this many others. Fails only when out of
+// memory.
 fn with_child(
     alloc: Global,
     builder: LayerBuilder,
