@@ -19,8 +19,8 @@ pub use findings::{Code, Finding};
 pub use finish::finish_check;
 pub use lower_paths::LowerPath;
 pub use ovl_blobs::{
-    BLOB_LIMIT, BLOB_SPACE, Blob, BlobWork, BlobInfo, PART, PartFault, blobs_in_order, measure,
-    contents_held, finish_blobs,
+    BLOB_LIMIT, BLOB_SPACE, Blob, BlobInfo, BlobWork, PART, PartFault, blobs_in_order,
+    contents_held, finish_blobs, measure,
 };
 pub use stated_blobs::stated_names;
 pub use work::{CheckOut, CheckWork};

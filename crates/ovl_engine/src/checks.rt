@@ -18,7 +18,7 @@ use crate::faults::EngineFault;
 use crate::teams::WorkerTeam;
 use ovl_board::Parcel;
 use ovl_check::laws::{findings_need_contents, findings_tell_soundness};
-use ovl_check::{CheckOut, CheckWork, BlobInfo, Finding, finish_check};
+use ovl_check::{BlobInfo, CheckOut, CheckWork, Finding, finish_check};
 use ovl_lookup::Stack;
 use ovl_pool::Gate;
 use std::sync::Wait;

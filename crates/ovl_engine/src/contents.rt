@@ -11,7 +11,7 @@ use crate::faults::EngineFault;
 use crate::preparations::Prepared;
 use crate::tasks::checks;
 use crate::teams::WorkerTeam;
-use ovl_check::{BLOB_SPACE, Blob, BlobWork, BlobInfo, contents_held, finish_blobs};
+use ovl_check::{BLOB_SPACE, Blob, BlobInfo, BlobWork, contents_held, finish_blobs};
 use ovl_inode::Digest;
 use ovl_pool::Gate;
 use std::alloc::Global;

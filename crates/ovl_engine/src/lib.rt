@@ -26,7 +26,7 @@ pub use commands::command;
 pub use contents::digest_blobs;
 pub use faults::EngineFault;
 pub use manifests::Manifests;
-pub use ovl_check::{BLOB_LIMIT, Blob, Code, BlobInfo, Finding};
+pub use ovl_check::{BLOB_LIMIT, Blob, BlobInfo, Code, Finding};
 pub use ovl_commands::{Answer, Command};
 pub use ovl_reports::{EmitFault, ShowWork, emit};
 pub use preparations::{Prepared, prepare};

@@ -11,8 +11,8 @@ pub use output::hand_out::{OutFault, hand_out};
 pub use output::status::Ending;
 pub use ovl_command_line::{DEFAULT_WORKERS, Line, LineFault, line};
 pub use ovl_files::{
-    FileFault, INPUT_LIMIT, ReadFault, SharedFiles, read_all, read_blobs, read_expected, read_file,
-    read_files, measure_blobs, measure_file,
+    FileFault, INPUT_LIMIT, ReadFault, SharedFiles, measure_blobs, measure_file, read_all,
+    read_blobs, read_expected, read_file, read_files,
 };
 pub use runs::command::perform;
 pub use runs::program::run;

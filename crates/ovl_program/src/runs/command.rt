@@ -14,9 +14,9 @@ use crate::output::report::write_report;
 use crate::output::status::Ending;
 use ovl_command_line::Line;
 use ovl_engine::{
-    Answer, Blob, Command, BlobInfo, EngineFault, Prepared, Task, answer, digest_blobs, prepare,
+    Answer, Blob, BlobInfo, Command, EngineFault, Prepared, Task, answer, digest_blobs, prepare,
 };
-use ovl_files::{FileFault, SharedFiles, read_blobs, read_files, measure_blobs};
+use ovl_files::{FileFault, SharedFiles, measure_blobs, read_blobs, read_files};
 use ovl_pool::OpenGate;
 use std::io::Write;
 use std::rt::Files;
@@ -119,12 +119,7 @@ fn contents_for<R: Files + SharedFiles + AllocGlobal + Threads + Wait + Sync>(
     match folder_in_parts(line) {
         Some(folder) => {
             let names = prepared.wanted_names(alloc)?;
-            Ok(measure_blobs(
-                rt,
-                folder.as_str(),
-                &names,
-                line.workers,
-            )?)
+            Ok(measure_blobs(rt, folder.as_str(), &names, line.workers)?)
         }
         None => Ok(digest_blobs(rt, alloc, prepared, blobs, line.workers, &OpenGate)?),
     }
