@@ -33,7 +33,7 @@ struct Measured {
 
 /// The content of the blob of a name whose bytes are all that a reader gives up to its end, read in
 /// parts that fill this room at most; rooms of [`PART`] bytes serve. No read is tried again, and
-/// the first fault that is met is given. Where more than 2^64 - 1 bytes come, that is a fault.
+/// the first fault that is met is given. If more than 2^64 - 1 bytes come, that is a fault.
 /// Takes no memory. FIPS 180-4.
 pub fn measure<R: Read>(
     name: Digest,

@@ -68,7 +68,7 @@ fn found_in(
     Ok(found)
 }
 
-// Adds the outputs of all directories. Where these are in the order of a walk, what is found in a
+// Adds the outputs of all directories. If these are in the order of a walk, what is found in a
 // directory is among what is found below it, in path order.
 fn push_outputs(
     alloc: Global,

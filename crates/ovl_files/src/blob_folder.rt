@@ -29,7 +29,7 @@ use std::thread::{Threads, map_chunks};
 /// The blobs of a folder, ascending by name, each name once: its regular files whose names are
 /// digests. Other names are passed over, and so is what isn't a regular file itself, a link too. A
 /// folder whose listing fails can't be read, nor one with a name that isn't UTF-8. A blob has at
-/// most [`INPUT_LIMIT`] bytes. Where all have more than [`BLOB_LIMIT`], so that no command takes
+/// most [`INPUT_LIMIT`] bytes. If all have more than [`BLOB_LIMIT`], so that no command takes
 /// them, each is read, but those after the first that goes over it are given without bytes. At most
 /// as many threads read them as there are workers, a single one where all are said to have more
 /// than the limit.

@@ -77,7 +77,7 @@ fn shares_of<R: SharedFiles + Threads + Sync>(
     map_indices(rt, alloc, workers.min(names.len()), &share)
 }
 
-// What one worker gives: again and again of the next name that none has taken. Where it stops, no
+// What one worker gives: again and again of the next name that none has taken. If it stops, no
 // further name is taken; all before that one are by then.
 fn measure_share<R: SharedFiles>(
     rt: &R,

@@ -139,7 +139,7 @@ impl From<io::Error> for ReadFault {
     ghost from_gives = { λ error fault. (fault ≢ TooLong)
         × ((fault ≡ Memory) ↔ ((raw_os_error error ≡ None) × (error_kind error ≡ OutOfMemory))) };
 
-    // Where the system itself is out of memory, that is the device's fault.
+    // If the system itself is out of memory, that is the device's fault.
     fn from(error: io::Error) -> ReadFault {
         if error.raw_os_error().is_none() && error.kind() == ErrorKind::OutOfMemory {
             ReadFault::Memory

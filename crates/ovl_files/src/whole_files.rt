@@ -62,7 +62,7 @@ pub fn share_of(files: usize, threads: usize) -> usize
 }
 
 /// The bytes of each of these files, in their order, read by at most as many threads as there are
-/// workers. Where one is no regular file they are read one after another, since what a pipe gives
+/// workers. If one is no regular file they are read one after another, since what a pipe gives
 /// goes to whoever reads it first. The first that can't be read is reported.
 pub fn read_files<R: Files + SharedFiles + AllocGlobal + Threads + Sync>(
     rt: &R,

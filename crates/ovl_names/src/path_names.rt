@@ -145,7 +145,7 @@ impl<'a> Names<'a> {
     }
 
     /// Compares these names with others from the last ones on until two differ, and gives how these
-    /// two are to each other. Where none do, both lists lose as many names at their ends as the
+    /// two are to each other. If none do, both lists lose as many names at their ends as the
     /// shorter has, and the answer is `Equal`.
     pub fn compare_ends<'b>(&mut self, other: &mut Names<'b>) -> Ordering
         ensures order { OrdersEnds self.old other.old self.new other.new result }

@@ -24,7 +24,7 @@ use std::sync::Wait;
 use std::thread::Threads;
 
 /// Does what a line asks for: reads its layers and then its blobs, and writes the new layers and
-/// then the report. Where it asks for blobs of any size, those that the layers name are read in
+/// then the report. If it asks for blobs of any size, those that the layers name are read in
 /// parts once all else is tested that is before any work. Nothing is written where a file or a
 /// folder isn't read, or the command gives no answer; if it is refused for faults, only their
 /// report is written. What files hold is what their reads give; of a file that changes nothing more
