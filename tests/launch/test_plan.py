@@ -1,4 +1,4 @@
-"""Tests of what the launcher says of the time that is left."""
+"""How many jobs the launcher gives a proof, and what it says of the time that is left."""
 
 import sys
 import unittest
@@ -8,11 +8,24 @@ sys.path.insert(0, str(Path(__file__).resolve().parents[2] / "launch"))
 
 from crates import Crate  # noqa: E402
 from forecast import Forecast  # noqa: E402
+from prove import jobs_of  # noqa: E402
 
 
 def crate(length: int, chain: int) -> Crate:
     """A crate of so many lines."""
     return Crate("c", "c:", (), length, chain)
+
+
+class Jobs(unittest.TestCase):
+    """The jobs of a proof."""
+
+    def test_jobs(self) -> None:
+        for places, count, longest, wanted in (
+            (4, 1, True, 4), (4, 2, True, 4), (4, 2, False, 2), (4, 4, True, 2), (4, 4, False, 1),
+            (1, 1, True, 1), (2, 2, True, 2), (2, 2, False, 1), (16, 2, True, 4), (16, 16, False, 1),
+        ):
+            with self.subTest(places=places, count=count, longest=longest):
+                self.assertEqual(jobs_of(places, count, longest), wanted)
 
 
 class Left(unittest.TestCase):
