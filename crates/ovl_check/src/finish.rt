@@ -249,7 +249,7 @@ fn note_place<'p, 'a>(
     Ok(())
 }
 
-// Where a directory goes on, if it is moved or goes on at one of these places.
+// Where a directory goes on, if it is itself moved, or if that is one of these places.
 fn place_among<'p, 'a>(
     parcel: &'p Parcel<CheckOut<'a>>,
     places: &BTreeSet<LowerPathRef<'p, 'a>>,

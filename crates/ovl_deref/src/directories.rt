@@ -45,7 +45,8 @@ enum OwnPlace {
     Absent,
 }
 
-// What the topmost layer has at the path of a directory, by one walk.
+// What the topmost layer has at the path of a directory, by one walk: the first name on it that is
+// missing or moved decides, or else the row at its end, of whatever kind.
 fn own_place(stack: &Stack, dir: &Path) -> OwnPlace
     ensures { IsOwnPlace (top_layer stack.now) dir.now result }
 {

@@ -242,8 +242,8 @@ impl<'a> OwnDirectory<'a> {
         })
     }
 
-    // What is at a name in this directory, which lies so deep, by the number of its row: a
-    // directory or something else.
+    // The walk one name further: from this directory, whose path has `depth` names, to a row
+    // directly in it, of a directory or of something else.
     fn enter(
         self,
         alloc: Global,

@@ -18,7 +18,8 @@ use std::sync::Wait;
 use std::thread::Threads;
 
 /// Writes the report of `show` over the one layer that a reader's manifest states, by
-/// [`DEFAULT_WORKERS`]. Nothing is written where the input isn't read or the layer has no report.
+/// [`DEFAULT_WORKERS`]. If the input can't be read or states no layer, or the command fails, that
+/// is the fault, and nothing is written.
 pub fn show_input<H: Threads + Wait + Sync + Files + AllocGlobal, R: Read, W: Write>(
     rt: &H,
     reader: &mut R,
