@@ -59,8 +59,7 @@ class Proofs:
         self._copies = copies
         self._held = held
         self._kit = kit()
-        self._processors = len(os.sched_getaffinity(0))
-        self._places = places(self._processors)
+        self._places = places(len(os.sched_getaffinity(0)))
         self._running: dict[str, Proof] = {}
         self._left = dict(crates)
         self._failed = False
@@ -80,8 +79,9 @@ class Proofs:
         """Starts what can be proved now, the longest chain first; true if there was any."""
         ready = [] if self._failed else self._ready()
         started = ready[: self._places - len(self._running)]
+        count = len(self._running) + len(started)
         for crate in started:
-            self._running[crate.name] = self._proof(crate)
+            self._running[crate.name] = self._proof(crate, count)
         return bool(started)
 
     def _ready(self) -> list[Crate]:
@@ -89,11 +89,12 @@ class Proofs:
         ready = (it for it in waiting if not any(below in self._left for below in it.below))
         return sorted(ready, key=lambda it: -it.chain)
 
-    def _proof(self, crate: Crate) -> Proof:
+    def _proof(self, crate: Crate, count: int) -> Proof:
+        """Starts the proof of a crate, one of `count` that run."""
         folder = self._copies.make(crate.name)
         said = folder.parents[1] / "said"
         longest = all(self._crates[it].chain <= crate.chain for it in self._running)
-        jobs = jobs_of_longest(self._processors) if longest else jobs_beside(self._processors)
+        jobs = jobs_of(self._places, count, longest)
         words = ["rt", "run"] if crate.name == PROGRAM else ["rt", "lib", "--jobs", str(jobs)]
         with said.open("wb") as file, _SMALLEST.open("rb") as layer:
             process = subprocess.Popen(
@@ -162,14 +163,13 @@ def places(processors: int) -> int:
     return max(min(processors, free // _MEMORY), 1)
 
 
-def jobs_of_longest(processors: int) -> int:
-    """How many jobs the proof of the longest chain gets."""
-    return min(places(processors), _JOBS)
+def jobs_of(places: int, count: int, longest: bool) -> int:
+    """How many jobs a proof gets that is one of `count`: its share, or two if it is of the longest chain.
 
-
-def jobs_beside(processors: int) -> int:
-    """How many jobs a proof gets that isn't of the longest chain."""
-    return max(min(processors // 2, _JOBS), 1)
+    Each job reads the whole crate first, so more jobs than processors cost more than they gain.
+    """
+    share = max(places // count, 1)
+    return min(2 * share if longest else share, places, _JOBS)
 
 
 def look_for_signals() -> None:

@@ -1,7 +1,7 @@
 #!/usr/bin/env python3
 """Looks whether the documents name what is there.
 
-- HEADLINE.md has every definition that is reached from the contracts of `command` and `merge_down`, beside its file.
+- HEADLINE.md has every definition that is reached from the contracts of `command` and of its parts, beside its file.
 - PROVED.md is as proved.py makes it, and has every public call of the crates.
 - Each of these definitions has a text.
 - Every function that names, in its code, a fault for being out of memory, or of reading or writing, has a comment that says
@@ -29,14 +29,14 @@ import prose
 
 TOP = Path(__file__).resolve().parent.parent
 CLAUSES = ["IsOutcome", "is_outside", "request_of", "makes_layers", "KeepsTree", "after", "stays_sound", "HasSoundStack", "stands_alone",
-           "IsQuiet", "IsOutcomeDown", "after_down"]
+           "IsQuiet", "IsOutcomeOver", "request_for", "KeepsTreeBy"]
 # The words of code that make by hand, or are matched by, a fault for being out of memory, or of reading or writing.
 MADE = (
     r"\bAllocError\b(?!\s*[>{;])|\bAllocFailed\b(?!\s*[<>{;])|Fault::Memory\b|\bOutOfMemory\b|\bUnread\b(?!\s*[>{;(])"
     r"|\bout_of_memory (?:=|: true)|\.fail\(\)"
     r"|\bReadFault::(?:Device|TooLong)\b|\bProgramFault::(?:Input|Unread|Unwritten|Output)\b|\bErr\(\w*PartFault::"
 )
-TESTS = {"ovl_test_rows", "ovl_pool_tests", "ovl_engine_tests", "ovl_program_tests", "ovl_refusal_tests"}
+TESTS = {"ovl_test_rows", "ovl_tests", "ovl_refusal_tests"}
 
 
 def crates():
@@ -124,7 +124,7 @@ def definitions_page():
     """The definitions of HEADLINE.md in its order, each once, with its file and where its rule comes from."""
     found, _ = definitions()
     seen, source = set(), ""
-    yield "The definitions that the contracts of `command` and `merge_down` reach, in the order of HEADLINE.md, which says of each what it"
+    yield "The definitions that the contracts of `command` and of its parts reach, in the order of HEADLINE.md, which says of each what it"
     yield "says and from where."
     for chapter, names, files, told in rows_of_headline():
         if chapter:
@@ -147,7 +147,7 @@ def headline():
     told = {(file, name) for _, names, files, _ in rows for file in files for name in names}
     found, taken = definitions()
     needed = reached(found, taken)
-    print(f"{len(needed)} definitions are reached from the contracts of command and merge_down")
+    print(f"{len(needed)} definitions are reached from the contracts of command and of its parts")
     for file, name in sorted(needed - told):
         yield f"HEADLINE.md lacks {name} of {file}"
     known = {name for _, name in found}
@@ -354,7 +354,7 @@ def blocks():
 def worked_stacks():
     """Whether the test of the worked stacks has the lines of stacks.txt."""
     lines = [line for line in (TOP / "examples/stacks.txt").read_text(encoding="utf-8").splitlines() if not line.startswith("#")]
-    test = TOP / "crates/ovl_engine_tests/src/stacks.rt"
+    test = TOP / "crates/ovl_tests/src/stacks.rt"
     if f'r#"\n{chr(10).join(lines).strip()}\n"#' not in test.read_text(encoding="utf-8"):
         yield f"{test.relative_to(TOP)} hasn't the lines of examples/stacks.txt: copy them"
 

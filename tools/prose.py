@@ -31,7 +31,6 @@ TURNS = {
     r"alone": "only, by itself",
     r"stands?(?= (?:at|there|in|on|before|after|between|under|among|beside|here)\b)(?! in (?:the way|a library's place))|stood|standing": "is",
     r"(?:only|except|exactly|but|else|even|save) where": "if, when",
-    r"(?:^|(?<=[.;:] ))Where (?!.*\?)": "If, When",
     r"so many": "n, as many",
     r"behind": "after",
     r"wants? (?:of )?memory|want of": "out of memory, lack of",

@@ -511,6 +511,23 @@ for how in fsck 'fsck --any-size'; do
     over='failing open ff 1 5' REFUSE_ON=1 REFUSE_WAIT=50 refuses 3 "cannot read eight/${name/#7/0}" $how --workers 8 --blobs eight eight.json
 done
 rm eight/*
+# (Of three contents two can't be read, by two workers that meet them at the same time. Which worker takes the first content is
+# by chance, so this is tried again.)
+for pair in {1,0}' 2'; do
+    entries=
+    for ((i = 0; i < 3; i++)); do
+        [[ " $pair " == *" $i "* ]] && end=ff || end=00
+        printf -v name '%d%061d%s' "$i" 0 "$end"
+        truncate -s 2000000 "eight/$name"
+        entries+=',{"blob":"'$name'","gid":0,"kind":"file","mode":420,"mtime":0,"mtime-nsec":0,"path":"/'$i'","size":1,"uid":0,"xattrs":{}}'
+    done
+    printf '{"entries":[%s%s],"overlay-layer":2}\n' "$root" "$entries" > eight.json
+    printf -v name '%d%061dff' "${pair% *}" 0
+    for ((i = 0; i < 5; i++)); do
+        over='failing open ff 1 5' REFUSE_ON=1 REFUSE_WAIT=300 refuses 3 "cannot read eight/$name" "${parts[@]}" eight --workers 2 eight.json
+    done
+    rm eight/*
+done
 # (So is the first of layers, which are there.)
 for workers in 1 2 64; do
     over='failing open .json 1 5' REFUSE_ON=1 refuses 3 'cannot read root.json' show --workers "$workers" root.json k.json meta.json

@@ -8,16 +8,17 @@ use Rattle.ovl_inode.specs.Kinds.{size_of, blob_of}
 use Rattle.ovl_layer.specs.Layers.{Entries, Entry}
 use Rattle.ovl_lookup.specs.Stacks.{StackView}
 use Rattle.ovl_lookup.proofs.LawsOfPaths.{all-first, all-rest}
-use Rattle.ovl_check.specs.declared.contents.Content.{Content}
+use Rattle.ovl_blobs.specs.declared.contents.BlobInfo.{BlobInfo}
 use Rattle.ovl_check.specs.declared.findings.Code.{Code}
 use Rattle.ovl_check.specs.declared.findings.Code.TheVariants.{BlobMissing, BlobSize, BlobDigest}
 use Rattle.ovl_check.specs.Codes.{all_codes, is_blob_fault}
-use Rattle.ovl_check.specs.Blobs.{BlobView, is_wrong}
-use Rattle.ovl_check.specs.Conditions.{find_blob, has_blob, holds}
+use Rattle.ovl_blobs.specs.Blobs.{BlobView, is_wrong, find_blob}
+use Rattle.ovl_check.specs.Conditions.{has_blob, holds}
 use Rattle.ovl_check.specs.Findings.{finding, any_code, findings_at, findings_in, data_findings_from, findings_from}
-use Rattle.ovl_check.specs.Contents.{content_of, contents_of, find_content, has_content, holds_of_contents, findings_of_contents_at, findings_of_contents_in, data_findings_of_contents_from, findings_of_contents_from, TellsOfNamed, TellsOfLayers}
+use Rattle.ovl_check.specs.Contents.{has_content, holds_of_contents, findings_of_contents_at, findings_of_contents_in, data_findings_of_contents_from, findings_of_contents_from, TellsOfNamed, TellsOfLayers}
+use Rattle.ovl_blobs.specs.Contents.{content_of, contents_of, find_content}
 use Rattle.ovl_check.specs.Laws.{FindingsNeedContents, FindingsNeedNamed}
-use Rattle.ovl_check.proofs.ListFacts.{find-map}
+use Rattle.ovl_blobs.proofs.FindLemmas.{find-content, not-not}
 
 -- ---- lists
 
@@ -33,18 +34,11 @@ flat_map-same f g same (x ∷ xs) = ap (λ ys. ys ++ flat_map f xs) (same x) ∙
 
 -- ---- the blob of a name
 
-pub not-not : (b : Bool) → not (not b) ≡ b
-not-not true = refl
-not-not false = refl
-
-pub find-content : (name : List ℕ) (blobs : List BlobView) → find_content (contents_of blobs) name ≡ option_map content_of (find_blob blobs name)
-find-content name blobs = find-map content_of (λ (content : Content). bytes_eq content.name name) blobs
-
 none-told : (found : Option BlobView) → is_none found ≡ is_none (option_map content_of found)
 none-told None = refl
 none-told (Some blob) = refl
 
-test-told : (test : BlobView → Bool) (told : Content → Bool) → ((blob : BlobView) → test blob ≡ told (content_of blob)) → (found : Option BlobView) →
+test-told : (test : BlobView → Bool) (told : BlobInfo → Bool) → ((blob : BlobView) → test blob ≡ told (content_of blob)) → (found : Option BlobView) →
     has_blob test found ≡ has_content told (option_map content_of found)
 test-told test told same None = refl
 test-told test told same (Some blob) = same blob
@@ -56,7 +50,7 @@ module _ (blobs : List BlobView) where
   missing None = refl
   missing (Some name) = none-told (find_blob blobs name) ∙ ap is_none (sym (find-content name blobs))
 
-  tested : (test : BlobView → Bool) (told : Content → Bool) → ((blob : BlobView) → test blob ≡ told (content_of blob)) → (named : Option (List ℕ)) →
+  tested : (test : BlobView → Bool) (told : BlobInfo → Bool) → ((blob : BlobView) → test blob ≡ told (content_of blob)) → (named : Option (List ℕ)) →
       (elim named as (λ _. Bool) [ Some name ↦ has_blob test (find_blob blobs name) | None ↦ false ])
       ≡ (elim named as (λ _. Bool) [ Some name ↦ has_content told (find_content (contents_of blobs) name) | None ↦ false ])
   tested test told same None = refl
@@ -103,7 +97,7 @@ flat_map-each f g P same (x ∷ xs) each =
     ap (λ ys. ys ++ flat_map f xs) (same x (all-first P x xs each))
     ∙ ap (λ ys. g x ++ ys) (flat_map-each f g P same xs (all-rest P x xs each))
 
-module _ (contents others : List Content) where
+module _ (contents others : List BlobInfo) where
   abbrev AgreeAt : Option (List ℕ) → Type 0
   AgreeAt named = MatchOption named ⊤ (λ name. find_content contents name ≡ find_content others name)
 
@@ -112,7 +106,7 @@ module _ (contents others : List Content) where
   named-missing None agree = refl
   named-missing (Some name) agree = ap is_none agree
 
-  named-tested : (test : Content → Bool) (named : Option (List ℕ)) → AgreeAt named → (elim named as (λ _. Bool) [ Some name ↦ has_content test (find_content contents name) | None ↦ false ])
+  named-tested : (test : BlobInfo → Bool) (named : Option (List ℕ)) → AgreeAt named → (elim named as (λ _. Bool) [ Some name ↦ has_content test (find_content contents name) | None ↦ false ])
       ≡ (elim named as (λ _. Bool) [ Some name ↦ has_content test (find_content others name) | None ↦ false ])
   named-tested test None agree = refl
   named-tested test (Some name) agree = ap (has_content test) agree

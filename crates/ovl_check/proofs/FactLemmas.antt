@@ -32,8 +32,9 @@ use Rattle.ovl_check.specs.declared.facts.NamedBlob.TheVariants.{Unnamed}
 use Rattle.ovl_check.specs.declared.facts.Facts.{Facts}
 use Rattle.ovl_check.specs.Codes.{all_codes, is_double}
 use Rattle.ovl_check.specs.Findings.{finding}
-use Rattle.ovl_check.specs.declared.contents.Content.{Content}
-use Rattle.ovl_check.specs.Contents.{holds_of_contents as holds, find_content, has_content, content_is_missing, content_is_of_other_size, content_is_wrong}
+use Rattle.ovl_blobs.specs.declared.contents.BlobInfo.{BlobInfo}
+use Rattle.ovl_check.specs.Contents.{holds_of_contents as holds, has_content, content_is_missing, content_is_of_other_size, content_is_wrong}
+use Rattle.ovl_blobs.specs.Contents.{find_content}
 use Rattle.ovl_check.specs.Checks.{CheckView, sought_in, layer_at, layers_below, holds_alone, findings_alone, findings_at_path}
 use Rattle.ovl_check.specs.Conditions.{is_in_opaque as is_in_opaque_at, is_in_marked, whiteout_is_orphan, whiteout_is_in_opaque, whiteout_is_unmarked, opaque_is_ignored, redirect_is_ignored, metacopy_is_ignored, whiteout_is_ignored}
 use Rattle.ovl_check.specs.Facts.{AreFacts, tells, found_at_child, thing_shown, kind_at, blob_found, blob_named, is_whiteout_mark, is_lost, is_of_wrong_kind, is_open, lacks_data, has_data_of_other_size, is_missing, is_of_other_length, is_wrong, is_orphan, is_in_opaque, is_outside_marked, is_unmarked, mark_says_nothing}
@@ -183,14 +184,14 @@ module _ (layer : Entries) (below : StackView) (path : PathNames) (inode : Inode
 
 -- ---- the blob
 
-module _ (contents : List Content) (inode : Inode) where
+module _ (contents : List BlobInfo) (inode : Inode) where
   abbrev named : Option (List ℕ) → NamedBlob
   named o = elim o as (λ _. NamedBlob) [ Some name ↦ blob_found (find_content contents name) | None ↦ Unnamed ]
 
   missing_blob : is_missing (blob_named contents inode) ≡ content_is_missing contents inode
   missing_blob = by (blob_of inode)
     where
-      found : (o : Option Content) → is_missing (blob_found o) ≡ is_none o
+      found : (o : Option BlobInfo) → is_missing (blob_found o) ≡ is_none o
       found None = refl
       found (Some blob) = refl
 
@@ -201,7 +202,7 @@ module _ (contents : List Content) (inode : Inode) where
   blob_size : is_of_other_length (blob_named contents inode) (size_of inode) ≡ content_is_of_other_size contents inode
   blob_size = by (blob_of inode)
     where
-      found : (o : Option Content) → is_of_other_length (blob_found o) (size_of inode) ≡ has_content (λ content. not (content.size == size_of inode)) o
+      found : (o : Option BlobInfo) → is_of_other_length (blob_found o) (size_of inode) ≡ has_content (λ content. not (content.size == size_of inode)) o
       found None = refl
       found (Some blob) = refl
 
@@ -212,7 +213,7 @@ module _ (contents : List Content) (inode : Inode) where
   wrong_blob : is_wrong (blob_named contents inode) ≡ content_is_wrong contents inode
   wrong_blob = by (blob_of inode)
     where
-      found : (o : Option Content) → is_wrong (blob_found o) ≡ has_content (λ content. not content.is_right) o
+      found : (o : Option BlobInfo) → is_wrong (blob_found o) ≡ has_content (λ content. not content.is_right) o
       found None = refl
       found (Some blob) = refl
 

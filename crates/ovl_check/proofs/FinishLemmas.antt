@@ -17,7 +17,7 @@ use Rattle.ovl_board.specs.Parcels.{parcel_view, parcel_views}
 use Rattle.ovl_board.proofs.LawsOfMembers.{In, In-left, In-right, In-cases}
 use Rattle.ovl_check.specs.declared.findings.Finding.{Finding}
 use Rattle.ovl_check.specs.declared.findings.Code.TheVariants.{RedirectDouble}
-use Rattle.ovl_check.specs.declared.subjects.CheckOut.{CheckOut}
+use Rattle.ovl_check.specs.declared.work.CheckOut.{CheckOut}
 use Rattle.ovl_check.specs.Findings.{finding, any_code}
 use Rattle.ovl_check.specs.Contents.{findings_of_contents_in as findings_in, data_findings_of_contents_from as data_findings_from, findings_of_contents_from as findings_from}
 use Rattle.ovl_check.specs.Codes.{is_blob_fault}

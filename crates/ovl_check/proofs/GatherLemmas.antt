@@ -27,7 +27,7 @@ use Rattle.ovl_lookup.proofs.LawsOfWalks.{walk-whole, walk-stop}
 use Rattle.ovl_lookup.proofs.LawsOfPaths.{parent_path-child, length-child}
 use Rattle.ovl_lookup.proofs.LawsOfInodes.{metacopy-file, bare_file, directory-no_whiteout, is_directory_mark}
 use Rattle.ovl_lookup.proofs.LawsOfFound.{data_of-metacopy}
-use Rattle.ovl_check.specs.declared.contents.Content.{Content}
+use Rattle.ovl_blobs.specs.declared.contents.BlobInfo.{BlobInfo}
 use Rattle.ovl_check.specs.declared.directories.CheckedDirectory.{CheckedDirectory}
 use Rattle.ovl_check.specs.declared.facts.Facts.{Facts}
 use Rattle.ovl_check.specs.declared.facts.KindFacts.{KindFacts}
@@ -36,7 +36,7 @@ use Rattle.ovl_check.specs.declared.facts.NamedBlob.{NamedBlob}
 use Rattle.ovl_check.specs.declared.facts.NamedBlob.TheVariants.{Unnamed}
 use Rattle.ovl_check.specs.Checks.{CheckView, layer_at, layers_below}
 use Rattle.ovl_check.specs.Conditions.{has_origin_at, is_opaque, is_in_opaque, is_in_marked}
-use Rattle.ovl_check.specs.Contents.{find_content}
+use Rattle.ovl_blobs.specs.Contents.{find_content}
 use Rattle.ovl_check.specs.Facts.{IsGathered, AreFacts, next_of, old_place, data_size, data_size_on, whiteout_in, whiteout_at, kind_at, blob_found, blob_named, is_whiteout_mark}
 use Rattle.ovl_check.proofs.HeldLemmas.{names_below-none, origin-children}
 use Rattle.ovl_check.proofs.MarkLemmas.{whiteout-marked, directory-marked}
@@ -113,7 +113,7 @@ module _ (layer : Entries) (directory : CheckedDirectory) (is : IsGathered layer
       by _ e d = refl
 
   -- it names no blob
-  directory-unnamed : (contents : List Content) → Unnamed ≡ blob_named contents inode
+  directory-unnamed : (contents : List BlobInfo) → Unnamed ≡ blob_named contents inode
   directory-unnamed contents = by inode.kind is.kind
     where
       by : (kind : Kind) → elim kind as (λ _. Bool) [ Dir ↦ true | _ ↦ false ] ≡ true

@@ -23,8 +23,9 @@ use Rattle.ovl_check.specs.declared.findings.Finding.{Finding}
 use Rattle.ovl_check.specs.Checks.{CheckView, layer_at, findings_alone, findings_at_path}
 use Rattle.ovl_check.specs.Conditions.{has_origin_at}
 use Rattle.ovl_check.specs.Facts.{held, held_in, child_seen, found_at_child}
-use Rattle.ovl_check.proofs.Ascent.{list_all-Every}
-use Rattle.ovl_check.proofs.ListFacts.{filter-map, any-map}
+use Rattle.ovl_blobs.proofs.Ascent.{list_all-Every}
+use Rattle.ovl_blobs.proofs.ListFacts.{filter-map}
+use Rattle.ovl_check.proofs.ListFacts.{any-map}
 use Rattle.ovl_check.proofs.LayerFacts.{below-In}
 
 -- ---- by name

@@ -16,7 +16,7 @@ use Rattle.ovl_board.specs.Pieces.{piece_in, HasLawfulKids}
 use Rattle.ovl_board.proofs.LawsOfPieces.{siblings, entries-lawful}
 use Rattle.ovl_board.proofs.LawsOfMembers.{In, Rises, All-Every, In-map-cases, In-filter-cases, Rises-filter}
 use Rattle.ovl_check.specs.Checks.{CheckView, layer_at, check_kids}
-use Rattle.ovl_check.proofs.Ascent.{Rises-ascends}
+use Rattle.ovl_blobs.proofs.Ascent.{Rises-ascends}
 
 -- a layer of a stack is one, and past the last there is nothing
 pub layer_or_none : (layers : List Entries) → All IsLayer layers → (i : ℕ) → (unwrap_or (slice_get layers i) [] ≡ []) ⊎ IsLayer (unwrap_or (slice_get layers i) [])

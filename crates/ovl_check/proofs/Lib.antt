@@ -1,10 +1,4 @@
-mod Ascent
-mod Plain
 mod Moves
-mod BlobLemmas
-mod BlobRanges
-mod NamedLemmas
-mod FindLemmas
 mod LayerFacts
 mod OutLemmas
 mod ListFacts
@@ -24,6 +18,5 @@ mod UnmarkedLemmas
 mod ContentLemmas
 mod StatedLemmas
 pub mod WalkLists
-mod Digests
 mod Rows
 mod SilentLemmas

@@ -36,9 +36,9 @@ use Rattle.ovl_check.specs.Findings.{finding, any_code}
 use Rattle.ovl_check.specs.Contents.{holds_of_contents as holds, findings_of_contents_at as findings_at, findings_of_contents_in as findings_in}
 use Rattle.ovl_check.specs.Checks.{CheckView, CheckSeen, is_ordinary, sought_in, layer_at, layers_below, check_kids, check_out, holds_alone, findings_alone, findings_at_path, directory_findings, no_seen}
 use Rattle.ovl_check.specs.Walks.{View, doubles_after, found_along}
-use Rattle.ovl_check.proofs.Ascent.{In-filter, less_never, list_all-Every}
-use Rattle.ovl_check.proofs.Plain.{own-view, has-view}
-use Rattle.ovl_check.proofs.BlobLemmas.{any-In}
+use Rattle.ovl_blobs.proofs.Ascent.{In-filter, less_never, list_all-Every}
+use Rattle.ovl_blobs.proofs.Plain.{own-view, has-view}
+use Rattle.ovl_blobs.proofs.BlobLemmas.{any-In}
 use Rattle.ovl_check.proofs.LayerFacts.{kid-directory, layer-ascends}
 use Rattle.ovl_check.proofs.DoubleLemmas.{ViewBefore, doubles-cases, doubles-In}
 

@@ -24,10 +24,10 @@ use Rattle.ovl_check.specs.contracts.findings.CodeOrd.TheImpl.Laws as code_laws
 use Rattle.ovl_check.specs.contracts.findings.FindingPartialEq.TheImpl as finding_partial_eq
 use Rattle.ovl_check.specs.contracts.findings.FindingEq.TheImpl.Laws as finding_eq_laws
 use Rattle.ovl_check.specs.Codes.{all_codes, is_blob_fault}
-use Rattle.ovl_check.specs.declared.contents.Content.{Content}
+use Rattle.ovl_blobs.specs.declared.contents.BlobInfo.{BlobInfo}
 use Rattle.ovl_check.specs.Findings.{finding, any_code}
 use Rattle.ovl_check.specs.Contents.{holds_of_contents as holds, findings_of_contents_at as findings_at, findings_of_contents_in as findings_in, data_findings_of_contents_from as data_findings_from, findings_of_contents_from as findings_from}
-use Rattle.ovl_check.proofs.Ascent.{Rises-ascends}
+use Rattle.ovl_blobs.proofs.Ascent.{Rises-ascends}
 use Rattle.ovl_check.proofs.DoubleLemmas.{same_path, equal}
 
 abbrev pub finding_cmp : Finding → Finding → Ordering
@@ -105,7 +105,7 @@ codes-map i path (code ∷ codes) up = (
   codes-map i path codes up.1,
 )
 
-module _ (sought : Code → Bool) (contents : List Content) where
+module _ (sought : Code → Bool) (contents : List BlobInfo) where
   abbrev stands : Entries → StackView → Entry → Code → Bool
   stands layer below entry code = sought code && holds contents layer below entry code
 
@@ -142,7 +142,7 @@ joined i own more up later here there =
     (λ f g h k. ap (λ o. ordering_then o (ordering_then (path_cmp f.path g.path) (code_cmp f.code g.code)))
     (less_number f.layer g.layer (omega (arith, here f h, there g k))))
 
-module _ (contents : List Content) (stack : StackView) where
+module _ (contents : List BlobInfo) (stack : StackView) where
   from-deep : (i : ℕ) (layers : List Entries) (f : Finding) → In f (data_findings_from contents stack i layers) → i ≤ f.layer
   from-deep i [] f h = absurd h
   from-deep i (layer ∷ layers) f h = elim (In-cases f (findings_in is_blob_fault contents i layer (record stack { layers = [] })) (data_findings_from contents stack (i + 1) layers) h) [

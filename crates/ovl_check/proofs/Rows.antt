@@ -1,5 +1,5 @@
 -- The findings of worked examples, by computation.
-use Rattle.std.specs.Prelude.{◌≡◌, ℕ, List, [], ◌∷◌, codes, Some, None, refl}
+use Rattle.std.specs.Prelude.{◌≡◌, ℕ, false, List, [], ◌∷◌, codes, Some, None, refl}
 use Rattle.ovl_inode.specs.declared.inodes.Inode.{Inode}
 use Rattle.ovl_inode.specs.declared.inodes.Kind.TheVariants.{Dir, File}
 use Rattle.ovl_inode.specs.Attributes.{Attributes, opaque_name, redirect_name, metacopy_name, impure_name, origin_name}
@@ -11,15 +11,22 @@ use Rattle.ovl_lookup.proofs.RowStacks.{stack_of, root_alone, covered, one_over,
 use Rattle.ovl_check.specs.declared.findings.Code.{Code}
 use Rattle.ovl_check.specs.declared.findings.Finding.{Finding}
 use Rattle.ovl_check.specs.declared.findings.Code.TheVariants.{RedirectForm, RedirectLost, RedirectKind, RedirectDouble, RedirectOpen, DataMissing, DataSize, BlobMissing, BlobSize, BlobDigest, OrphanWhiteout, WhiteoutInOpaque, WhiteoutUnmarked, ImpureMissing, MarkIgnored}
-use Rattle.ovl_check.specs.Blobs.{BlobView}
+use Rattle.ovl_blobs.specs.Blobs.{BlobView, is_wrong}
 use Rattle.ovl_check.specs.Findings.{finding, findings}
-use Rattle.ovl_check.proofs.Digests.{blob_a, digest_abc, digest_ab, changed_abc, blob_ab, digests_on_literals}
+use Rattle.ovl_blobs.proofs.Digests.{digest_abc, digest_ab, changed_abc, blob_ab, digests_on_literals}
 
 -- a finding at a path of layer `i`, by its text
 abbrev at : ℕ → List ℕ → Code → Finding
 at i text code = finding i (path text) code
 
 -- the blob of the contents `a`
+abbrev blob_a : BlobView
+blob_a = record { name = digest_a; bytes = codes "a" }
+
+right : is_wrong blob_a ≡ false
+unfolding digests_on_literals
+right = refl
+
 abbrev with_a : List BlobView
 with_a = blob_a ∷ []
 

@@ -9,7 +9,7 @@ use Rattle.ovl_lookup.specs.Sound.{redirect_is_malformed, redirect_is_lost, redi
 use Rattle.ovl_check.specs.declared.findings.Code.{Code}
 use Rattle.ovl_check.specs.declared.findings.Finding.{Finding}
 use Rattle.ovl_check.specs.Codes.{all_codes, is_layer_fault, is_blob_fault}
-use Rattle.ovl_check.specs.Blobs.{BlobView}
+use Rattle.ovl_blobs.specs.Blobs.{BlobView}
 use Rattle.ovl_check.specs.Conditions.{holds}
 use Rattle.ovl_check.specs.Findings.{finding, any_code, findings_at, findings_in, data_findings_from, findings_from}
 use Rattle.ovl_check.specs.Laws.{FindingsTellSoundness}

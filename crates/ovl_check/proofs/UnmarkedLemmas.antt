@@ -24,7 +24,7 @@ use Rattle.ovl_lookup.proofs.LawsOfUnmarked.{faultless-alone}
 use Rattle.ovl_check.specs.declared.findings.Code.{Code}
 use Rattle.ovl_check.specs.declared.findings.Code.TheVariants.{RedirectForm, RedirectLost, RedirectKind, RedirectDouble, RedirectOpen, DataMissing, DataSize, BlobMissing, BlobSize, BlobDigest, ImpureMissing, MarkIgnored}
 use Rattle.ovl_check.specs.declared.findings.Finding.{Finding}
-use Rattle.ovl_check.specs.Blobs.{BlobView}
+use Rattle.ovl_blobs.specs.Blobs.{BlobView}
 use Rattle.ovl_check.specs.Codes.{all_codes, is_fault, is_layer_fault, is_blob_fault}
 use Rattle.ovl_check.specs.Conditions.{holds, has_origin_at, blob_is_missing, blob_is_of_other_size, blob_is_wrong}
 use Rattle.ovl_check.specs.Findings.{finding, findings, findings_at, findings_in, findings_from, data_findings_from, any_code}

@@ -15,16 +15,16 @@ use Rattle.ovl_board.specs.declared.pieces.Piece.{Piece}
 use Rattle.ovl_board.specs.Pieces.{piece_in}
 use Rattle.ovl_check.specs.declared.findings.Code.{Code}
 use Rattle.ovl_check.specs.declared.findings.Finding.{Finding}
-use Rattle.ovl_check.specs.declared.subjects.CheckOut.{CheckOut}
+use Rattle.ovl_check.specs.declared.work.CheckOut.{CheckOut}
 use Rattle.ovl_check.specs.Codes.{all_codes, is_double, is_blob_fault}
-use Rattle.ovl_check.specs.declared.contents.Content.{Content}
+use Rattle.ovl_blobs.specs.declared.contents.BlobInfo.{BlobInfo}
 use Rattle.ovl_check.specs.Contents.{holds_of_contents}
 use Rattle.ovl_check.specs.Findings.{finding, any_code}
 
 -- what is checked: a stack and the contents of its blobs
 pub record CheckView : Type 0 where
   pub stack : StackView
-  pub contents : List Content
+  pub contents : List BlobInfo
 
 -- what is seen of the output of a directory: its findings, its next path where its walk is open,
 -- and whether it is moved

@@ -1,8 +1,7 @@
 -- The condition of each code at an entry of a layer, over the blobs and the stack of the layers
 -- below. Those on redirects and data stand with the sound stacks.
 use Rattle.std.specs.Prelude.{ℕ, Bool, true, false, ◌&&◌, ◌||◌, ◌==◌, not, Option, Some, None, List, length, codes, is_none}
-use Rattle.std.specs.List.{list_any, find}
-use Rattle.std.specs.Str.{bytes_eq}
+use Rattle.std.specs.List.{list_any}
 use Rattle.ovl_names.specs.Paths.{PathNames, child_path, parent_path, is_root}
 use Rattle.ovl_inode.specs.declared.inodes.Inode.{Inode}
 use Rattle.ovl_inode.specs.declared.inodes.Kind.TheVariants.{File}
@@ -18,13 +17,9 @@ use Rattle.ovl_lookup.specs.Merged.{look, is_nothing}
 use Rattle.ovl_lookup.specs.Sound.{redirect_is_malformed, redirect_is_lost, redirect_is_of_wrong_kind, redirect_is_double, redirect_is_open, data_is_missing, data_is_of_other_size}
 use Rattle.ovl_check.specs.declared.findings.Code.{Code}
 use Rattle.ovl_check.specs.declared.findings.Code.TheVariants.{RedirectForm, RedirectLost, RedirectKind, RedirectDouble, RedirectOpen, DataMissing, DataSize, BlobMissing, BlobSize, BlobDigest, OrphanWhiteout, WhiteoutInOpaque, WhiteoutUnmarked, ImpureMissing, MarkIgnored}
-use Rattle.ovl_check.specs.Blobs.{BlobView, is_wrong}
+use Rattle.ovl_blobs.specs.Blobs.{BlobView, find_blob, is_wrong}
 
 -- ---- blobs; these conditions are this profile's own
-
--- the blob of a name
-abbrev pub find_blob : List BlobView → List ℕ → Option BlobView
-find_blob blobs name = find (λ blob. bytes_eq blob.name name) blobs
 
 -- the inode names a blob, which isn't there
 abbrev pub blob_is_missing : List BlobView → Inode → Bool

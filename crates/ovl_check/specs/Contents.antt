@@ -1,95 +1,70 @@
--- What is reported of blobs whose bytes aren't held, and the findings by that.
-use Rattle.std.specs.Prelude.{◌≡◌, ⊤, All, MatchOption, ℕ, ◌+◌, Bool, false, ◌&&◌, ◌==◌, not, Option, Some, None, List, [], ◌∷◌, ◌++◌, length, map, filter, is_none}
-use Rattle.std.specs.List.{find, flat_map}
+-- The findings by what is reported of blobs whose bytes aren't held.
+use Rattle.std.specs.Prelude.{◌≡◌, ⊤, All, MatchOption, ℕ, ◌+◌, Bool, false, ◌&&◌, ◌==◌, not, Option, Some, None, List, [], ◌∷◌, ◌++◌, map, filter, is_none}
+use Rattle.std.specs.List.{flat_map}
 use Rattle.ovl_inode.specs.declared.inodes.Inode.{Inode}
 use Rattle.ovl_inode.specs.Kinds.{size_of, blob_of}
 use Rattle.ovl_layer.specs.Layers.{Entries, Entry}
 use Rattle.ovl_lookup.specs.Stacks.{StackView}
-use Rattle.std.specs.Str.{bytes_eq}
-use Rattle.ovl_check.specs.declared.contents.Content.{Content}
+use Rattle.ovl_blobs.specs.declared.contents.BlobInfo.{BlobInfo}
 use Rattle.ovl_check.specs.declared.findings.Code.{Code}
 use Rattle.ovl_check.specs.declared.findings.Code.TheVariants.{BlobMissing, BlobSize, BlobDigest}
 use Rattle.ovl_check.specs.declared.findings.Finding.{Finding}
 use Rattle.ovl_check.specs.Codes.{all_codes, is_blob_fault}
-use Rattle.ovl_check.specs.Blobs.{BlobView, is_wrong, digest_cmp}
-use Rattle.std.specs.declared.cmp.Ordering.{Ordering}
-use Rattle.ovl_names.specs.Order.{ascends}
+use Rattle.ovl_blobs.specs.Contents.{find_content}
 use Rattle.ovl_check.specs.Conditions.{holds}
 use Rattle.ovl_check.specs.Findings.{finding, any_code}
 
--- what is reported of a blob: its name, its length, and whether its bytes have that SHA-256 digest
-abbrev pub content_of : BlobView → Content
-content_of blob = record {
-  name = blob.name;
-  size = length blob.bytes;
-  is_right = not (is_wrong blob);
-}
-
-abbrev pub contents_of : List BlobView → List Content
-contents_of blobs = map content_of blobs
-
--- the names ascend strictly
-abbrev pub content_cmp : Content → Content → Ordering
-content_cmp one other = digest_cmp one.name other.name
-
-abbrev pub contents_ascend : List Content → Bool
-contents_ascend contents = ascends content_cmp contents
-
 -- ---- the conditions on blobs, by their contents; this profile's own
 
--- the content of a name
-abbrev pub find_content : List Content → List ℕ → Option Content
-find_content contents name = find (λ content. bytes_eq content.name name) contents
-
 -- the inode names a blob of which no content is reported
-abbrev pub content_is_missing : List Content → Inode → Bool
+abbrev pub content_is_missing : List BlobInfo → Inode → Bool
 content_is_missing contents inode =
     elim (blob_of inode) [ Some name ↦ is_none (find_content contents name) | None ↦ false ]
 
 -- the inode names a blob whose content passes a test
-abbrev pub has_content : (Content → Bool) → Option Content → Bool
+abbrev pub has_content : (BlobInfo → Bool) → Option BlobInfo → Bool
 has_content test None = false
 has_content test (Some content) = test content
 
-abbrev pub names_content : (Content → Bool) → List Content → Inode → Bool
+abbrev pub names_content : (BlobInfo → Bool) → List BlobInfo → Inode → Bool
 names_content test contents inode =
     elim (blob_of inode)
     [ Some name ↦ has_content test (find_content contents name) | None ↦ false ]
 
 -- its length isn't the file's size
-abbrev pub content_is_of_other_size : List Content → Inode → Bool
+abbrev pub content_is_of_other_size : List BlobInfo → Inode → Bool
 content_is_of_other_size contents inode =
     names_content (λ content. not (content.size == size_of inode)) contents inode
 
 -- its bytes have another digest
-abbrev pub content_is_wrong : List Content → Inode → Bool
+abbrev pub content_is_wrong : List BlobInfo → Inode → Bool
 content_is_wrong contents inode = names_content (λ content. not content.is_right) contents inode
 
 -- ---- all of them
 
 -- the condition of each code; those that aren't on blobs ask nothing of them
-abbrev pub holds_of_contents : List Content → Entries → StackView → Entry → Code → Bool
+abbrev pub holds_of_contents : List BlobInfo → Entries → StackView → Entry → Code → Bool
 holds_of_contents contents layer below entry BlobMissing = content_is_missing contents entry.1
 holds_of_contents contents layer below entry BlobSize = content_is_of_other_size contents entry.1
 holds_of_contents contents layer below entry BlobDigest = content_is_wrong contents entry.1
 holds_of_contents contents layer below entry code = holds [] layer below entry code
 
 -- the findings of these codes at an entry of layer `i`, by code
-abbrev pub findings_of_contents_at : (Code → Bool) → List Content → ℕ → Entries → StackView → Entry
+abbrev pub findings_of_contents_at : (Code → Bool) → List BlobInfo → ℕ → Entries → StackView → Entry
     → List Finding
 findings_of_contents_at sought contents i layer below entry =
     map (finding i entry.0)
     (filter (λ code. sought code && holds_of_contents contents layer below entry code) all_codes)
 
 -- the findings of these codes in layer `i`, by path
-abbrev pub findings_of_contents_in : (Code → Bool) → List Content → ℕ → Entries → StackView
+abbrev pub findings_of_contents_in : (Code → Bool) → List BlobInfo → ℕ → Entries → StackView
     → List Finding
 findings_of_contents_in sought contents i layer below =
     flat_map (findings_of_contents_at sought contents i layer below) layer
 
 -- the findings of data-only layers, of which the first is layer `i`: those of blobs; overlayfs.rst,
 -- "Data-only lower layers"
-abbrev pub data_findings_of_contents_from : List Content → StackView → ℕ → List Entries
+abbrev pub data_findings_of_contents_from : List BlobInfo → StackView → ℕ → List Entries
     → List Finding
 data_findings_of_contents_from contents stack i [] = []
 data_findings_of_contents_from contents stack i (layer ∷ layers) =
@@ -98,7 +73,7 @@ data_findings_of_contents_from contents stack i (layer ∷ layers) =
 
 -- the findings of these layers of a stack, of which the first is layer `i`, and of its data-only
 -- ones under them
-abbrev pub findings_of_contents_from : List Content → StackView → ℕ → List Entries → List Finding
+abbrev pub findings_of_contents_from : List BlobInfo → StackView → ℕ → List Entries → List Finding
 findings_of_contents_from contents stack i [] =
     data_findings_of_contents_from contents stack i stack.data_only
 findings_of_contents_from contents stack i (layer ∷ layers) =
@@ -107,17 +82,17 @@ findings_of_contents_from contents stack i (layer ∷ layers) =
 
 -- the findings of a stack and of the contents that are reported of its blobs, by layer, then by path,
 -- then by code
-abbrev pub findings_of_contents : List Content → StackView → List Finding
+abbrev pub findings_of_contents : List BlobInfo → StackView → List Finding
 findings_of_contents contents stack = findings_of_contents_from contents stack 0 stack.layers
 
 -- ---- what the layers name
 
 -- contents report of the blob that an inode names what other contents do
-abbrev pub TellsOfNamed : List Content → List Content → Inode → Type 0
+abbrev pub TellsOfNamed : List BlobInfo → List BlobInfo → Inode → Type 0
 TellsOfNamed contents others inode =
     MatchOption (blob_of inode) ⊤ (λ name. find_content contents name ≡ find_content others name)
 
 -- the same of each blob that these layers name
-abbrev pub TellsOfLayers : List Content → List Content → List Entries → Type 0
+abbrev pub TellsOfLayers : List BlobInfo → List BlobInfo → List Entries → Type 0
 TellsOfLayers contents others layers =
     All (λ layer. All (λ entry. TellsOfNamed contents others entry.1) layer) layers

@@ -38,8 +38,8 @@ use Rattle.ovl_check.specs.declared.checks.EntryPlace.{EntryPlace}
 use Rattle.ovl_check.specs.declared.checks.EntryPlace.TheVariants.{At, In}
 use Rattle.ovl_check.specs.declared.directories.Child.{Child}
 use Rattle.ovl_check.specs.declared.directories.CheckedDirectory.{CheckedDirectory}
-use Rattle.ovl_check.specs.declared.contents.Content.{Content}
-use Rattle.ovl_check.specs.Contents.{find_content}
+use Rattle.ovl_blobs.specs.declared.contents.BlobInfo.{BlobInfo}
+use Rattle.ovl_blobs.specs.Contents.{find_content}
 use Rattle.ovl_check.specs.Checks.{CheckView, layer_at, first_below, layers_below, findings_alone}
 use Rattle.ovl_check.specs.Conditions.{has_origin_at, is_opaque, is_any_meta, is_in_opaque as is_in_opaque_at, is_in_marked, metacopy_is_ignored, whiteout_is_ignored}
 
@@ -146,11 +146,11 @@ kind_at layer below path inode (Meta redirect) =
 kind_at layer below path inode _ = Other
 
 -- the blob that an inode names
-abbrev pub blob_found : Option Content → NamedBlob
+abbrev pub blob_found : Option BlobInfo → NamedBlob
 blob_found None = Missing
 blob_found (Some content) = Found content.size (not content.is_right)
 
-abbrev pub blob_named : List Content → Inode → NamedBlob
+abbrev pub blob_named : List BlobInfo → Inode → NamedBlob
 blob_named contents inode =
     elim (blob_of inode) [ Some name ↦ blob_found (find_content contents name) | None ↦ Unnamed ]
 

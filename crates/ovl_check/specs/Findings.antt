@@ -7,7 +7,7 @@ use Rattle.ovl_lookup.specs.Stacks.{StackView}
 use Rattle.ovl_check.specs.declared.findings.Code.{Code}
 use Rattle.ovl_check.specs.declared.findings.Finding.{Finding}
 use Rattle.ovl_check.specs.Codes.{all_codes, is_blob_fault}
-use Rattle.ovl_check.specs.Blobs.{BlobView}
+use Rattle.ovl_blobs.specs.Blobs.{BlobView}
 use Rattle.ovl_check.specs.Conditions.{holds}
 
 -- a finding of a code at a path of layer `i`

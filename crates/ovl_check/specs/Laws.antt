@@ -9,10 +9,11 @@ use Rattle.ovl_lookup.specs.ShownInodes.{inode_shown}
 use Rattle.ovl_lookup.specs.Sound.{is_sound_stack}
 use Rattle.ovl_lookup.specs.Unmarked.{alone, HasNoMarks}
 use Rattle.ovl_check.specs.Codes.{is_fault, is_layer_fault, is_blob_fault}
-use Rattle.ovl_check.specs.declared.contents.Content.{Content}
-use Rattle.ovl_check.specs.Blobs.{BlobView}
+use Rattle.ovl_blobs.specs.declared.contents.BlobInfo.{BlobInfo}
+use Rattle.ovl_blobs.specs.Blobs.{BlobView}
 use Rattle.ovl_check.specs.Findings.{findings}
-use Rattle.ovl_check.specs.Contents.{contents_of, findings_of_contents, TellsOfLayers}
+use Rattle.ovl_check.specs.Contents.{findings_of_contents, TellsOfLayers}
+use Rattle.ovl_blobs.specs.Contents.{contents_of}
 
 -- a stack is sound where no finding has such a code, whatever the blobs
 abbrev pub FindingsTellSoundness : Type 0
@@ -28,7 +29,7 @@ FindingsNeedContents = (blobs : List BlobView) (stack : StackView) →
 -- what is found needs no more contents than those of the blobs that the layers name
 abbrev pub FindingsNeedNamed : Type 0
 FindingsNeedNamed =
-    (contents others : List Content) (stack : StackView)
+    (contents others : List BlobInfo) (stack : StackView)
     → TellsOfLayers contents others (all_layers stack) →
     findings_of_contents contents stack ≡ findings_of_contents others stack
 

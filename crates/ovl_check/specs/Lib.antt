@@ -1,10 +1,7 @@
-pub mod Blobs
 pub mod Codes
 pub mod Conditions
 pub mod Contents
-pub mod Named
 pub mod Stated
-pub mod Told
 pub mod Findings
 pub mod Laws
 pub mod Checks

@@ -6,7 +6,7 @@ use Rattle.ovl_inode.specs.declared.inodes.Inode.{Inode}
 use Rattle.ovl_inode.specs.Kinds.{blob_of}
 use Rattle.ovl_layer.specs.Layers.{Entries}
 use Rattle.ovl_lookup.specs.Stacks.{StackView, all_layers}
-use Rattle.ovl_check.specs.Blobs.{digest_cmp}
+use Rattle.ovl_blobs.specs.Blobs.{digest_cmp}
 
 -- the name of an inode's blob, where it has one
 abbrev pub name_in : Inode → List (List ℕ)

@@ -1,6 +1,5 @@
 -- The plain walks of the layers, and the doubles that they show.
-use Rattle.std.specs.Prelude.{ℕ, ◌+◌, Bool, ◌&&◌, ◌||◌, Option, Some, None, List, [], ◌∷◌, ◌++◌, if◌then◌else◌, Vec}
-use Rattle.std.specs.Global.{Global}
+use Rattle.std.specs.Prelude.{ℕ, ◌+◌, Bool, ◌&&◌, ◌||◌, Option, Some, None, List, [], ◌∷◌, ◌++◌, if◌then◌else◌}
 use Rattle.std.specs.List.{list_any, flat_map}
 use Rattle.std.specs.BTreeSet.{insert_key}
 use Rattle.std.specs.Ordering.{is_eq}
@@ -68,7 +67,3 @@ doubles_among wanted places (view ∷ views) =
 -- all that is found in a layer, in the order of the walk
 abbrev pub found_along : List View → List Finding
 found_along views = doubles_after [] views ++ flat_map (λ view. view.seen.findings) views
-
--- what is left of the findings of open directories
-abbrev pub all_left : List (Vec Finding Global) → List Finding
-all_left lists = flat_map (λ left. left.items) lists

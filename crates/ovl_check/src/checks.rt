@@ -1,5 +1,5 @@
 //! The visit of a directory that is checked: the findings of what is in it.
-ghost use Rattle.std.specs.Prelude.{◌≡◌, ◌<◌, ◌&&◌, ◌||◌, not, ◌++◌, ◌∷◌, [], if◌then◌else◌, true, false, Some, None, IfOk, OnOk, length, map, filter, unwrap_or};
+ghost use Rattle.std.specs.Prelude.{◌≡◌, ◌<◌, ◌&&◌, ◌||◌, not, ◌++◌, ◌∷◌, [], if◌then◌else◌, false, true, Some, None, IfOk, OnOk, length, map, filter, unwrap_or};
 ghost use Rattle.std.specs.List.{flat_map};
 ghost use Rattle.ovl_lookup.specs.Stacks.{all_layers};
 ghost use Rattle.ovl_names.specs.Paths.{child_path};
@@ -8,108 +8,24 @@ ghost use Rattle.ovl_lookup.specs.Sound as sound;
 ghost use Rattle.ovl_board.specs.Pieces.{piece_at};
 ghost use Rattle.ovl_check.specs.Codes.{all_codes, is_blob_fault};
 ghost use Rattle.ovl_check.specs.Findings.{finding, any_code};
-ghost use Rattle.ovl_check.specs.Blobs.{blob_views, are_in_order, wrong_names};
-ghost use Rattle.ovl_check.specs.Contents.{contents_of, contents_ascend};
-ghost use Rattle.ovl_check.specs.Checks.{check_seen, no_seen, sought_in, layer_at, findings_at_path, check_out};
+ghost use Rattle.ovl_check.specs.Checks.{check_seen, sought_in, layer_at, findings_at_path, check_out};
 ghost use Rattle.ovl_check.specs.Checks as checks;
 ghost use Rattle.ovl_check.specs.CheckViews.{check_view};
 ghost use Rattle.ovl_check.specs.Facts.{IsGathered, IsViewBelow, IsBelowOf, IsChildMarked, asks, child_seen, entry_path, found_at_child, next_of, tells};
 
-use crate::blobs::Blob;
-use crate::contents::Content;
-use crate::directories::{CheckedDirectory, Child, directory_at, hold_origin, kids_of};
+use crate::directories::{CheckedDirectory, Child, hold_origin};
 use crate::facts::{BLOB_CODES, CODES, Facts, NamedBlob, is_silent};
 use crate::findings::{Code, Finding};
 use crate::gathering::{facts_of_child, facts_of_directory};
 use crate::lower_paths::LowerPath;
-use crate::named::ByName;
-use crate::sources::CheckedBlobs;
-use crate::subjects::{CheckOut, CheckWork, ToldBlobs};
-use ovl_board::{Piece, Work};
-use ovl_inode::{Digest, Mark, is_directory};
+use crate::work::{CheckOut, CheckWork};
+use ovl_inode::{Mark, is_directory};
 use ovl_lookup::{PathRope, Stack, is_moved};
-use ovl_names::{DEPTH_LIMIT, Name, Path};
+use ovl_names::{Name, Path};
 use std::alloc::{AllocError, Global};
 
-impl<'a> CheckWork<'a> {
-    /// The work of checking a stack with these blobs, of which the names ascend strictly, see
-    /// [`crate::blobs_in_order`]. `wrong` has the names of those with wrong bytes, as
-    /// [`crate::finish_blobs`] gives them.
-    pub fn new(stack: &'a Stack, blobs: &'a [Blob], wrong: &'a [Digest]) -> CheckWork<'a>
-        requires ascend { are_in_order (blob_views blobs.now) ≡ true }
-        requires all_wrong { wrong.now ≡ wrong_names (blob_views blobs.now) }
-        ensures { check_view result
-            ≡ record { stack = stack.now; contents = contents_of (blob_views blobs.now) } }
-    {
-        CheckWork {
-            stack,
-            told: ToldBlobs::Held(CheckedBlobs {
-                blobs: ByName::of(blobs),
-                wrong,
-            }),
-        }
-    }
-
-    /// The work of checking a stack with blobs that have these contents, whose names ascend
-    /// strictly.
-    pub fn of_contents(stack: &'a Stack, contents: &'a [Content]) -> CheckWork<'a>
-        requires { contents_ascend contents.now ≡ true }
-        ensures { check_view result ≡ record { stack = stack.now; contents = contents.now } }
-    {
-        CheckWork {
-            stack,
-            told: ToldBlobs::Told(ByName::of(contents)),
-        }
-    }
-}
-
-impl<'a> Work for CheckWork<'a> {
-    type Out = CheckOut<'a>;
-
-    ghost use Rattle.ovl_names.specs.Paths.{depth_limit};
-    ghost use Rattle.ovl_check.specs.Checks.{CheckSeen, check_seen, check_kids, check_out};
-    ghost use Rattle.ovl_check.specs.Checks as checks;
-    ghost use Rattle.ovl_check.specs.CheckViews.{check_view};
-
-    ghost Seen = { CheckSeen };
-
-    ghost seen_set = { checks.seen_set };
-
-    ghost seen = { check_seen };
-
-    ghost kids_of = { λ work. check_kids (check_view work) };
-
-    ghost out_of = { λ work. check_out (check_view work) };
-
-    ghost deepest_of = { λ _. depth_limit };
-
-    fn visit(
-        &self,
-        alloc: Global,
-        piece: &Piece,
-    ) -> Result<(Vec<Piece>, CheckOut<'a>), AllocError> {
-        let i = usize::from(piece.space);
-        if i >= self.stack.layers() {
-            return Ok((Vec::new(alloc), nothing(alloc)));
-        }
-        let plain = Mark::DirPlain;
-        let Some(directory) = directory_at(alloc, self.stack, i, &piece.dir, &plain)? else {
-            return Ok((Vec::new(alloc), nothing(alloc)));
-        };
-        let kids = kids_of(alloc, piece, &directory.children)?;
-        let out = directory_out(alloc, self, piece.space, directory)?;
-        Ok((kids, out))
-    }
-
-    fn deepest(&self) -> u32 {
-        // Each layer of a stack is within the limits of a manifest.
-        let _layers = self.stack.layers();
-        DEPTH_LIMIT as u32
-    }
-}
-
-// What comes of a directory of a layer.
-fn directory_out<'a>(
+/// What comes of a directory of a layer.
+pub(crate) fn directory_out<'a>(
     alloc: Global,
     work: &CheckWork<'_>,
     layer: u16,
@@ -176,16 +92,6 @@ fn place_of<'a>(
         return Ok(None);
     }
     Ok(Some(LowerPath::of(alloc, path, turned)?))
-}
-
-fn nothing<'a>(alloc: Global) -> CheckOut<'a>
-    ensures { check_seen result ≡ no_seen }
-{
-    CheckOut {
-        findings: Vec::new(alloc),
-        place: None,
-        moved: false,
-    }
 }
 
 // Where an entry is: at a path, or under a name in the directory of a path. Its own path is made
@@ -276,7 +182,7 @@ fn push_file(
     if is_directory(child.inode) {
         return Ok(());
     }
-    let blob = work.told.named(child.inode);
+    let blob = NamedBlob::of(&work.blobs, child.inode);
     if is_silent(child.inode, child.mark, &blob) {
         return Ok(());
     }

@@ -4,7 +4,8 @@ ghost use Rattle.ovl_check.specs.Facts as facts;
 
 use crate::findings::Code;
 use crate::marks::{attribute_is, is_malformed, is_quiet, mark_is_ignored};
-use ovl_inode::{Inode, Kind, Mark, file_size, is_directory, overlay};
+use ovl_blobs::KnownBlobs;
+use ovl_inode::{Inode, Kind, Mark, blob_of, file_size, is_directory, overlay};
 
 /// All codes, in their order.
 pub(crate) const CODES: [Code; 15] = [
@@ -25,7 +26,7 @@ pub(crate) const CODES: [Code; 15] = [
     Code::MarkIgnored,
 ];
 
-/// Those on blobs.
+/// The codes on blobs.
 pub(crate) const BLOB_CODES: [Code; 3] = [Code::BlobMissing, Code::BlobSize, Code::BlobDigest];
 
 /// What the layers below show at a place.
@@ -41,7 +42,7 @@ pub(crate) enum ThingShown {
 pub(crate) enum OldPlace {
     // The layers below are hidden there.
     Hidden,
-    // What they show there, and whether the layer itself doesn't hide it.
+    // What the layers below show there, and whether the layer itself doesn't hide it.
     Open { thing: ThingShown, is_seen: bool },
 }
 
@@ -64,12 +65,30 @@ pub(crate) enum KindFacts {
 /// The blob that an inode names.
 #[derive(Clone, Copy, Debug)]
 pub(crate) enum NamedBlob {
-    // It names none.
+    // The inode names no blob.
     Unnamed,
-    // It isn't among the blobs.
+    // The blob isn't among the known ones.
     Missing,
     // Its length, and whether its bytes have another digest.
     Found { length: u64, is_wrong: bool },
+}
+
+impl NamedBlob {
+    /// The blob that an inode names, by what is known of it.
+    pub(crate) fn of(known: &KnownBlobs<'_>, inode: &Inode) -> NamedBlob
+        ensures { result ≡ facts.blob_named known.now inode.now }
+    {
+        let Some(name) = blob_of(inode) else {
+            return NamedBlob::Unnamed;
+        };
+        match known.find(&name) {
+            Some(content) => NamedBlob::Found {
+                length: content.size,
+                is_wrong: !content.is_right,
+            },
+            None => NamedBlob::Missing,
+        }
+    }
 }
 
 /// What the conditions ask of one entry.
@@ -80,7 +99,7 @@ pub(crate) struct Facts<'a> {
     pub(crate) mark: &'a Mark,
     pub(crate) kind: KindFacts,
     pub(crate) blob: NamedBlob,
-    // Whether it directly holds an entry with `origin`.
+    // Whether the entry is a directory that directly holds an entry with `origin`.
     pub(crate) holds_origin: bool,
 }
 
@@ -92,7 +111,7 @@ pub(crate) fn is_silent(inode: &Inode, mark: &Mark, blob: &NamedBlob) -> bool
     has_quiet_mark(inode, mark) && is_right(blob, file_size(inode))
 }
 
-// Whether it has no attributes, and a mark of such entries.
+// Whether the inode has no attributes, and the mark is one that such inodes have.
 fn has_quiet_mark(inode: &Inode, mark: &Mark) -> bool
     ensures { result ≡ facts.has_quiet_mark inode.now mark.now }
 {
@@ -132,7 +151,7 @@ impl<'a> Facts<'a> {
     }
 }
 
-// Whether it is a moved directory that is hidden, or whose old place shows nothing.
+// Whether the entry is a moved directory whose old place is hidden or shows nothing.
 fn is_lost(kind: &KindFacts) -> bool
     ensures { result ≡ facts.is_lost kind.now }
 {
@@ -148,7 +167,7 @@ fn is_lost(kind: &KindFacts) -> bool
     )
 }
 
-// Whether it is a moved directory whose old place shows something else than a directory.
+// Whether the entry is a moved directory whose old place shows something else than a directory.
 fn is_of_wrong_kind(kind: &KindFacts) -> bool
     ensures { result ≡ facts.is_of_wrong_kind kind.now }
 {
@@ -161,21 +180,21 @@ fn is_of_wrong_kind(kind: &KindFacts) -> bool
     )
 }
 
-// Whether it is a moved directory whose old place the layer doesn't hide.
+// Whether the entry is a moved directory whose old place the layer itself doesn't hide.
 fn is_open(kind: &KindFacts) -> bool
     ensures { result ≡ facts.is_open kind.now }
 {
     matches!(kind, KindFacts::Moved(OldPlace::Open { is_seen: true, .. }))
 }
 
-// Whether it is a metacopy file without data.
+// Whether the entry is a metacopy file without data.
 fn lacks_data(kind: &KindFacts) -> bool
     ensures { result ≡ facts.lacks_data kind.now }
 {
     matches!(kind, KindFacts::Metacopy(None))
 }
 
-// Whether it is a metacopy file whose data has another size than this.
+// Whether the entry is a metacopy file whose data has another size than `size`.
 fn has_data_of_other_size(kind: &KindFacts, size: u64) -> bool
     ensures { result ≡ facts.has_data_of_other_size kind.now size }
 {
@@ -185,14 +204,14 @@ fn has_data_of_other_size(kind: &KindFacts, size: u64) -> bool
     }
 }
 
-// Whether the blob isn't there.
+// Whether the entry names a blob that isn't there.
 fn is_missing(blob: &NamedBlob) -> bool
     ensures { result ≡ facts.is_missing blob.now }
 {
     matches!(blob, NamedBlob::Missing)
 }
 
-// Whether it is there and has another length than this.
+// Whether the blob that an entry names is there and has another length than `size`.
 fn is_of_other_length(blob: &NamedBlob, size: u64) -> bool
     ensures { result ≡ facts.is_of_other_length blob.now size }
 {
@@ -202,29 +221,29 @@ fn is_of_other_length(blob: &NamedBlob, size: u64) -> bool
     }
 }
 
-// Whether it is there and its bytes have another digest.
+// Whether the blob that an entry names is there and its bytes have another digest.
 fn is_wrong(blob: &NamedBlob) -> bool
     ensures { result ≡ facts.is_wrong blob.now }
 {
     matches!(blob, NamedBlob::Found { is_wrong: true, .. })
 }
 
-// Whether it is a whiteout outside an opaque directory that hides nothing.
+// Whether the entry is a whiteout that hides nothing, outside an opaque directory.
 fn is_orphan(kind: &KindFacts) -> bool
     ensures { result ≡ facts.is_orphan kind.now }
 {
     matches!(kind, KindFacts::Whiteout { hides: false, .. })
 }
 
-// Whether it is a whiteout in an opaque directory.
+// Whether the entry is a whiteout in an opaque directory.
 fn is_in_opaque(kind: &KindFacts) -> bool
     ensures { result ≡ facts.is_in_opaque kind.now }
 {
     matches!(kind, KindFacts::WhiteoutInOpaque)
 }
 
-// Whether it is a whiteout by attribute in a directory that is neither opaque nor marked as holding
-// such.
+// Whether the entry is a whiteout by attribute in a directory that is neither opaque nor marked as
+// holding such whiteouts.
 fn is_unmarked(kind: &KindFacts, inode: &Inode) -> bool
     ensures { result ≡ facts.is_unmarked kind.now inode.now }
 {
@@ -238,7 +257,7 @@ fn is_unmarked(kind: &KindFacts, inode: &Inode) -> bool
         )
 }
 
-// Whether it is a directory that holds an entry with `origin` and isn't marked as impure.
+// Whether the entry is a directory that holds an entry with `origin` and isn't marked as impure.
 fn impure_is_missing(inode: &Inode, holds_origin: bool) -> bool
     ensures { result ≡ facts.impure_is_missing inode.now holds_origin }
 {

@@ -41,14 +41,14 @@ pub enum Code {
 }
 
 impl Code {
-    /// Whether it is a fault; the others are notes.
+    /// Whether the code is a fault; the other codes are notes.
     pub fn is_fault(self) -> bool
         ensures { result ≡ is_fault self }
     {
         self < Code::OrphanWhiteout
     }
 
-    /// Its word in a report.
+    /// The word of the code in a report.
     pub fn word(self) -> &'static str
         ensures { result.now ≡ code_word self }
     {

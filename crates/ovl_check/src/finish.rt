@@ -7,11 +7,11 @@ ghost use Rattle.ovl_board.specs.Parcels.{parcel_view, parcel_views};
 ghost use Rattle.ovl_check.specs.Contents.{findings_of_contents};
 ghost use Rattle.ovl_check.specs.Checks.{check_seen};
 ghost use Rattle.ovl_check.specs.CheckViews.{check_view};
-ghost use Rattle.ovl_check.specs.Walks.{AreLayerWalks, double_at, places_with, moved_places, if_sought, doubles_after, found_along, all_left};
+ghost use Rattle.ovl_check.specs.Walks.{AreLayerWalks, double_at, places_with, moved_places, if_sought, doubles_after, found_along};
 
 use crate::findings::{Code, Finding};
 use crate::lower_paths::LowerPathRef;
-use crate::subjects::{CheckOut, CheckWork};
+use crate::work::{CheckOut, CheckWork};
 use ovl_board::Parcel;
 use ovl_names::Path;
 use std::alloc::{AllocError, Global};
@@ -68,8 +68,8 @@ fn found_in(
     Ok(found)
 }
 
-// Adds the outputs of all directories. Where these are in the order of a walk, what is found in a
-// directory is among what is found below it, in path order.
+// Adds the outputs of all directories. If these are in the order of a walk, what is found in a
+// directory is among what is found below it, in path order: it waits, the next one last.
 fn push_outputs(
     alloc: Global,
     parcels: Vec<Parcel<CheckOut<'_>>>,
@@ -80,74 +80,35 @@ fn push_outputs(
         (findings.old.items
         ++ flat_map (λ parcel. parcel.out.findings.items) parcels.entry.items) findings.new.items) }
 {
-    let mut open = Vec::new(alloc);
+    let mut waiting = Vec::new(alloc);
     for parcel in parcels {
         let Parcel { piece, kids, out } = parcel;
-        push_before(&mut open, &piece.dir, findings)?;
-        push_found(out.findings, kids.is_empty(), &mut open, findings)?;
-    }
-    while let Some(mut left) = open.pop() {
-        left.reverse();
-        findings.append(&mut left)?;
-    }
-    Ok(())
-}
-
-// Adds what is found in a directory without kids at once, and opens another one.
-fn push_found(
-    mut found: Vec<Finding>,
-    is_last: bool,
-    opened: &mut Vec<Vec<Finding>>,
-    findings: &mut Vec<Finding>,
-) -> Result<(), AllocError>
-    ensures { OnOk result
-        (IsPermutation ((findings.old.items ++ all_left opened.old.items) ++ found.items)
-        (findings.new.items ++ all_left opened.new.items)) }
-{
-    if is_last {
-        findings.append(&mut found)?;
-        return Ok(());
-    }
-    found.reverse();
-    opened.push(found)?;
-    Ok(())
-}
-
-// Adds those findings in open directories that come before a directory, from the last one opened
-// on, and closes those directories that have none left. The findings of each stand from the last to
-// the first.
-fn push_before(
-    opened: &mut Vec<Vec<Finding>>,
-    directory: &Path,
-    findings: &mut Vec<Finding>,
-) -> Result<(), AllocError>
-    ensures { OnOk result
-        (IsPermutation (findings.old.items ++ all_left opened.old.items)
-        (findings.new.items ++ all_left opened.new.items)) }
-{
-    while let Some(mut left) = opened.pop() {
-        move_before(&mut left, directory, findings)?;
-        if !left.is_empty() {
-            opened.push(left)?;
-            return Ok(());
+        let mut found = out.findings;
+        push_before(&mut waiting, &piece.dir, findings)?;
+        if kids.is_empty() {
+            findings.append(&mut found)?;
+        } else {
+            found.reverse();
+            waiting.append(&mut found)?;
         }
     }
-    Ok(())
+    waiting.reverse();
+    findings.append(&mut waiting)
 }
 
 // Moves findings from the end of a list while they come before a directory.
-fn move_before(
-    left: &mut Vec<Finding>,
+fn push_before(
+    waiting: &mut Vec<Finding>,
     directory: &Path,
     findings: &mut Vec<Finding>,
 ) -> Result<(), AllocError>
     ensures { OnOk result
-        (IsPermutation (findings.old.items ++ left.old.items)
-        (findings.new.items ++ left.new.items)) }
+        (IsPermutation (findings.old.items ++ waiting.old.items)
+        (findings.new.items ++ waiting.new.items)) }
 {
-    while let Some(finding) = left.pop() {
+    while let Some(finding) = waiting.pop() {
         if finding.path > *directory {
-            left.push(finding)?;
+            waiting.push(finding)?;
             return Ok(());
         }
         findings.push(finding)?;
@@ -249,7 +210,7 @@ fn note_place<'p, 'a>(
     Ok(())
 }
 
-// Where a directory goes on, if it is moved or goes on at one of these places.
+// Where a directory goes on, if it is itself moved, or if that is one of these places.
 fn place_among<'p, 'a>(
     parcel: &'p Parcel<CheckOut<'a>>,
     places: &BTreeSet<LowerPathRef<'p, 'a>>,

@@ -25,7 +25,7 @@ use crate::directories::{CheckedDirectory, Child};
 use crate::facts::{Facts, KindFacts, NamedBlob, OldPlace, ThingShown};
 use crate::marks::is_plain;
 use crate::places::{data_size_below, shown_kind_below, step_of};
-use crate::subjects::CheckWork;
+use crate::work::CheckWork;
 use ovl_inode::{Mark, Redirect};
 use ovl_lookup::{OwnStep, PathRope, ShownKind, Stack};
 use ovl_names::{Name, Path};
@@ -138,7 +138,8 @@ fn rope_of<'a>(alloc: Global, path: &'a Path) -> Result<PathRope<'a>, AllocError
     PathRope::of(alloc, &path.names())
 }
 
-// The same at a path where the layers below aren't hidden.
+// The old place of a moved directory of layer `i`, by its path, at which the layers below aren't
+// hidden.
 fn open_place<'a>(
     alloc: Global,
     stack: &'a Stack,

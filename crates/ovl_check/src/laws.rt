@@ -23,7 +23,7 @@ pub fn unmarked_layers_are_quiet()
     ensures { UnmarkedLayersAreQuiet }
 {}
 
-/// Where nothing is at fault in a stack and its blobs, nothing at all is found in the layer of what
+/// If nothing is at fault in a stack and its blobs, nothing at all is found in the layer of what
 /// it shows, by itself.
 pub fn shown_layers_are_clean()
     ensures { ShownLayersAreClean }

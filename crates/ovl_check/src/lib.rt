@@ -2,9 +2,7 @@
 #![tactic(auto)]
 
 mod below;
-mod blobs;
 mod checks;
-mod contents;
 mod directories;
 mod facts;
 mod findings;
@@ -13,18 +11,16 @@ mod gathering;
 pub mod laws;
 mod lower_paths;
 mod marks;
-mod named;
 mod places;
-mod sources;
-mod stated;
-mod subjects;
-mod tellings;
+mod stated_blobs;
+mod work;
 
-pub use blobs::{BLOB_SPACE, Blob, BlobWork, blobs_in_order, finish_blobs};
-pub use contents::{Content, contents_held};
 pub use findings::{Code, Finding};
 pub use finish::finish_check;
 pub use lower_paths::LowerPath;
-pub use stated::stated_names;
-pub use subjects::{CheckOut, CheckWork};
-pub use tellings::{PART, PartFault, content_in};
+pub use ovl_blobs::{
+    BLOB_LIMIT, BLOB_SPACE, Blob, BlobInfo, BlobWork, PART, PartFault, blobs_in_order,
+    contents_held, finish_blobs, measure,
+};
+pub use stated_blobs::stated_names;
+pub use work::{CheckOut, CheckWork};

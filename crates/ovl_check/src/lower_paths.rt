@@ -33,7 +33,8 @@ impl<'a> Model for LowerPath<'a> {
 }
 
 impl<'a> LowerPath<'a> {
-    /// That of a directory of this path, unless marks turn it.
+    /// The path by which the layers below know the directory at `path`: `turned`, if there is one,
+    /// else `path`.
     pub(crate) fn of(
         alloc: Global,
         path: &Path,

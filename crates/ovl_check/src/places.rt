@@ -42,7 +42,7 @@ pub(crate) fn first_below(stack: &Stack, i: usize) -> usize
     if i < layers { i + 1 } else { layers }
 }
 
-/// Of what kind it is that the layers below layer `i` show at a path, by walks from their roots.
+/// The kind of what the layers below layer `i` show at a path, by walks from their roots.
 pub(crate) fn shown_kind_below<'a>(
     alloc: Global,
     stack: &'a Stack,
@@ -82,8 +82,8 @@ pub(crate) fn size_in(found: Option<&Inode>) -> Option<u64>
     }
 }
 
-/// The mark that a layer keeps in the row of a path; the root counts as a plain directory, whose
-/// mark is lent.
+/// The mark of the row at `path`. The root counts as a plain directory, whatever mark the layer
+/// keeps for it: if `path` is the root, `plain` is given.
 pub(crate) fn mark_in<'a>(sheet: &'a Sheet, row: u32, path: &Path, plain: &'a Mark) -> &'a Mark
     requires row { row < length sheet.now }
     requires path { path_at sheet.now row ≡ path.now }

@@ -229,7 +229,8 @@ fn with_layers<'a>(alloc: Global, command: Command<'a>) -> Result<Command<'a>, A
         .arg(layers(alloc))
 }
 
-// A command that checks, with only the options for its blobs.
+// A command that checks, with only the options for its blobs. Its help begins with `about` and ends
+// with `more`.
 fn with_blobs<'a>(
     alloc: Global,
     name: &'a str,
@@ -245,7 +246,8 @@ fn with_blobs<'a>(
         .arg(any_size(alloc))
 }
 
-// The same with the option for its new layers.
+// A command that makes new layers, with only the options for its blobs and for its folder of new
+// layers.
 fn with_folders<'a>(
     alloc: Global,
     name: &'a str,

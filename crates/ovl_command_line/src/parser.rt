@@ -13,7 +13,7 @@ use std::alloc::{AllocError, Global};
 /// The line that the words after the program's name ask for. Which words those are, and the texts
 /// of help and of usage faults, the module `commands` says. Words that no command takes are a usage
 /// fault, as a number of workers outside 1 to 64, of data-only layers over 127, or no layer at all.
-/// Where they ask for help or the version, that is the fault. `Memory` may come at any words.
+/// If they ask for help or the version, that is the fault. `Memory` may come at any words.
 pub fn line(alloc: Global, words: &[&str]) -> Result<Line, LineFault>
     ensures sound { IfOk result IsSound }
     ensures read { IsRead (map (λ word. word.now) words.now) result }

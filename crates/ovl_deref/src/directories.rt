@@ -37,7 +37,7 @@ pub(crate) fn inodes_in(
 // What the topmost layer has at the path of a directory.
 #[derive(Clone, Copy)]
 enum OwnPlace {
-    // It or one above it is moved.
+    // The directory or one above it is moved.
     Moved,
     // The row of this number; neither it nor one above it is moved.
     Row(u32),
@@ -45,7 +45,8 @@ enum OwnPlace {
     Absent,
 }
 
-// What the topmost layer has there, by one walk.
+// What the topmost layer has at the path of a directory, by one walk: the first name on it that is
+// missing or moved decides, or else the row at its end, of whatever kind.
 fn own_place(stack: &Stack, dir: &Path) -> OwnPlace
     ensures { IsOwnPlace (top_layer stack.now) dir.now result }
 {

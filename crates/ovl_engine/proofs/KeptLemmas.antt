@@ -17,7 +17,7 @@ use Rattle.ovl_lookup.specs.Sound.{IsSoundStack}
 use Rattle.ovl_lookup.specs.Words.{over, top_layer, lower_layers}
 use Rattle.ovl_check.specs.declared.findings.Finding.{Finding}
 use Rattle.ovl_check.specs.Codes.{is_fault, is_layer_fault, is_blob_fault}
-use Rattle.ovl_check.specs.Blobs.{BlobView}
+use Rattle.ovl_blobs.specs.Blobs.{BlobView}
 use Rattle.ovl_check.specs.Findings.{findings}
 use Rattle.ovl_check.specs.Laws.{FindingsTellSoundness}
 use Rattle.ovl_vacuum.specs.Laws.{VacuumKeepsTree, VacuumKeepsSoundness}

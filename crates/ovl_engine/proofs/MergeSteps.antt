@@ -1,22 +1,20 @@
 -- Merges that lead from a stack to another, one after the other.
-use Rattle.std.proofs.Common.{◌≡◌, ◌⊎◌, ℕ, zero, suc, ◌+◌, ◌-◌, ◌<◌, ◌≤◌, Result, Ok, Err, List, [], ◌∷◌, IfOk, inl, inr, length, drop, refl, sym, ap, ◌∙◌, subst, arith, length-drop}
+use Rattle.std.proofs.Common.{◌≡◌, ℕ, zero, suc, ◌+◌, ◌-◌, ◌<◌, Result, Ok, Err, List, [], ◌∷◌, IfOk, inl, length, drop, refl, sym, ap, ◌∙◌, subst, arith, length-drop}
 use Rattle.ovl_names.specs.Paths.{PathNames}
 use Rattle.ovl_lookup.specs.Stacks.{StackView}
 use Rattle.ovl_lookup.specs.Merged.{look}
 use Rattle.ovl_board.specs.declared.pieces.Piece.{Piece}
 use Rattle.ovl_check.specs.declared.findings.Finding.{Finding}
-use Rattle.ovl_check.specs.Blobs.{BlobView}
+use Rattle.ovl_blobs.specs.Blobs.{BlobView}
 use Rattle.ovl_check.specs.Findings.{findings}
 use Rattle.ovl_commands.specs.declared.requests.Answer.{Answer}
 use Rattle.ovl_commands.specs.declared.requests.Command.TheVariants.{Merge}
 use Rattle.ovl_engine.specs.declared.faults.EngineFault.{EngineFault}
-use Rattle.ovl_engine.specs.declared.faults.EngineFault.TheVariants.{NoLower}
-use Rattle.ovl_engine.specs.Outcomes.{IsAccepted, IsFailedWalk, IsFailure, IsRun, MayRefuse, MayRefuseCheck, MayRefuseLayers, stack_of}
-use Rattle.ovl_engine.specs.Requests.{Request}
-use Rattle.ovl_engine.specs.Told.{MayRefuseTold}
-use Rattle.ovl_engine.specs.MergesDown.{IsAcceptedDown, IsOutcomeOfRun, IsRefusalDown, IsRunDown, KeepsTreeByTwo, KeepsTreeDown, MergeLeads, MergesLead}
+use Rattle.ovl_engine.specs.Outcomes.{IsFailedWalk, IsFailure, IsRun, MayRefuseLayers}
+use Rattle.ovl_engine.specs.Prepared.{MayRefuseWork}
+use Rattle.ovl_engine.specs.MergesDown.{IsRunDown, KeepsTreeByTwo, KeepsTreeDown, MergeLeads, MergesLead}
 use Rattle.ovl_engine.proofs.KeptLemmas.{keeps_down, renewed_from}
-use Rattle.ovl_engine.proofs.OutcomeLemmas.{outcome-part, unwalked, walk-part}
+use Rattle.ovl_engine.proofs.OutcomeLemmas.{unwalked, walk-part}
 
 -- ---- how far merges lead
 
@@ -76,22 +74,6 @@ module _ (blobs : List BlobView) (stack : StackView) where
       is : renewed_from (length stack.layers + 1 - left) (kept.top ∷ kept.lower ∷ []) stack ≡ record last { layers = kept.top ∷ kept.lower ∷ drop 2 last.layers }
       is = λ j. record { layers = kept.top ∷ kept.lower ∷ rest j; data_only = sym (led-data n last lead) j }
 
--- ---- what comes of a request
-
--- nothing refuses it, by its stack
-pub accepted-down : (left : ℕ) (stack : StackView) (request : Request) → IsAccepted request → stack ≡ stack_of request → (0 < left) × (left < length stack.layers) → IsAcceptedDown left request
-accepted-down left stack request accepted same fewer =
-    (accepted, (fewer.0, subst (λ (s : StackView). left < length s.layers) same fewer.1))
-
-pub refused-down : (left : ℕ) (stack : StackView) (request : Request) (fault : EngineFault) → IsAccepted request → stack ≡ stack_of request
-    → (fault ≡ NoLower) × ((left ≡ 0) ⊎ (length stack.layers ≤ left)) → IsRefusalDown left request fault
-refused-down left stack request fault accepted same few =
-    inr (accepted, (few.0, subst (λ (s : StackView). (left ≡ 0) ⊎ (length s.layers ≤ left)) same few.1))
-
-pub outcome-of : (left : ℕ) (request : Request) (run : Type 0) (result : Result Answer EngineFault) → IsAcceptedDown left request → run → IsOutcomeOfRun left request run result
-outcome-of left request run (Ok answer) accepted is = (accepted, is)
-outcome-of left request run (Err fault) accepted is = inr (accepted, is)
-
 -- ---- what comes of them
 
 pub if-ok : (result : Result Answer EngineFault) (P : Type 0) → P → IfOk result (λ answer. P)
@@ -102,8 +84,8 @@ module _ (may_refuse : Piece → Type 0) where
   -- a merge of the last stack is what they come to
   pub run-down : (left : ℕ) (blobs : List BlobView) (stack last : StackView) (n : ℕ) (result : Result Answer EngineFault) → MergesLead n blobs stack last → left < length last.layers
       → IfOk result (λ answer. length last.layers ≡ left + 1)
-      → IsRun Merge last (findings blobs last) (MayRefuseTold Merge last may_refuse) result
-      → IsRunDown left blobs stack (λ one. MayRefuseTold Merge one may_refuse) result
+      → IsRun Merge last (findings blobs last) (MayRefuseWork Merge last may_refuse) result
+      → IsRunDown left blobs stack (λ one. MayRefuseWork Merge one may_refuse) result
   run-down left blobs stack last n result lead more answered run = record {
     before = n;
     last = last;
@@ -115,36 +97,7 @@ module _ (may_refuse : Piece → Type 0) where
 
   -- where the layers of a stack aren't all checked no merge is made of it
   pub unchecked : (stack : StackView) (found : List Finding) (fault : EngineFault) → IsFailedWalk (MayRefuseLayers stack may_refuse) fault
-      → IsFailure Merge stack found (MayRefuseTold Merge stack may_refuse) fault
+      → IsFailure Merge stack found (MayRefuseWork Merge stack may_refuse) fault
   unchecked stack found fault is =
-      unwalked (MayRefuseTold Merge stack may_refuse) Merge stack found fault
-      (walk-part (MayRefuseLayers stack may_refuse) (MayRefuseTold Merge stack may_refuse) (λ refused. inl (refl, refused)) fault is)
-
-  -- what may be refused of contents that are reported may be of blobs that are held
-  pub run-held : (left : ℕ) (blobs : List BlobView) (stack : StackView) (result : Result Answer EngineFault)
-      → IsRunDown left blobs stack (λ one. MayRefuseTold Merge one may_refuse) result → IsRunDown left blobs stack (λ one. MayRefuse Merge one blobs may_refuse) result
-  run-held left blobs stack result run = record {
-    before = run.before;
-    last = run.last;
-    lead = run.lead;
-    more = run.more;
-    answered = run.answered;
-    run = outcome-part (MayRefuseTold Merge run.last may_refuse) (MayRefuse Merge run.last blobs may_refuse) of_told Merge run.last (findings blobs run.last) result run.run;
-  }
-    where
-      of_told : MayRefuseTold Merge run.last may_refuse → MayRefuse Merge run.last blobs may_refuse
-      of_told (inl refused) = inl (refused.0, inr refused.1)
-      of_told (inr refused) = inr refused
-
-  -- where blobs aren't all digested no merge is made
-  pub undigested : (left : ℕ) (blobs : List BlobView) (stack : StackView) (fault : EngineFault) → left < length stack.layers
-      → IsFailedWalk (MayRefuseCheck stack blobs may_refuse) fault → IsRunDown left blobs stack (λ one. MayRefuse Merge one blobs may_refuse) (Err fault)
-  undigested left blobs stack fault more is = record {
-    before = zero;
-    last = stack;
-    lead = refl;
-    more = more;
-    answered = tt;
-    run = unwalked (MayRefuse Merge stack blobs may_refuse) Merge stack (findings blobs stack) fault
-        (walk-part (MayRefuseCheck stack blobs may_refuse) (MayRefuse Merge stack blobs may_refuse) (λ refused. inl (refl, refused)) fault is);
-  }
+      unwalked (MayRefuseWork Merge stack may_refuse) Merge stack found fault
+      (walk-part (MayRefuseLayers stack may_refuse) (MayRefuseWork Merge stack may_refuse) (λ refused. inl (refl, refused)) fault is)

@@ -17,7 +17,7 @@ use Rattle.std.specs.List.{AllByRecursion}
 use Rattle.std.specs.List.Sorted.{IsStrictlySortedBy}
 use Rattle.std.proofs.lemmas.List.{take_all}
 use Rattle.std.proofs.Common.{◌+◌, ◌≤◌}
-use Rattle.ovl_check.specs.Blobs.{BlobView, digest_cmp, are_in_order}
+use Rattle.ovl_blobs.specs.Blobs.{BlobView, digest_cmp, are_in_order}
 use Rattle.ovl_engine.specs.NamedBlobs.{first_with, bytes_under, HasFirsts, name_and_bytes}
 
 -- ---- keys that are compared, and keys that are tested

@@ -5,7 +5,7 @@ use Rattle.ovl_names.specs.Paths.{PathNames}
 use Rattle.ovl_lookup.specs.Stacks.{StackView}
 use Rattle.ovl_lookup.specs.Merged.{look}
 use Rattle.ovl_lookup.specs.Sound.{IsSoundStack}
-use Rattle.ovl_check.specs.Blobs.{BlobView}
+use Rattle.ovl_blobs.specs.Blobs.{BlobView}
 use Rattle.ovl_check.specs.Codes.{is_blob_fault}
 use Rattle.ovl_check.specs.Findings.{findings}
 use Rattle.ovl_commands.specs.declared.requests.Answer.{Answer}

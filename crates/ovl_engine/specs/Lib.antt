@@ -3,7 +3,7 @@ pub mod Kept
 pub mod MergesDown
 pub mod NamedBlobs
 pub mod Outcomes
-pub mod Questions
+pub mod Prepared
 pub mod Refusals
 pub mod Requests
-pub mod Told
+pub mod Tasks

@@ -3,7 +3,7 @@ use Rattle.std.specs.Prelude.{◌≡◌, ℕ, true, Option, Some, None, List, []
 use Rattle.std.specs.Map.{lookup}
 use Rattle.std.specs.Str.{bytes_eq}
 use Rattle.sha2.specs.Sha256.{sha256}
-use Rattle.ovl_check.specs.Blobs.{BlobView, are_in_order}
+use Rattle.ovl_blobs.specs.Blobs.{BlobView, are_in_order}
 
 -- the first of the contents that have a SHA-256 digest; FIPS 180-4
 abbrev pub first_with : List ℕ → List (List ℕ) → Option (List ℕ)

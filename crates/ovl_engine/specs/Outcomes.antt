@@ -10,7 +10,7 @@ use Rattle.ovl_board.specs.Pieces.{space_root}
 use Rattle.ovl_pool.specs.declared.runs.RunFault.{RunFault}
 use Rattle.ovl_pool.specs.declared.runs.RunFault.TheVariants.{Workers as RunWorkers, Gate, Board, Memory as RunMemory}
 use Rattle.ovl_pool.specs.Runs.{MayBeRefused}
-use Rattle.ovl_check.specs.Blobs.{BlobView, blob_kids, blob_root}
+use Rattle.ovl_blobs.specs.Blobs.{BlobView, blob_kids, blob_root}
 use Rattle.ovl_check.specs.Checks.{CheckView, check_kids}
 use Rattle.ovl_check.specs.declared.findings.Finding.{Finding}
 use Rattle.ovl_check.specs.Findings.{findings}

@@ -1,6 +1,5 @@
 -- Why a command is refused before any work is done.
 use Rattle.std.specs.Prelude.{◌≡◌, ⊤, ℕ, suc, ◌-◌, Bool, ◌||◌, ◌&&◌, ◌==◌, not, Option, Some, None, Result, Ok, Err, List, [], ◌∷◌, if◌then◌else◌, length, nat_lt, nat_le}
-use Rattle.std.specs.List.{sum_by}
 use Rattle.ovl_layer.specs.Layers.{Entries}
 use Rattle.ovl_manifest.specs.Manifest.{read_layer}
 use Rattle.ovl_layer.specs.declared.faults.LayerFault.{LayerFault}
@@ -10,13 +9,14 @@ use Rattle.ovl_board.specs.declared.assembly.BoardFault.TheVariants.{Memory as B
 use Rattle.ovl_pool.specs.declared.runs.RunFault.{RunFault}
 use Rattle.ovl_pool.specs.declared.runs.RunFault.TheVariants.{Board, Memory as RunMemory}
 use Rattle.ovl_lookup.specs.Stacks.{layer_limit}
-use Rattle.ovl_check.specs.Blobs.{BlobView, are_in_order}
+use Rattle.ovl_blobs.specs.Blobs.{BlobView, are_in_order, blob_limit, blob_bytes}
 use Rattle.ovl_rewrite.specs.declared.faults.RewriteFault.{RewriteFault}
 use Rattle.ovl_rewrite.specs.declared.faults.RewriteFault.TheVariants.{LimitOut as DerefLimit, Memory as DerefMemory}
 use Rattle.ovl_merge.specs.declared.faults.MergeFault.{MergeFault}
 use Rattle.ovl_merge.specs.declared.faults.MergeFault.TheVariants.{NoLower as MergeLower, LimitOut as MergeLimit, Memory as MergeMemory}
 use Rattle.ovl_engine.specs.declared.faults.EngineFault.{EngineFault}
 use Rattle.ovl_engine.specs.declared.faults.EngineFault.TheVariants.{Workers, Layers, Layer, BlobOrder, BlobSize, NoLower, Faulty, LimitOut, Run, Memory, DataLayers}
+use Rattle.ovl_commands.specs.declared.requests.Command.{Command}
 use Rattle.ovl_commands.specs.Commands.{wants_lower}
 use Rattle.ovl_engine.specs.Requests.{Request}
 
@@ -48,13 +48,6 @@ abbrev pub first_unread : List (List ℕ) → Option EngineFault
 first_unread manifests =
     elim (layers_from 0 manifests) [ Ok layers ↦ None | Err fault ↦ Some fault ]
 
--- the most bytes of all blobs, and how many blobs have
-abbrev pub blob_limit : ℕ
-blob_limit = 268435456
-
-abbrev pub blob_bytes : List BlobView → ℕ
-blob_bytes blobs = sum_by (λ blob. length blob.bytes) blobs
-
 -- the fault of blobs whose names don't ascend strictly, or that have too many bytes
 abbrev pub blob_refusal : List BlobView → Option EngineFault
 blob_refusal blobs =
@@ -72,10 +65,16 @@ input_refusal request =
 abbrev pub ordinary_layers : Request → ℕ
 ordinary_layers request = length request.manifests - request.bottom
 
--- the fault of fewer than two such layers, where a command wants one under the topmost
+-- there are fewer such layers than a command wants: one under the topmost, where it wants that; or
+-- where merges are to leave some, one more than these, and these aren't none
+abbrev pub lacks_layers : Command → Option ℕ → ℕ → Bool
+lacks_layers what None layers = wants_lower what && nat_lt layers 2
+lacks_layers what (Some left) layers = left == 0 || nat_le layers left
+
+-- the fault of these
 abbrev pub lower_refusal : Request → Option EngineFault
 lower_refusal request =
-    if wants_lower request.what && nat_lt (ordinary_layers request) 2 then Some NoLower else None
+    if lacks_layers request.what request.left (ordinary_layers request) then Some NoLower else None
 
 -- what a request is refused for: the first of seven that holds
 abbrev pub first_refusal : Request → Option EngineFault

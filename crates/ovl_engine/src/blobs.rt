@@ -2,7 +2,7 @@
 ghost use Rattle.std.specs.Prelude.{◌≡◌, IfOk, map};
 ghost use Rattle.std.specs.BTreeMap.{IsOrdered};
 ghost use Rattle.sha2.specs.Sha256.{sha256};
-ghost use Rattle.ovl_check.specs.Blobs.{blob_views, digest_cmp};
+ghost use Rattle.ovl_blobs.specs.Blobs.{blob_views, digest_cmp};
 ghost use Rattle.ovl_engine.specs.NamedBlobs.{AreNamed, HasFirsts, name_and_bytes};
 
 use ovl_check::Blob;

@@ -1,77 +1,71 @@
-//! Where contents come from that aren't held. It must not know files.
-ghost use Rattle.std.specs.Prelude.{◌≡◌, ℕ, Option, true, List, IfOk, IfErr};
-ghost use Rattle.ovl_names.specs.Order.{ascends};
-ghost use Rattle.ovl_check.specs.Blobs.{digest_cmp};
-ghost use Rattle.ovl_engine.specs.declared.contents.CommandFault.TheVariants.{Engine};
-ghost use Rattle.ovl_engine.specs.declared.faults.EngineFault.TheVariants.{Memory};
-ghost use Rattle.ovl_engine.specs.Told.{AreTold};
+//! What is known of blobs that are held. It must not know files.
+ghost use Rattle.std.specs.Prelude.{◌≡◌, ◌<◌, ◌≤◌, true, List, IfOk, IfErr, MatchResult};
+ghost use Rattle.ovl_board.specs.Machine.{worker_limit};
+ghost use Rattle.ovl_blobs.specs.Blobs.{BlobView, are_in_order, blob_views, wrong_names};
+ghost use Rattle.ovl_blobs.specs.Contents.{contents_of, contents_ascend};
+ghost use Rattle.ovl_commands.specs.Commands as commands;
+ghost use Rattle.ovl_engine.specs.Tasks.{command_of};
+ghost use Rattle.ovl_engine.specs.Outcomes.{IsFailedWalk, MayRefuseBlobs};
 
 use crate::faults::EngineFault;
-use ovl_check::Content;
+use crate::preparations::Prepared;
+use crate::tasks::checks;
+use crate::teams::WorkerTeam;
+use ovl_check::{BLOB_SPACE, Blob, BlobInfo, BlobWork, contents_held, finish_blobs};
 use ovl_inode::Digest;
-use std::alloc::{AllocError, Global};
-use std::fmt::Display;
-use thiserror::Error;
+use ovl_pool::Gate;
+use std::alloc::Global;
+use std::sync::Wait;
+use std::thread::Threads;
 
-/// Where the contents of blobs are had from, which needn't be held in memory.
-///
-/// No contents at all:
-///
-/// ```
-/// impl Contents for Nothing {
-///     type Fault = AllocError;
-///
-///     ghost may_be = { λ _ _ _. Unit {0} };
-///
-///     ghost may_fail = { λ _ _. Unit {0} };
-///
-///     fn tell(&self, alloc: Global, _names: &[Digest]) -> Result<Vec<Content>, AllocError> {
-///         Ok(Vec::new(alloc))
-///     }
-/// }
-/// ```
-pub trait Contents {
-    /// Why contents can't be given.
-    type Fault: Drop;
-
-    /// What may be under a name: these bytes, or nothing. Where that isn't known, as of files, it
-    /// may be anything.
-    ghost may_be: { Self → List ℕ → Option (List ℕ) → Type 0 };
-
-    /// The faults that may come.
-    ghost may_fail: { Self → Self.Fault → Type 0 };
-
-    /// The contents under each of these names, which ascend strictly: nothing where there are none.
-    fn tell(&self, alloc: Global, names: &[Digest]) -> Result<Vec<Content>, Self::Fault>
-        requires { ascends digest_cmp names.now ≡ true }
-        ensures told { IfOk result (λ told. AreTold (may_be self.now) names.now told.items) }
-        ensures fault { IfErr result (may_fail self.now) };
-}
-
-/// Why a command over contents that aren't held gives no answer.
-#[derive(Debug, PartialEq, Eq, Drop, Error)]
-#[error_bound(F: Display)]
-pub enum CommandFault<F> {
-    /// As of a command over blobs.
-    #[error(transparent)]
-    Engine(EngineFault),
-    /// The contents can't be given.
-    #[error("contents: {0}")]
-    Contents(F),
-}
-
-impl<F> From<EngineFault> for CommandFault<F> {
-    ghost from_gives = { λ fault told. told ≡ Engine fault };
-
-    fn from(fault: EngineFault) -> CommandFault<F> {
-        CommandFault::Engine(fault)
+/// What [`answer`](crate::answer) is to know of blobs that are held, whose names ascend strictly:
+/// the content of each, digested once, by 1 to [`WORKER_LIMIT`](ovl_board::WORKER_LIMIT) workers;
+/// of none where the task doesn't check the layers. Fails as a command does in its work.
+pub fn digest_blobs<G: Gate + Sync, R: Threads + Wait + Sync>(
+    rt: &R,
+    alloc: Global,
+    prepared: &Prepared,
+    blobs: &[Blob],
+    workers: usize,
+    gate: &G,
+) -> Result<Vec<BlobInfo>, EngineFault>
+    requires number { (0 < workers) × (workers ≤ worker_limit) }
+    requires ascend { are_in_order (blob_views blobs.now) ≡ true }
+    ensures known { IfOk result (λ contents. commands.checks (command_of prepared.now.task) ≡ true
+        → contents_of (blob_views blobs.now) ≡ contents.items) }
+    ensures ascend { IfOk result (λ contents. contents_ascend contents.items ≡ true) }
+    ensures held { IfOk result
+        (λ contents. (of : List BlobView) × (contents_of of ≡ contents.items)) }
+    ensures fault { IfErr result
+        (λ fault. (commands.checks (command_of prepared.now.task) ≡ true)
+        × IsFailedWalk (MayRefuseBlobs (blob_views blobs.now) (G.may_refuse gate.now)) fault) }
+{
+    if !checks(prepared.task.command()) {
+        return Ok(Vec::new(alloc));
     }
+    let team = WorkerTeam {
+        rt,
+        alloc,
+        workers,
+        gate,
+    };
+    let wrong = wrong_blobs(&team, blobs)?;
+    Ok(contents_held(alloc, blobs, &wrong)?)
 }
 
-impl<F> From<AllocError> for CommandFault<F> {
-    ghost from_gives = { λ _ told. told ≡ Engine Memory };
-
-    fn from(_: AllocError) -> CommandFault<F> {
-        CommandFault::Engine(EngineFault::Memory)
-    }
+// The names of the blobs whose bytes have another digest.
+fn wrong_blobs<G: Gate + Sync, R: Threads + Wait + Sync>(
+    team: &WorkerTeam<'_, G, R>,
+    blobs: &[Blob],
+) -> Result<Vec<Digest>, EngineFault>
+    requires number { (0 < team.now.workers) × (team.now.workers ≤ worker_limit) }
+    requires ascend { are_in_order (blob_views blobs.now) ≡ true }
+    ensures { MatchResult result
+        (λ wrong. wrong.items ≡ wrong_names (blob_views blobs.now))
+        (λ fault. IsFailedWalk
+        (MayRefuseBlobs (blob_views blobs.now) (G.may_refuse team.now.gate.now)) fault) }
+{
+    let work = BlobWork::new(blobs);
+    let parcels = team.walk(&work, BLOB_SPACE)?;
+    Ok(finish_blobs(team.alloc, &work, parcels)?)
 }

@@ -3,8 +3,8 @@ ghost use Rattle.std.specs.Prelude.{◌≡◌};
 ghost use Rattle.ovl_engine.specs.declared.faults.EngineFault.TheVariants.{Memory};
 ghost use Rattle.ovl_engine.specs.Refusals.{unread_layer, failed_run, failed_deref, failed_merge};
 
-use crate::commands::BLOB_LIMIT;
 use ovl_board::{BoardFault, WORKER_LIMIT};
+use ovl_check::BLOB_LIMIT;
 use ovl_layer::LayerFault;
 use ovl_lookup::LAYER_LIMIT;
 use ovl_merge::MergeFault;

@@ -1,6 +1,7 @@
 //! What the commands make of a stack of layers, and their reports.
 #![tactic(auto)]
 
+mod answers;
 mod blobs;
 mod checks;
 mod commands;
@@ -12,19 +13,21 @@ mod fsck_reports;
 mod manifests;
 mod merges;
 mod merges_down;
-mod questions;
+mod preparations;
 mod rewrites;
 mod stacks;
+mod tasks;
 mod teams;
 mod vacuums;
 
+pub use answers::answer;
 pub use blobs::named_blobs;
-pub use commands::{BLOB_LIMIT, command};
-pub use contents::{CommandFault, Contents};
+pub use commands::command;
+pub use contents::digest_blobs;
 pub use faults::EngineFault;
 pub use manifests::Manifests;
-pub use merges_down::{merge_down, merge_down_told, question_down};
-pub use ovl_check::{Blob, Code, Content, Finding};
+pub use ovl_check::{BLOB_LIMIT, Blob, BlobInfo, Code, Finding};
 pub use ovl_commands::{Answer, Command};
 pub use ovl_reports::{EmitFault, ShowWork, emit};
-pub use questions::{Question, answer_told, command_over, question_of};
+pub use preparations::{Prepared, prepare};
+pub use tasks::Task;

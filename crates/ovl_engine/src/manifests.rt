@@ -7,17 +7,17 @@ use std::convert::AsSlice;
 
 /// The manifests of a command: its own, of which each goes once its layer is read, or lent ones.
 pub trait Manifests {
-    /// One of them.
+    /// The bytes of one manifest, owned or lent.
     type Manifest: AsSlice<u8> + Send + Drop;
 
-    /// All of them, whoever owns them.
+    /// The texts of all manifests, whoever owns them.
     ghost held: { Self → ManifestTexts };
 
-    /// How many there are.
+    /// The number of manifests.
     fn len(&self) -> usize
         ensures { result ≡ length (held self.now) };
 
-    /// A list of them.
+    /// All manifests as a vector, in their order; none of their bytes is copied.
     fn listed(self, alloc: Global) -> Result<Vec<Self::Manifest>, AllocError>
         ensures texts { IfOk result
             (λ list. map Self.Manifest.items list.items

@@ -1,5 +1,5 @@
 //! Merges one after the other, until a given number of layers is left.
-ghost use Rattle.std.specs.Prelude.{◌≡◌, ◌⊎◌, ◌+◌, ◌<◌, ◌≤◌, true, List, IfOk, IfErr, OnOk, [], ◌∷◌, length};
+ghost use Rattle.std.specs.Prelude.{◌≡◌, ◌+◌, ◌<◌, ◌≤◌, true, List, IfOk, IfErr, ◌∷◌, length};
 ghost use Rattle.ovl_names.specs.Paths.{PathNames};
 ghost use Rattle.ovl_layer.specs.Layers.{IsLayer};
 ghost use Rattle.ovl_lookup.specs.Stacks.{layer_limit};
@@ -7,28 +7,23 @@ ghost use Rattle.ovl_lookup.specs.Merged.{look};
 ghost use Rattle.ovl_lookup.specs.Sound.{IsSoundStack};
 ghost use Rattle.ovl_board.specs.Machine.{worker_limit};
 ghost use Rattle.ovl_check.specs.declared.findings.Finding.{Finding};
-ghost use Rattle.ovl_check.specs.Blobs.{BlobView, are_in_order, blob_views};
-ghost use Rattle.ovl_check.specs.Contents.{contents_of, contents_ascend};
+ghost use Rattle.ovl_blobs.specs.Blobs.{BlobView};
+ghost use Rattle.ovl_blobs.specs.Contents.{contents_of, contents_ascend};
 ghost use Rattle.ovl_check.specs.Findings.{findings};
 ghost use Rattle.ovl_commands.specs.declared.requests.Command.TheVariants.{Merge};
-ghost use Rattle.ovl_engine.specs.declared.faults.EngineFault.TheVariants.{Memory, NoLower};
+ghost use Rattle.ovl_engine.specs.declared.faults.EngineFault.TheVariants.{Memory};
 ghost use Rattle.ovl_engine.specs.FsckReports.{is_clean};
-ghost use Rattle.ovl_engine.specs.Requests.{request_of};
-ghost use Rattle.ovl_engine.specs.Outcomes.{IsFailedWalk, IsFailure, MayRefuseBlobs, MayRefuseOwn};
-ghost use Rattle.ovl_engine.specs.Questions.{IsQuestionOf};
-ghost use Rattle.ovl_engine.specs.Kept.{KeepsTree};
-ghost use Rattle.ovl_engine.specs.Told.{MayRefuseTold};
-ghost use Rattle.ovl_engine.specs.MergesDown.{IsAcceptedDown, IsLeftByMerge, IsOutcomeDown, IsRefusalDown, IsRunDown, KeepsTreeDown, MergeLeads, after_down};
+ghost use Rattle.ovl_engine.specs.Outcomes.{IsFailure, MayRefuseOwn};
+ghost use Rattle.ovl_engine.specs.Prepared.{MayRefuseWork};
+ghost use Rattle.ovl_engine.specs.MergesDown.{IsLeftByMerge, IsRunDown, KeepsTreeDown, MergeLeads};
 
-use crate::checks::{findings_by, wrong_blobs};
-use crate::commands::stack_for;
+use crate::checks::findings_of;
 use crate::faults::EngineFault;
 use crate::merges::{merge, merge_end};
-use crate::questions::{Question, question_of};
 use crate::rewrites::expect_clean;
 use crate::teams::WorkerTeam;
-use ovl_check::{Blob, Content, contents_held};
-use ovl_commands::{Answer, Command};
+use ovl_check::BlobInfo;
+use ovl_commands::Answer;
 use ovl_layer::{Layer, Sheet};
 use ovl_lookup::Stack;
 use ovl_merge::laws::merged_layer_keeps_the_tree;
@@ -37,159 +32,28 @@ use std::alloc::Global;
 use std::sync::Wait;
 use std::thread::Threads;
 
-/// What merges one after the other give of the layers that the manifests state, until `left` of
-/// them that aren't data-only are left, the root over these not counted: the answer of the last
-/// merge. Each is [`Command::Merge`] over the stack that the one before left, without its root; one
-/// that is refused, as where its check finds a fault, ends all. Refused as a merge is before any
-/// work; else with `NoLower` where `left` is none, or not fewer than there are. The manifests with
-/// the new ones in place of all that were merged show the same merged tree.
-///
-/// All layers but the lowest as one, by four workers, with these contents of files; no layer is
-/// data-only:
-///
-/// ```
-/// let blobs = named_blobs(alloc, contents)?;
-/// let left = 2;
-/// merge_down(rt, alloc, manifests, 0, &blobs, left, 4, &OpenGate)
-/// ```
-pub fn merge_down<G: Gate + Sync, R: Threads + Wait + Sync>(
-    rt: &R,
-    alloc: Global,
-    manifests: Vec<Vec<u8>>,
-    bottom: u16,
-    blobs: &[Blob],
-    left: usize,
-    workers: usize,
-    gate: &G,
-) -> Result<Answer, EngineFault>
-    ensures outcome { IsOutcomeDown left (request_of Merge manifests.items bottom blobs.now workers)
-        (G.may_refuse gate.now) result }
-    ensures keeps { IfOk result (λ answer.
-        let request = request_of Merge manifests.items bottom blobs.now workers in KeepsTree request
-        (after_down left request answer)) }
-{
-    let stack = stack_for(rt, alloc, Command::Merge, manifests, bottom, blobs, workers)?;
-    expect_lower(&stack, left)?;
-    let team = WorkerTeam {
-        rt,
-        alloc,
-        workers,
-        gate,
-    };
-    let contents = contents_by(&team, blobs)?;
-    merged_down(&team, stack, &contents, left)
-}
-
-/// The first part of [`merge_down`] over contents that needn't be held: [`question_of`] a merge,
-/// which is refused as [`merge_down`] is without blobs before its work.
-pub fn question_down<R: Threads + Sync>(
-    rt: &R,
-    alloc: Global,
-    manifests: Vec<Vec<u8>>,
-    bottom: u16,
-    left: usize,
-    workers: usize,
-) -> Result<Question, EngineFault>
-    ensures accepted { OnOk result
-        (IsAcceptedDown left (request_of Merge manifests.items bottom [] workers)) }
-    ensures question { IfOk result
-        (IsQuestionOf (request_of Merge manifests.items bottom [] workers)) }
-    ensures number { OnOk result ((0 < workers) × (workers ≤ worker_limit)) }
-    ensures fewer { IfOk result (λ question. (0 < left) × (left < length question.stack.layers)) }
-    ensures refused { IfErr result
-        (IsRefusalDown left (request_of Merge manifests.items bottom [] workers)) }
-{
-    let question = question_of(rt, alloc, Command::Merge, manifests, bottom, workers)?;
-    expect_lower(&question.stack, left)?;
-    Ok(question)
-}
-
-/// The second part: what the merges give of their question and of contents, see
-/// [`answer_told`](crate::answer_told). Contents are given once for all merges: no blob is named by
-/// a new layer that the given ones don't name.
-pub fn merge_down_told<G: Gate + Sync, R: Threads + Wait + Sync>(
-    rt: &R,
-    alloc: Global,
-    question: Question,
-    told: Vec<Content>,
-    left: usize,
-    workers: usize,
-    gate: &G,
-) -> Result<Answer, EngineFault>
-    requires number { (0 < workers) × (workers ≤ worker_limit) }
-    requires fewer { (0 < left) × (left < length question.stack.layers) }
-    requires ascend { contents_ascend told.items ≡ true }
-    requires told { (blobs : List BlobView) × (contents_of blobs ≡ told.items) }
-    ensures outcome { (blobs : List BlobView) → contents_of blobs ≡ told.items
-        → IsRunDown left blobs question.stack
-        (λ one. MayRefuseTold Merge one (G.may_refuse gate.now)) result }
-    ensures keeps { IfOk result (KeepsTreeDown left question.stack) }
-{
-    let Question {
-        what: _,
-        stack,
-        names,
-    } = question;
-    drop(names);
-    let team = WorkerTeam {
-        rt,
-        alloc,
-        workers,
-        gate,
-    };
-    merged_down(&team, stack, &told, left)
-}
-
-// Comes before the first merge: there must be a layer to be merged so that as many are left.
-fn expect_lower(stack: &Stack, left: usize) -> Result<(), EngineFault>
-    ensures fewer { OnOk result ((0 < left) × (left < length stack.now.layers)) }
-    ensures refused { IfErr result
-        (λ fault. (fault ≡ NoLower) × ((left ≡ 0) ⊎ (length stack.now.layers ≤ left))) }
-{
-    if left == 0 || left >= stack.ordinary() {
-        return Err(EngineFault::NoLower);
-    }
-    Ok(())
-}
-
-// The contents of these blobs, each digested once.
-fn contents_by<G: Gate + Sync, R: Threads + Wait + Sync>(
-    team: &WorkerTeam<'_, G, R>,
-    blobs: &[Blob],
-) -> Result<Vec<Content>, EngineFault>
-    requires number { (0 < team.now.workers) × (team.now.workers ≤ worker_limit) }
-    requires ascend { are_in_order (blob_views blobs.now) ≡ true }
-    ensures told { IfOk result (λ told. told.items ≡ contents_of (blob_views blobs.now)) }
-    ensures ascend { IfOk result (λ told. contents_ascend told.items ≡ true) }
-    ensures fault { IfErr result
-        (IsFailedWalk (MayRefuseBlobs (blob_views blobs.now) (G.may_refuse team.now.gate.now))) }
-{
-    let wrong = wrong_blobs(team, blobs)?;
-    Ok(contents_held(team.alloc, blobs, &wrong)?)
-}
-
-// What merges of a stack give until a given number of layers is left.
-fn merged_down<G: Gate + Sync, R: Threads + Wait + Sync>(
+/// What merges of a stack give until a given number of layers is left: the answer of the last.
+pub(crate) fn merged_down<G: Gate + Sync, R: Threads + Wait + Sync>(
     team: &WorkerTeam<'_, G, R>,
     stack: Stack,
-    told: &[Content],
+    contents: &[BlobInfo],
     left: usize,
 ) -> Result<Answer, EngineFault>
     requires number { (0 < team.now.workers) × (team.now.workers ≤ worker_limit) }
     requires fewer { (0 < left) × (left < length stack.layers) }
-    requires ascend { contents_ascend told.now ≡ true }
-    requires told { (blobs : List BlobView) × (contents_of blobs ≡ told.now) }
-    ensures outcome { (blobs : List BlobView) → contents_of blobs ≡ told.now
+    requires ascend { contents_ascend contents.now ≡ true }
+    requires held { (blobs : List BlobView) × (contents_of blobs ≡ contents.now) }
+    ensures outcome { (blobs : List BlobView) → contents_of blobs ≡ contents.now
         → IsRunDown left blobs stack
-        (λ one. MayRefuseTold Merge one (G.may_refuse team.now.gate.now)) result }
+        (λ one. MayRefuseWork Merge one (G.may_refuse team.now.gate.now)) result }
     ensures keeps { IfOk result (KeepsTreeDown left stack) }
 {
     let before = stack.ordinary() - left - 1;
     let mut last = stack;
     for done in 0..before {
-        last = merged_over(team, last, told)?;
+        last = merged_over(team, last, contents)?;
     }
-    let found = findings_by(team, &last, told)?;
+    let found = findings_of(team, &last, contents)?;
     merge(team, last, found)
 }
 
@@ -197,21 +61,21 @@ fn merged_down<G: Gate + Sync, R: Threads + Wait + Sync>(
 fn merged_over<G: Gate + Sync, R: Threads + Wait + Sync>(
     team: &WorkerTeam<'_, G, R>,
     stack: Stack,
-    told: &[Content],
+    contents: &[BlobInfo],
 ) -> Result<Stack, EngineFault>
     requires number { (0 < team.now.workers) × (team.now.workers ≤ worker_limit) }
     requires several { 1 < length stack.layers }
-    requires ascend { contents_ascend told.now ≡ true }
-    requires told { (blobs : List BlobView) × (contents_of blobs ≡ told.now) }
+    requires ascend { contents_ascend contents.now ≡ true }
+    requires held { (blobs : List BlobView) × (contents_of blobs ≡ contents.now) }
     ensures next { IfOk result
-        (λ next. (blobs : List BlobView) → contents_of blobs ≡ told.now
+        (λ next. (blobs : List BlobView) → contents_of blobs ≡ contents.now
         → MergeLeads blobs stack next) }
     ensures tree { IfOk result (λ next. (path : PathNames) → look next path ≡ look stack path) }
-    ensures fault { IfErr result (λ fault. (blobs : List BlobView) → contents_of blobs ≡ told.now
+    ensures fault { IfErr result (λ fault. (blobs : List BlobView) → contents_of blobs ≡ contents.now
         → IsFailure Merge stack (findings blobs stack)
-        (MayRefuseTold Merge stack (G.may_refuse team.now.gate.now)) fault) }
+        (MayRefuseWork Merge stack (G.may_refuse team.now.gate.now)) fault) }
 {
-    let found = findings_by(team, &stack, told)?;
+    let found = findings_of(team, &stack, contents)?;
     expect_clean(team.alloc, found)?;
     left_by_merge(team, stack)
 }

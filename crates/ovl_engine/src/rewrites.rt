@@ -109,7 +109,7 @@ pub(crate) fn rewritten<R: Threads, F: FnOnce() -> Result<Vec<u8>, AllocError> +
     })
 }
 
-/// The same with the report of what this layer has.
+/// The answer with these new layers, whose report lists the entries of the layer `told`.
 pub(crate) fn answer_telling<R: Threads>(
     rt: &R,
     alloc: Global,

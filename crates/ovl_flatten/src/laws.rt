@@ -11,17 +11,18 @@ pub fn flatten_keeps_the_tree()
     ensures { FlattenKeepsTree }
 {}
 
-/// It is sound by itself.
+/// The layer that flatten makes of a sound stack is sound by itself.
 pub fn flatten_is_sound()
     ensures { FlattenIsSound }
 {}
 
-/// It has no marks.
+/// The layer that flatten makes of a sound stack has no marks.
 pub fn flatten_has_no_marks()
     ensures { FlattenHasNoMarks }
 {}
 
-/// It is the one layer without marks that shows by itself what the stack shows.
+/// The only layer without marks that shows by itself what a stack shows is the one that flatten
+/// makes of it.
 pub fn flatten_is_the_one()
     ensures { FlattenIsTheOne }
 {}

@@ -31,7 +31,7 @@ fn is_lower_digit(byte: u8) -> bool
     ((b'0' <= byte) & (byte <= b'9')) | ((b'a' <= byte) & (byte <= b'f'))
 }
 
-// The same from a place on, a byte at a time.
+// Whether each byte from a place on is one of `0` to `9` and `a` to `f`, a byte at a time.
 #[inline(always)]
 fn are_lower_tail(text: &[u8], from: usize) -> bool
     requires { from ≤ length text.now }

@@ -187,7 +187,7 @@ impl Eq for Kind {
 /// attributes.
 #[derive(Debug, Drop)]
 pub struct Inode {
-    /// What it is.
+    /// The kind of the inode, with what only that kind has.
     pub kind: Kind,
     /// Permission bits, set-user-ID, set-group-ID and sticky bit; at most [`MODE_LIMIT`] where it
     /// is sound.

@@ -6,7 +6,7 @@ use std::collections::LinkedList;
 /// many passes were split from it and joined to it, and the pieces that it pushed and took.
 /// Contracts speak of it; no value of it is made.
 pub struct Account {
-    /// Whether it is the owner's.
+    /// Whether the account is the owner's, not a pass's.
     pub owner: bool,
     /// How many passes were split from it.
     pub split: u64,

@@ -77,7 +77,7 @@ impl Outcome<Piece, Account> for Steals {
     ghost then = { λ v xs w. w ≡ lent 1 (v.taken ++ xs) };
 }
 
-/// Where no pass is out, what was pushed is what the owner's account has as taken with what the
+/// If no pass is out, what was pushed is what the owner's account has as taken with what the
 /// lane holds.
 pub(crate) struct Left;
 

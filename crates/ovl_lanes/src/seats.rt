@@ -21,9 +21,9 @@ pub struct Seat {
     pub thief: Thief,
 }
 
-/// Ends a lane to which all its passes were joined again: how many pieces were pushed, were taken
-/// and are left. Piece by piece, those taken with those left are those pushed. The pieces that are
-/// left go with the lane.
+/// Ends a lane to which all its passes were joined again, and gives how many pieces were pushed,
+/// were taken and are left. Piece by piece, those taken with those left are those pushed. The
+/// pieces that are left are dropped with the lane.
 pub fn close(seat: Seat) -> Gathered
     requires { IsWhole seat.lane }
     ensures left { (left : List Piece)

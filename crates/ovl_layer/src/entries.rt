@@ -83,7 +83,10 @@ pub fn start_root(alloc: Global, root: Inode) -> Result<LayerBuilder, LayerFault
 }
 
 impl LayerBuilder {
-    /// The builder with one entry more, that of this number, if one is stated.
+    /// The builder with one entry more; `entry` is `None` if a manifest can't state it. `number`,
+    /// which a fault names, is how many entries there are before it. Refused are `None`, an
+    /// attribute with an escaped name, and an entry that doesn't come after the last one or whose
+    /// directory isn't there; else it fails only when out of memory.
     pub fn with_entry(
         self,
         alloc: Global,
@@ -116,7 +119,9 @@ impl LayerBuilder {
         Ok(builder)
     }
 
-    /// The same with the entry `name` of a directory, of which no path is made.
+    /// The builder with one entry more, `name` in a directory, with the faults of
+    /// [`LayerBuilder::with_entry`]. No path of it is made if the last entry is that directory or
+    /// lies under it.
     pub fn with_child(
         self,
         alloc: Global,
@@ -146,8 +151,8 @@ impl LayerBuilder {
         self.with_child_on_way(alloc, number, directory.len(), name, inode)
     }
 
-    // The same in the directory of the first `depth` names of the last path, where a manifest can
-    // state it.
+    // The builder with one entry more, `name` in the directory of the first `depth` names of the
+    // last path; a manifest can state it.
     fn with_child_on_way(
         self,
         alloc: Global,
@@ -226,7 +231,8 @@ pub fn slashed_len(path: &Path) -> usize
 // separator.
 const SHORT: usize = 15;
 
-// The same of the path of the entry `name` of a directory.
+// Whether the path of the entry `name` of a directory has at most `DEPTH_LIMIT` names, and its text
+// at most `TEXT_LIMIT` bytes.
 fn is_child_within_limits(directory: &Path, name: &Name) -> bool
     ensures { result ≡ layers.is_within_limits (child_path directory.now name.now) }
 {

@@ -27,7 +27,7 @@ impl Model for KidLists {
 }
 
 impl KidLists {
-    /// Those of the rows with these parents, the first of which is the root's.
+    /// The lists for all rows, by the number of each row's parent, the root's first.
     pub(crate) fn of(alloc: Global, parents: &[u32]) -> Result<KidLists, AllocError>
         requires rooted { 0 < length parents.now }
         requires earlier { IsTrue (are_earlier 1 (drop 1 parents.now)) }
@@ -49,7 +49,7 @@ impl KidLists {
         Ok(KidLists { kids, starts })
     }
 
-    /// Those of the row of a number.
+    /// The numbers of the rows directly below the row with this number.
     pub(crate) fn below(&self, number: u32) -> &[u32]
         requires { number < length self.now }
         ensures { slice_get self.now number ≡ Some result.now }

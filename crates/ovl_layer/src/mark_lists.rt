@@ -74,7 +74,7 @@ impl MarkList {
         Ok(())
     }
 
-    /// That of the row of a number.
+    /// The mark of the row with this number.
     pub(crate) fn at(&self, number: u32) -> &Mark
         requires { number < length self.now }
         ensures { slice_get self.now number ≡ Some result.now }

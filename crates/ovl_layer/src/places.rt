@@ -41,8 +41,8 @@ pub(crate) fn place_at<P: LayerPlace>(root: P, path: &Path) -> Option<P>
     Some(place)
 }
 
-/// The names directly below a path that is counted from `root`, in order; none where there is no
-/// directory. Fails only when out of memory.
+/// The names in the directory at `path`, in order; none if there is no directory. The path is
+/// counted from the place `root`, which may be any place of a layer. Fails only when out of memory.
 pub(crate) fn names_at<P: LayerPlace>(
     alloc: Global,
     root: P,

@@ -99,7 +99,8 @@ impl SubtreeBuilder {
         Ok(())
     }
 
-    // Whether this entry can be after all, whatever lies below it.
+    // Whether an entry of this name and inode can come after all entries so far, whatever lies
+    // below it.
     fn takes(&self, name: &Name, inode: &Inode) -> bool
         ensures { result
             ≡ comes_after self.now (name.now ∷ []) && is_sound_inode inode.now
@@ -108,7 +109,7 @@ impl SubtreeBuilder {
         self.comes_last(name) && sound(inode) && !has_escaped_name(&inode.attrs)
     }
 
-    // Whether an entry of this name comes after all.
+    // Whether an entry of this name comes after all entries so far.
     fn comes_last(&self, name: &Name) -> bool
         ensures { result ≡ comes_after self.now (name.now ∷ []) }
     {
@@ -142,7 +143,7 @@ impl Extent {
         bytes: 0,
     };
 
-    // That of these entries and an entry `name` of their directory with those below it.
+    // The extent of these entries and an entry `name` of their directory with those below it.
     fn with(self, name: &Name, below: Extent) -> Extent
         requires own { Fits self }
         requires below { Fits below }

@@ -14,8 +14,8 @@ use Rattle.ovl_names.specs.Order.{ascends}
 use Rattle.ovl_names.proofs.Ascending.{both, is_lt-Less, list_all-before, reversed}
 use Rattle.ovl_layer.proofs.NodeLemmas.{name_eq-cmp}
 use Rattle.ovl_lookup.specs.NamedLists.{AreInOrder, both_joined, names_of, put_joined}
-use Rattle.ovl_lookup.specs.Passes.{put_names}
-use Rattle.ovl_lookup.proofs.LawsOfKids.{ascends-put}
+use Rattle.ovl_names.specs.NameSets.{put_names}
+use Rattle.ovl_names.proofs.LawsOfNameSets.{ascends-put}
 
 pub or-none : {X : Type 0} (o : Option X) → option_or o None ≡ o
 or-none None = refl

@@ -8,10 +8,8 @@ use Rattle.std.proofs.lemmas.Option.{slice_get_read, get_or_from_slice_get, slic
 use Rattle.ovl_names.specs.Paths.{PathNames}
 use Rattle.ovl_inode.specs.declared.inodes.Inode.{Inode}
 use Rattle.ovl_inode.specs.declared.marks.Mark.{Mark}
-use Rattle.ovl_inode.specs.declared.marks.Mark.TheVariants.{Whiteout, DirOpaque, DirMoved, DirBad, DirPlain, Meta, MetaBad, Leaf}
-use Rattle.ovl_inode.specs.declared.marks.Redirect.TheVariants.{To, Beside}
 use Rattle.ovl_inode.specs.Inodes.{visible}
-use Rattle.ovl_inode.specs.Marks.{mark_of, is_whiteout, is_data, is_metacopy, is_metacopy_mark, is_regular, has_metacopy}
+use Rattle.ovl_inode.specs.Marks.{mark_of, is_whiteout, is_metacopy, is_regular, has_metacopy}
 use Rattle.ovl_layer.specs.Layers.{Entries, entry_at, names_below}
 use Rattle.ovl_layer.specs.Sheets.{path_at}
 use Rattle.ovl_layer.specs.RowsBelow.{NamedRow, LiesBelow}
@@ -21,16 +19,13 @@ use Rattle.ovl_lookup.specs.declared.tops.Top.{Top}
 use Rattle.ovl_lookup.specs.declared.views.DirPlace.{DirPlace}
 use Rattle.ovl_lookup.specs.Stacks.{StackView}
 use Rattle.ovl_lookup.specs.Trace.{things_found}
-use Rattle.ovl_lookup.specs.Merged.{data_of, shown_of, is_nothing, without_blob, place_of_data}
+use Rattle.ovl_lookup.specs.Merged.{data_of, shown_of, is_nothing, without_blob}
 use Rattle.ovl_lookup.specs.Passes.{data_below, shown_with}
-use Rattle.ovl_lookup.specs.ShownKinds.{shown_kind_of, shown_kind_of_kind}
 use Rattle.ovl_lookup.specs.Views.{ReachedDirectory, entry_in, below_entry, found_below}
 use Rattle.ovl_lookup.specs.ViewPasses.{First, AreTops, top_told, tops_told, look_from_top, looks_from_tops}
-use Rattle.ovl_lookup.specs.NextLookups.{path_on}
 use Rattle.ovl_lookup.specs.DirViews.{place_in, places_in}
 use Rattle.ovl_lookup.proofs.LawsOfInodes.{bare_file}
-use Rattle.ovl_lookup.proofs.LawsOfFound.{data_of-metacopy, data_of-bad, data_below-metacopy, data_below-data, data_below-other, shown_of-full, any_found, shown-any}
-use Rattle.ovl_lookup.proofs.ShownKindLemmas.{shown_kind-first}
+use Rattle.ovl_lookup.proofs.LawsOfFound.{data_of-metacopy, data_of-bad, data_below-metacopy, data_below-other, shown_of-full, any_found, shown-any}
 use Rattle.ovl_lookup.proofs.WalkFacts.{take-rest}
 use Rattle.ovl_lookup.proofs.ViewSteps.{found-whiteout, found-entry, looks-next}
 use Rattle.ovl_lookup.specs.NamedLists.{names_of}
@@ -40,7 +35,7 @@ use Rattle.ovl_lookup.proofs.DirViewLemmas.{entry-here}
 -- ---- a file that lacks its contents
 
 -- its data among what is found is that below metacopy files
-lacking-data : (data_only : List Entries) (inode : Inode) (below : List Inode) → (is_regular inode && has_metacopy inode) ≡ true → data_of data_only (inode ∷ below) ≡ data_below data_only None (inode ∷ below)
+pub lacking-data : (data_only : List Entries) (inode : Inode) (below : List Inode) → (is_regular inode && has_metacopy inode) ≡ true → data_of data_only (inode ∷ below) ≡ data_below data_only None (inode ∷ below)
 lacking-data data_only inode below lacks = by (is_metacopy inode) refl
   where
     by : (b : Bool) → is_metacopy inode ≡ b → data_of data_only (inode ∷ below) ≡ data_below data_only None (inode ∷ below)
@@ -80,47 +75,8 @@ module _ (data_only layers : List Entries) (name : PathName) (places : List Reac
   pub full-shows : is_whiteout inode ≡ false → (is_regular inode && has_metacopy inode) ≡ false → shown_of data_only left ≡ Shown (visible inode)
   full-shows w full = ap (shown_of data_only) (found-here w) ∙ shown_of-full data_only inode next_lookup full
 
-  pub lacking-shows : is_whiteout inode ≡ false → (is_regular inode && has_metacopy inode) ≡ true → shown_of data_only left ≡ shown_with inode (data_below data_only None left)
-  lacking-shows w lacks =
-      ap (shown_of data_only) (found-here w)
-      ∙ (shown-lacking data_only inode next_lookup lacks
-      ∙ ap (shown_with inode) (lacking-data data_only inode next_lookup lacks ∙ sym (ap (data_below data_only None) (found-here w))))
-
   pub entry-shows : is_whiteout inode ≡ false → not (is_nothing (shown_of data_only left)) ≡ true
   entry-shows w = shown-any data_only left ∙ ap any_found (found-here w)
-
-  pub entry-shown_kind : is_whiteout inode ≡ false → shown_kind_of (shown_of data_only left) ≡ shown_kind_of_kind inode.kind
-  entry-shown_kind w = ap (λ (found : List Inode). shown_kind_of (shown_of data_only found)) (found-here w) ∙ shown_kind-first data_only inode next_lookup
-
-  -- the data there
-  pub whiteout-data : is_whiteout inode ≡ true → data_below data_only None left ≡ None
-  whiteout-data w = ap (data_below data_only None) (found-whiteout layers name places k place at inode here w)
-
-  pub own-data : is_whiteout inode ≡ false → is_data inode ≡ true → data_below data_only None left ≡ Some inode
-  own-data w holds = ap (data_below data_only None) (found-here w) ∙ data_below-data data_only None inode next_lookup holds
-
-  pub other-data : is_whiteout inode ≡ false → is_data inode ≡ false → is_metacopy_mark mark ≡ false → data_below data_only None left ≡ None
-  other-data w bare meta = ap (data_below data_only None) (found-here w) ∙ data_below-other data_only None inode next_lookup (ap is_metacopy_mark (sym marked) ∙ meta) bare
-
-  pub next_lookup-data : is_whiteout inode ≡ false → is_metacopy_mark mark ≡ true → data_below data_only None left ≡ data_below data_only (place_of_data mark) next_lookup
-  next_lookup-data w meta = ap (data_below data_only None) (found-here w) ∙ (data_below-metacopy data_only None inode next_lookup (ap is_metacopy_mark (sym marked) ∙ meta)
-      ∙ ap (λ (m : Mark). data_below data_only (place_of_data m) next_lookup) (sym marked))
-
--- an absolute redirect of a metacopy file says where its data is
-pub place-on : (mark : Mark) → is_metacopy_mark mark ≡ true → place_of_data mark ≡ path_on mark
-place-on (Meta None) meta = refl
-place-on (Meta (Some (To place))) meta = refl
-place-on (Meta (Some (Beside name))) meta = refl
-place-on Whiteout meta = let bad : false ≡ true = meta in cc
-place-on DirOpaque meta = let bad : false ≡ true = meta in cc
-place-on (DirMoved redirect) meta = let bad : false ≡ true = meta in cc
-place-on DirBad meta = let bad : false ≡ true = meta in cc
-place-on DirPlain meta = let bad : false ≡ true = meta in cc
-place-on MetaBad meta = let bad : false ≡ true = meta in cc
-place-on Leaf meta = let bad : false ≡ true = meta in cc
-
-pub next_lookup-placed : (data_only : List Entries) (mark : Mark) (place : Option PathNames) (one other : List Inode) → is_metacopy_mark mark ≡ true → path_on mark ≡ place → one ≡ other → data_below data_only (place_of_data mark) one ≡ data_below data_only place other
-next_lookup-placed data_only mark place one other meta on same = λ j. data_below data_only ((place-on mark meta ∙ on) j) (same j)
 
 -- the place that is first, which has something at a name
 pub first-entry : (layers : List Entries) (name : PathName) (places : List ReachedDirectory) (inode : Inode) → IsSomeAnd (slice_get places zero) (λ place. entry_in layers name place ≡ Some inode) → (place : ReachedDirectory) × (slice_get places zero ≡ Some place) × (entry_in layers name place ≡ Some inode)

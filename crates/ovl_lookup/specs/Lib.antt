@@ -14,6 +14,7 @@ pub mod Views
 pub mod ViewPasses
 pub mod NextLookups
 pub mod DirViews
+pub mod Hits
 pub mod Laws
 pub mod Equal
 pub mod EqualLaws

@@ -1,9 +1,9 @@
 -- What the passes over names and layers keep.
-use Rattle.std.specs.Prelude.{◌≡◌, ℕ, zero, suc, ◌<◌, ◌≤◌, Bool, true, false, ◌||◌, Option, Some, None, List, [], ◌∷◌, ◌++◌, if◌then◌else◌, is_some, unwrap_or, length, drop, filter, map, IfSome}
+use Rattle.std.specs.Prelude.{◌≡◌, ℕ, zero, suc, ◌<◌, Bool, true, false, ◌||◌, Option, Some, None, List, [], ◌∷◌, ◌++◌, if◌then◌else◌, is_some, unwrap_or, length, filter, map, IfSome}
 use Rattle.std.specs.Option.{option_map}
 use Rattle.std.specs.List.{flat_map}
-use Rattle.std.specs.BTreeSet.{insert_key}
-use Rattle.ovl_names.specs.Names.{PathName, name_cmp}
+use Rattle.ovl_names.specs.Names.{PathName}
+use Rattle.ovl_names.specs.NameSets.{put_names}
 use Rattle.ovl_names.specs.Paths.{PathNames, child_path}
 use Rattle.ovl_inode.specs.declared.inodes.Inode.{Inode}
 use Rattle.ovl_inode.specs.declared.marks.Mark.{Mark}
@@ -17,10 +17,8 @@ use Rattle.ovl_lookup.specs.declared.steps.RopeStep.{RopeStep}
 use Rattle.ovl_lookup.specs.declared.steps.OwnStep.{OwnStep}
 use Rattle.ovl_lookup.specs.declared.steps.Arrival.{Arrival}
 use Rattle.ovl_lookup.specs.declared.looks.Look.{Look}
-use Rattle.ovl_lookup.specs.declared.looks.Hit.{Hit}
 use Rattle.ovl_lookup.specs.Walk.{walk, nothing_found, origin_path, name_in_lower, is_closing}
 use Rattle.ovl_lookup.specs.Stacks.{StackView}
-use Rattle.ovl_lookup.specs.Trace.{things_found}
 use Rattle.ovl_lookup.specs.declared.looks.Look.TheVariants.{Shown, Broken}
 use Rattle.ovl_inode.specs.Inodes.{visible}
 use Rattle.ovl_lookup.specs.Merged.{look, shows, without_blob, place_of_data, data_at_place}
@@ -113,16 +111,6 @@ abbrev pub entered_closed : Mark → Bool → Bool
 entered_closed mark closed =
     if is_some (origin_path (Some mark)) then false else (closed || is_closing (Some mark))
 
--- what the layers from `i` on find, where the walk above them gave this path and flag
-abbrev pub found_on : StackView → ℕ → PathNames → Bool → List Inode
-found_on stack i next closed = if closed then [] else things_found (drop i stack.layers) next
-
--- the first of these things found, where the others are those of the layers below it
-pub record IsHit (stack : StackView) (found : List Inode) (hit : Hit) : Type 0 where
-  pub first : found ≡ hit.found.inode.now ∷ found_on stack hit.below hit.next hit.closed
-  pub marked : hit.found.mark.now ≡ mark_of hit.found.inode.now
-  pub inside : hit.below ≤ length stack.layers
-
 -- what is shown of a metacopy file, by its data
 abbrev pub shown_with : Inode → Option Inode → Look
 shown_with inode (Some contents) = Shown (record (visible inode) { kind = contents.kind })
@@ -143,11 +131,6 @@ own_names_along [] path = []
 own_names_along (layer ∷ layers) path =
     names_below layer path
     ++ (if (walk layer path).closed then [] else own_names_along layers (walk layer path).next)
-
--- names put among ascending ones
-abbrev pub put_names : List PathName → List PathName → List PathName
-put_names names [] = names
-put_names names (name ∷ more) = put_names (insert_key name_cmp names name) more
 
 -- those of the layers' own names below which something is shown
 abbrev pub kids_along : StackView → PathNames → List PathName

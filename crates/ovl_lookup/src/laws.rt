@@ -20,7 +20,9 @@ pub fn views_show()
     ensures { ViewsShow }
 {}
 
-/// Where a view's places are, and how they go on.
+/// Each place of a view is a directory of its layer, which isn't above the view's first layer, with
+/// the path by which the layers below know it and whether they are hidden there. After one where
+/// they are hidden there is none.
 pub fn views_stand()
     ensures { ViewsStand }
 {}

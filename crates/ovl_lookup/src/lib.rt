@@ -1,9 +1,9 @@
 //! Walks in one layer, and what a stack of layers shows.
 #![tactic(auto)]
 
+mod hits;
 mod inodes;
 pub mod laws;
-mod lists;
 mod looks;
 mod named_lists;
 mod next_lookup;
@@ -14,7 +14,6 @@ mod shown_kinds;
 mod stacks;
 mod steps;
 mod tops;
-mod view_looks;
 mod views;
 
 pub use inodes::shown_inodes;

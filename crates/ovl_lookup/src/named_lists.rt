@@ -21,7 +21,7 @@ pub trait HasName: Copy {
     fn name(&self) -> &Name
         ensures { result.now ≡ (told self.now).0 };
 
-    /// This one with another of the same name.
+    /// The name with what belongs to it here and in `other`, which has the same name.
     fn joined(&self, other: &Self) -> Self
         ensures { told result
             ≡ ((told self.now).0, joined_of (told self.now).1 (told other.now).1) };

@@ -17,7 +17,7 @@ pub enum NextLookup<'a> {
 }
 
 impl<'a> NextLookup<'a> {
-    /// Where it goes on at an entry of this mark and name.
+    /// Where the walk of a path goes on in the layer below an entry of this mark and name.
     pub fn of(mark: &'a Mark, name: &'a Name) -> NextLookup<'a>
         ensures { IsNextLookup mark.now name.now result }
     {

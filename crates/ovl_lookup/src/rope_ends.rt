@@ -29,7 +29,7 @@ impl<'t, 'a> RopeEnd<'t, 'a> {
         end
     }
 
-    /// Where the last part has no names left, goes on to one that has some, if there is one.
+    /// If the last part has no names left, goes on to one that has some, if there is one.
     pub(crate) fn refill(&mut self)
         ensures names { names_of_parts (iter_rest self.new.parts) ++ self.new.last
             ≡ names_of_parts (iter_rest self.old.parts) ++ self.old.last }

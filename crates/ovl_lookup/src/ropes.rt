@@ -78,7 +78,7 @@ impl<'a> PathRope<'a> {
         self.with(&Names::one(name))
     }
 
-    /// Whether it is that of the root.
+    /// Whether the rope is that of the root.
     pub fn is_root(&self) -> bool
         ensures { IsTrue result ↔ (self.now ≡ []) }
     {

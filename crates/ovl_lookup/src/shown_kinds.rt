@@ -1,12 +1,15 @@
 //! Of what kind something is that is shown.
 ghost use Rattle.std.specs.Prelude.{◌≡◌};
 ghost use Rattle.ovl_lookup.specs.declared.looks.Look.{Look};
-ghost use Rattle.ovl_lookup.specs.Merged.{is_nothing, is_shown_directory};
+ghost use Rattle.ovl_lookup.specs.Stacks.{StackView};
+ghost use Rattle.ovl_lookup.specs.Merged.{is_nothing, is_shown_directory, shown_of};
+ghost use Rattle.ovl_lookup.specs.Hits.{found_of};
 ghost use Rattle.ovl_lookup.specs.ShownKinds.{shown_kind_of, shown_kind_of_kind};
 
-use ovl_inode::{Inode, Kind};
+use crate::hits::Hit;
+use ovl_inode::Kind;
 
-/// Of what kind it is that a stack shows at a path.
+/// The kind of what a stack shows at a path.
 #[derive(Clone, Copy, Debug)]
 pub enum ShownKind {
     /// Nothing is shown.
@@ -20,11 +23,22 @@ pub enum ShownKind {
 }
 
 impl ShownKind {
-    /// The kind of an inode that is shown.
-    pub(crate) fn of(inode: &Inode) -> ShownKind
-        ensures { result ≡ shown_kind_of_kind inode.now.kind }
+    /// The kind of what is shown of the things found, by the first.
+    pub(crate) fn of_first(first: Option<Hit<'_, '_>>) -> ShownKind
+        ensures { (stack : StackView) → result
+            ≡ shown_kind_of (shown_of stack.data_only (found_of stack first.entry)) }
     {
-        match &inode.kind {
+        match first {
+            Some(hit) => ShownKind::of(&hit.found.inode.kind),
+            None => ShownKind::Nothing,
+        }
+    }
+
+    // The kind of what is shown of an inode of this kind.
+    fn of(kind: &Kind) -> ShownKind
+        ensures { result ≡ shown_kind_of_kind kind.now }
+    {
+        match kind {
             Kind::Dir => ShownKind::Directory,
             Kind::File { .. } => ShownKind::File,
             _ => ShownKind::Other,

@@ -1,19 +1,25 @@
-//! The layers of a stack, and what each has by itself.
-ghost use Rattle.std.specs.Prelude.{◌≡◌, ◌≢◌, ◌<◌, ◌≤◌, ◌+◌, ◌↔◌, ◌⊎◌, [], false, Some, Err, length, IsTrue, IfOk, MatchOption, MatchResult, slice_get, IfSome};
+//! A stack of layers: what each has by itself, and what they show together.
+ghost use Rattle.std.specs.Prelude.{◌≡◌, ◌≢◌, ◌<◌, ◌≤◌, ◌+◌, ◌++◌, ◌↔◌, ◌⊎◌, [], false, Some, Err, drop, length, IsTrue, IfOk, OnOk, MatchOption, MatchResult, slice_get, IfSome};
 ghost use Rattle.std.specs.Option.{option_map};
 ghost use Rattle.std.specs.List.{All};
 ghost use Rattle.ovl_layer.specs.Layers.{IsLayer, entry_at, is_directory_at, names_below};
-ghost use Rattle.ovl_lookup.specs.Passes.{IsMarked, IsOwnMarked, IsOwnDirectory, step_of, own_step_of};
+ghost use Rattle.ovl_lookup.specs.Passes.{IsMarked, IsOwnMarked, IsOwnDirectory, step_of, own_step_of, data_below, looks_from, looks_placed};
 ghost use Rattle.ovl_lookup.specs.Walk.{walk};
 ghost use Rattle.ovl_lookup.specs.declared.stacks.StackFault.TheVariants.{Layers, Memory, DataCount};
-ghost use Rattle.ovl_lookup.specs.Stacks.{layer_limit, all_layers, stack_with};
+ghost use Rattle.ovl_lookup.specs.Stacks.{layer_limit, all_layers, from_layer, stack_with};
+ghost use Rattle.ovl_lookup.specs.Trace.{things_found};
+ghost use Rattle.ovl_lookup.specs.Merged.{AreKids, IsMerged, look, place_told, data_at_place, is_full_file};
+ghost use Rattle.ovl_lookup.specs.Merged as merged;
+ghost use Rattle.ovl_lookup.specs.ShownKinds.{shown_kind_of};
 ghost use Rattle.ovl_lookup.specs.Words.{top_layer};
 
+use crate::hits::{data_of, first_on, past_metacopies};
+use crate::looks::look_of;
 use crate::steps::directory_in;
-use crate::{OwnDirectory, OwnStep, PathRope, RopeStep, follow};
-use ovl_inode::Inode;
+use crate::{DirView, Look, OwnDirectory, OwnStep, PathRope, RopeStep, ShownKind, follow};
+use ovl_inode::{Inode, is_data, is_whiteout};
 use ovl_layer::{Layer, Sheet};
-use ovl_names::{Name, Path};
+use ovl_names::{DEPTH_LIMIT, Name, Path};
 use std::alloc::{AllocError, Global};
 use std::marker::Model;
 use thiserror::Error;
@@ -30,7 +36,7 @@ pub enum StackFault {
     /// Out of memory.
     #[error("out of memory")]
     Memory,
-    /// All of them would be data-only.
+    /// All layers would be data-only.
     #[error("data layers must leave a layer")]
     DataCount,
 }
@@ -232,7 +238,8 @@ impl Stack {
         follow(alloc, self.any_sheet(i), rope)
     }
 
-    /// The same, with the path for the layer below only if marks turn it, see [`OwnStep::at`].
+    /// The walk of a rope in layer `i`, with the path for the layer below only if marks turn it,
+    /// see [`OwnStep::at`]; `i` is below the number of layers. Fails only when out of memory.
     pub fn own_step<'a>(
         &'a self,
         alloc: Global,
@@ -264,9 +271,176 @@ impl Stack {
     {
         directory_in(alloc, self.any_sheet(i), path)
     }
+
+    /// What the layers with index `from` and up show at a path, over the data-only ones; `from` is
+    /// at most the number of the others. Fails only when out of memory. overlayfs.rst:
+    /// "Directories", "Multiple lower layers", "Metadata only copy up", "Data-only lower layers".
+    ///
+    /// What all layers show at a path, in words:
+    ///
+    /// ```
+    /// match stack.look(alloc, 0, path)? {
+    ///     Look::Nothing => String::from_str(alloc, "nothing"),
+    ///     Look::Shown(inode) => format!(in alloc; "mode {}", inode.mode),
+    ///     Look::Broken(_) => String::from_str(alloc, "a file whose data is missing"),
+    /// }
+    /// ```
+    pub fn look(&self, alloc: Global, from: usize, path: &Path) -> Result<Look, AllocError>
+        requires { from ≤ length self.now.layers }
+        ensures { IfOk result (λ shown. shown ≡ look (from_layer from self.now) path.now) }
+    {
+        let rope = PathRope::of(alloc, &path.names())?;
+        let first = first_on(alloc, self, from, rope)?;
+        look_of(alloc, self, first)
+    }
+
+    /// The kind of what the layers with index `from` and up show at a path, as [`Stack::look`]
+    /// finds it, with nothing copied. Fails only when out of memory.
+    pub fn shown_kind<'a>(
+        &'a self,
+        alloc: Global,
+        from: usize,
+        path: PathRope<'a>,
+    ) -> Result<ShownKind, AllocError>
+        requires { from ≤ length self.now.layers }
+        ensures { IfOk result
+            (λ shown_kind. shown_kind ≡ shown_kind_of (look (from_layer from self.now) path.entry)) }
+    {
+        let first = first_on(alloc, self, from, path)?;
+        Ok(ShownKind::of_first(first))
+    }
+
+    /// The data that the layers with index `from` and up have at a path, below metacopy files, of
+    /// which the last says where data-only layers have it; before the first, that is `place_told`.
+    /// `from` is at most the number of layers that aren't data-only. Fails only when out of memory.
+    /// overlayfs.rst: "Metadata only copy up", "Data-only lower layers".
+    pub fn data<'a>(
+        &'a self,
+        alloc: Global,
+        from: usize,
+        path: PathRope<'a>,
+        place_told: Option<&'a Path>,
+    ) -> Result<Option<&'a Inode>, AllocError>
+        requires { from ≤ length self.now.layers }
+        ensures { IfOk result (λ found. option_map (λ inode. inode.now) found
+            ≡ data_below self.now.data_only (option_map (λ told. told.now) place_told.entry)
+            (things_found (drop from self.now.layers) path.entry)) }
+    {
+        let first = first_on(alloc, self, from, path)?;
+        data_of(alloc, self, first, place_told)
+    }
+
+    /// Where data-only layers have the data of what is found at a path, if that is only metacopy
+    /// files: where the last of them says. Fails only when out of memory. overlayfs.rst: "Data-only
+    /// lower layers".
+    pub fn data_place(&self, alloc: Global, path: &Path) -> Result<Option<Path>, AllocError>
+        ensures { IfOk result
+            (λ place. place ≡ place_told (things_found self.now.layers path.now)) }
+    {
+        let rope = PathRope::of(alloc, &path.names())?;
+        let first = first_on(alloc, self, 0, rope)?;
+        let (found, told) = past_metacopies(alloc, self, first, None)?;
+        match found {
+            Some(_) => Ok(None),
+            None => copied(alloc, told),
+        }
+    }
+
+    /// The full file that data-only layers have at this place, where there is one.
+    pub(crate) fn data_at(&self, place: Option<&Path>) -> Option<&Inode>
+        ensures { option_map (λ inode. inode.now) result
+            ≡ data_at_place self.now.data_only (option_map (λ path. path.now) place.entry) }
+    {
+        match place {
+            Some(path) => self.full_file(path),
+            None => None,
+        }
+    }
+
+    /// The first full file that the data-only layers have at a path: a regular file with its
+    /// contents itself, and no whiteout. Takes no memory. overlayfs.rst: "Data-only lower layers".
+    pub fn full_file(&self, path: &Path) -> Option<&Inode>
+        ensures { option_map (λ inode. inode.now) result
+            ≡ merged.full_file_in self.now.data_only path.now }
+    {
+        full_file_in(&self.data_only, path)
+    }
+
+    /// The names that a directory has in the merged tree of the layers with index `from` and up, in
+    /// order; none where no directory is shown. `from` is at most the number of layers that aren't
+    /// data-only. Fails only when out of memory. overlayfs.rst: "Directories", "readdir".
+    ///
+    /// The names that all layers show in a directory, each with a space after it:
+    ///
+    /// ```
+    /// for name in &stack.names(alloc, 0, path)? {
+    ///     text.push_str(name.as_str())?;
+    ///     text.push_str(" ")?;
+    /// }
+    /// ```
+    pub fn names(&self, alloc: Global, from: usize, path: &Path) -> Result<Vec<Name>, AllocError>
+        requires { from ≤ length self.now.layers }
+        ensures { IfOk result (λ names. AreKids (from_layer from self.now) path.now names.items) }
+    {
+        let _ = &self.layers;
+        let view = DirView::of(alloc, self, from, path)?;
+        match view {
+            Some(view) => view.names(alloc, self),
+            None => Ok(Vec::new(alloc)),
+        }
+    }
+
+    /// The whole merged tree in path order: each path at which something is shown once, with what
+    /// is shown there. Fails only when out of memory.
+    ///
+    /// The directories that a stack shows, each with a space after it:
+    ///
+    /// ```
+    /// for (path, look) in &stack.list(alloc)? {
+    ///     if look.is_shown_directory() {
+    ///         text.push_str(path.shown(alloc)?.as_str())?;
+    ///         text.push_str(" ")?;
+    ///     }
+    /// }
+    /// ```
+    pub fn list(&self, alloc: Global) -> Result<Vec<(Path, Look)>, AllocError>
+        ensures { IfOk result (λ looks. IsMerged self.now looks.items) }
+    {
+        let _ = &self.layers;
+        let mut looks = Vec::new(alloc);
+        let root = Path::root(alloc);
+        self.push_looks(alloc, &root, DEPTH_LIMIT * self.ordinary() + 1, &mut looks)?;
+        Ok(looks)
+    }
+
+    // Adds what is shown at a path and at most `depth` names under it, in path order.
+    fn push_looks(
+        &self,
+        alloc: Global,
+        path: &Path,
+        depth: usize,
+        looks: &mut Vec<(Path, Look)>,
+    ) -> Result<(), AllocError>
+        ensures { OnOk result
+            (looks.new.items
+            ≡ looks.old.items ++ looks_placed path.now (looks_from depth self.now path.now)) }
+    {
+        let _ = &self.layers;
+        if depth == 0 {
+            return Ok(());
+        }
+        let look = self.look(alloc, 0, path)?;
+        looks.push((path.copy(alloc)?, look))?;
+        let names = self.names(alloc, 0, path)?;
+        for name in &names {
+            let child = path.child(alloc, name)?;
+            self.push_looks(alloc, &child, depth - 1, looks)?;
+        }
+        Ok(())
+    }
 }
 
-// Whether this many layers are no stack.
+// Whether this many layers are too few or too many for a stack.
 fn is_outside(number: usize) -> bool
     ensures { IsTrue result ↔ ((number ≡ 0) ⊎ (layer_limit < number)) }
 {
@@ -295,4 +469,35 @@ fn keep_layers(layers: &[Sheet])
     for layer in layers {
         let _root = layer.root();
     }
+}
+
+// A path of its own.
+fn copied(alloc: Global, path: Option<&Path>) -> Result<Option<Path>, AllocError>
+    ensures { IfOk result (λ copy. copy ≡ option_map (λ path. path.now) path.entry) }
+{
+    match path {
+        Some(path) => Ok(Some(path.copy(alloc)?)),
+        None => Ok(None),
+    }
+}
+
+// The first full file that these layers have at a path.
+fn full_file_in<'a>(layers: &'a [Sheet], path: &Path) -> Option<&'a Inode>
+    ensures { option_map (λ inode. inode.now) result ≡ merged.full_file_in layers.now path.now }
+{
+    for layer in layers {
+        if let Some(inode) = layer.at(path) {
+            if is_full(inode) {
+                return Some(inode);
+            }
+        }
+    }
+    None
+}
+
+// Whether the inode is a regular file with its contents itself, and no whiteout.
+fn is_full(inode: &Inode) -> bool
+    ensures { result ≡ is_full_file inode.now }
+{
+    is_data(inode) && !is_whiteout(inode)
 }

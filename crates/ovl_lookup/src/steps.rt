@@ -63,7 +63,7 @@ pub struct RopeStep<'a> {
 pub struct Found<'a> {
     /// The inode, as the layer has it.
     pub inode: &'a Inode,
-    /// What it means to the overlay.
+    /// What the inode means to the overlay.
     pub mark: &'a Mark,
 }
 
@@ -82,7 +82,7 @@ impl<'a> Found<'a> {
 }
 
 impl<'a> RopeStep<'a> {
-    /// The same, in an inode and a path of its own. Fails only when out of memory.
+    /// The step with an inode and a path of its own. Fails only when out of memory.
     pub fn copied(self, alloc: Global) -> Result<Step, AllocError>
         ensures { IfOk result (λ step. step ≡ step_of self.entry) }
     {
@@ -242,8 +242,8 @@ impl<'a> OwnDirectory<'a> {
         })
     }
 
-    // What is at a name in this directory, which lies so deep, by the number of its row: a
-    // directory or something else.
+    // The walk one name further: from this directory, whose path has `depth` names, to a row
+    // directly in it, of a directory or of something else.
     fn enter(
         self,
         alloc: Global,

@@ -1,14 +1,22 @@
-//! A directory of the merged tree, found once for all names in it.
-ghost use Rattle.std.specs.Prelude.{◌≡◌, ◌≤◌, false, None, drop, length, IfOk, OnOk, MatchOption};
+//! A directory of the merged tree, found once for all names in it, and what is shown there.
+ghost use Rattle.std.specs.Prelude.{◌≡◌, ◌<◌, ◌≤◌, ◌++◌, [], ◌∷◌, if◌then◌else◌, false, None, Some, drop, length, slice_get, IfOk, IfSome, IsSomeAnd, OnErr, OnOk, MatchOption};
+ghost use Rattle.std.specs.Option.{option_map};
 ghost use Rattle.std.specs.List.{All};
 ghost use Rattle.ovl_names.specs.Paths.{child_path};
 ghost use Rattle.ovl_lookup.specs.Stacks.{from_layer};
-ghost use Rattle.ovl_lookup.specs.Merged.{shows_directory};
-ghost use Rattle.ovl_lookup.specs.Views.{reached, entry_in, reached_below};
+ghost use Rattle.ovl_lookup.specs.Trace.{things_found};
+ghost use Rattle.ovl_lookup.specs.Merged.{AreKids, look, shows, shows_directory, shown_of, is_nothing};
+ghost use Rattle.ovl_lookup.specs.ShownKinds.{shown_kind_of};
+ghost use Rattle.ovl_lookup.specs.Passes.{data_below};
+ghost use Rattle.ovl_lookup.specs.Views.{reached, entry_in, found_below, reached_below};
+ghost use Rattle.ovl_lookup.specs.ViewPasses.{AreLooks};
 ghost use Rattle.ovl_lookup.specs.DirViews.{IsViewOver, IsViewOf, IsPlaceOver, IsEntryIn, AddsPlaces, place_in, places_in};
 
-use crate::{Arrival, NextLookup, PathRope, Stack};
-use ovl_inode::{Inode, Mark, is_directory};
+use crate::hits::{data_of, first_in};
+use crate::looks::{lacks_contents, look_of};
+use crate::tops::tops_of;
+use crate::{Arrival, Look, NextLookup, PathRope, ShownKind, Stack};
+use ovl_inode::{Inode, Mark, is_directory, is_whiteout, visible};
 use ovl_names::{Name, Path};
 use std::alloc::{AllocError, Global};
 
@@ -76,7 +84,8 @@ impl<'a> DirView<'a> {
         DirView::at(alloc, stack, from, rope)
     }
 
-    /// The same of the path of a rope.
+    /// The view of the path of a rope in the merged tree of the layers with index `from` and up,
+    /// and `None` if they show no directory there, see [`DirView::of`].
     pub fn at(
         alloc: Global,
         stack: &'a Stack,
@@ -131,6 +140,130 @@ impl<'a> DirView<'a> {
             path,
             places,
         }))
+    }
+
+    /// What is shown at a name in this directory. The name is sought in the directory of each
+    /// layer; a layer is walked from its root only below an absolute redirect. Fails only when out
+    /// of memory.
+    pub fn look(&self, alloc: Global, stack: &Stack, name: &Name) -> Result<Look, AllocError>
+        requires { IsViewOver stack.now self.now }
+        ensures { IfOk result
+            (λ shown. shown
+            ≡ look (from_layer self.now.from stack.now) (child_path self.now.path name.now)) }
+    {
+        let _ = &stack.layers;
+        look_of(alloc, stack, first_in(stack, &self.places, name))
+    }
+
+    /// What the stack shows at a name in a directory, by the view of that, which is made with the
+    /// first name that is asked for and kept for the others. Fails only when out of memory.
+    pub fn look_cached(
+        alloc: Global,
+        stack: &'a Stack,
+        view: &mut Option<DirView<'a>>,
+        dir: &'a Path,
+        name: &Name,
+    ) -> Result<Look, AllocError>
+        requires { IfSome view.old (IsViewOf stack.now 0 dir.now) }
+        ensures look { IfOk result
+            (λ shown. shown ≡ look stack.now (child_path dir.now name.now)) }
+        ensures view { IfSome view.new (IsViewOf stack.now 0 dir.now) }
+        ensures kept { OnErr result (view.new ≡ view.old) }
+    {
+        // Each layer of a stack is one.
+        let _layers = stack.ordinary();
+        if let Some(made) = view.as_ref() {
+            return made.look(alloc, stack, name);
+        }
+        let Some(made) = DirView::of(alloc, stack, 0, dir)? else {
+            return Ok(Look::Nothing);
+        };
+        let look = made.look(alloc, stack, name)?;
+        *view = Some(made);
+        Ok(look)
+    }
+
+    /// The kind of what is shown at a name in this directory, with nothing copied; takes no memory.
+    pub fn shown_kind(&self, stack: &Stack, name: &Name) -> ShownKind
+        requires { IsViewOver stack.now self.now }
+        ensures { result
+            ≡ shown_kind_of
+            (look (from_layer self.now.from stack.now) (child_path self.now.path name.now)) }
+    {
+        let _ = &stack.layers;
+        ShownKind::of_first(first_in(stack, &self.places, name))
+    }
+
+    /// Whether something is shown at a name in this directory; takes no memory.
+    pub fn shows(&self, stack: &Stack, name: &Name) -> bool
+        requires { IsViewOver stack.now self.now }
+        ensures { result
+            ≡ shows (from_layer self.now.from stack.now) (child_path self.now.path name.now) }
+    {
+        !self.shown_kind(stack, name).is_nothing()
+    }
+
+    /// The data that there is at a name in this directory below a metacopy file that doesn't say
+    /// itself where data-only layers have it. Fails only when out of memory. overlayfs.rst:
+    /// "Metadata only copy up".
+    pub fn data<'s>(
+        &self,
+        alloc: Global,
+        stack: &'s Stack,
+        name: &'s Name,
+    ) -> Result<Option<&'s Inode>, AllocError>
+        requires { IsViewOver stack.now self.now }
+        ensures { IfOk result (λ found. option_map (λ inode. inode.now) found
+            ≡ data_below stack.now.data_only None
+            (things_found (drop self.now.from stack.now.layers)
+            (child_path self.now.path name.now))) }
+    {
+        let _ = &stack.layers;
+        data_of(alloc, stack, first_in(stack, &self.places, name), None)
+    }
+
+    /// The names in this directory at which something is shown, in order, each with what is shown
+    /// there, in one pass over the directories of all layers. Fails only when out of memory.
+    pub fn looks(&self, alloc: Global, stack: &Stack) -> Result<Vec<(Name, Look)>, AllocError>
+        requires { IsViewOver stack.now self.now }
+        ensures { IfOk result
+            (λ looks. AreLooks (from_layer self.now.from stack.now) self.now.path looks.items) }
+    {
+        let _ = &stack.layers;
+        let tops = tops_of(alloc, stack, &self.places, 0)?;
+        let mut looks = Vec::with_capacity(alloc, tops.len())?;
+        for top in &tops {
+            let places = self.places_from(top.place);
+            let look = look_at(alloc, stack, places, top.name, top.inode)?;
+            push_look(alloc, top.name, look, &mut looks)?;
+        }
+        Ok(looks)
+    }
+
+    /// The names in this directory at which something is shown, in order. Fails only when out of
+    /// memory.
+    pub fn names(&self, alloc: Global, stack: &Stack) -> Result<Vec<Name>, AllocError>
+        requires { IsViewOver stack.now self.now }
+        ensures { IfOk result
+            (λ names. AreKids (from_layer self.now.from stack.now) self.now.path names.items) }
+    {
+        let _ = &stack.layers;
+        let tops = tops_of(alloc, stack, &self.places, 0)?;
+        let mut names = Vec::with_capacity(alloc, tops.len())?;
+        for top in &tops {
+            if !is_whiteout(top.inode) {
+                names.push(top.name.copy(alloc)?)?;
+            }
+        }
+        Ok(names)
+    }
+
+    // The places from one on.
+    fn places_from(&self, number: usize) -> &[DirPlace]
+        requires { number < length self.now.places.items }
+        ensures { result.now ≡ drop number self.now.places.items }
+    {
+        &self.places[number..]
     }
 }
 
@@ -197,4 +330,46 @@ fn push_below(
         }
     }
     Ok(())
+}
+
+// Adds a name with what is shown there, where something is.
+fn push_look(
+    alloc: Global,
+    name: &Name,
+    look: Look,
+    looks: &mut Vec<(Name, Look)>,
+) -> Result<(), AllocError>
+    ensures { OnOk result (looks.new.items
+        ≡ looks.old.items ++ (if is_nothing look then [] else (name.now, look) ∷ [])) }
+{
+    if look.is_nothing() {
+        return Ok(());
+    }
+    looks.push((name.copy(alloc)?, look))?;
+    Ok(())
+}
+
+// What is shown at a name, by these places, the first of which has this inode there.
+fn look_at(
+    alloc: Global,
+    stack: &Stack,
+    places: &[DirPlace],
+    name: &Name,
+    inode: &Inode,
+) -> Result<Look, AllocError>
+    requires over { All (IsPlaceOver stack.now) places.now }
+    requires first { IsSomeAnd (slice_get (places_in stack.now places.now) 0)
+        (λ place. entry_in stack.now.layers name.now place ≡ Some inode.now) }
+    ensures { IfOk result
+        (λ look. look
+        ≡ shown_of stack.now.data_only
+        (found_below stack.now.layers name.now (places_in stack.now places.now))) }
+{
+    if is_whiteout(inode) {
+        return Ok(Look::Nothing);
+    }
+    if !lacks_contents(inode) {
+        return Ok(Look::Shown(visible(alloc, inode)?));
+    }
+    look_of(alloc, stack, first_in(stack, places, name))
 }

@@ -210,7 +210,7 @@ fn leading_number(bytes: &[u8]) -> Option<(u64, usize)>
     if bytes[0] == b'0' {
         return Some((0, 1));
     }
-    // Where that many bytes are left, no digit waits for the text's end.
+    // If that many bytes are left, no digit waits for the text's end.
     let (number, count) = if bytes.len() >= DIGIT_LIMIT {
         digits_within(bytes, DIGIT_LIMIT)
     } else {

@@ -53,7 +53,7 @@ fn room_for(layer: &Layer) -> usize {
     room
 }
 
-// Those of the entries at and under a node, by how long the text of its directory's path is.
+// The room for the entries at and under a node, by how long the text of its directory's path is.
 fn room_under(node: &Node, above: usize) -> usize {
     let path = above.saturating_add(node.name().as_str().len() + 1);
     let mut room = path.saturating_add(ENTRY_ROOM);

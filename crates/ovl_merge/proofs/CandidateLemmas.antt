@@ -15,9 +15,11 @@ use Rattle.ovl_layer.specs.Layers.{Entries, IsLayer, entry_at, names_below}
 use Rattle.ovl_lookup.specs.declared.steps.Step.{Step}
 use Rattle.ovl_lookup.specs.Walk.{walk, nothing_found}
 use Rattle.ovl_lookup.specs.NamedLists.{both_joined, names_of}
-use Rattle.ovl_lookup.specs.Passes.{own_names_along, put_names}
+use Rattle.ovl_lookup.specs.Passes.{own_names_along}
+use Rattle.ovl_names.specs.NameSets.{put_names}
 use Rattle.ovl_lookup.proofs.LawsOfWalks.{walk-child_end, passes-over}
-use Rattle.ovl_lookup.proofs.LawsOfKids.{ascends-put, any-put, kids-ascend, kid-names-ascend}
+use Rattle.ovl_lookup.proofs.LawsOfKids.{kids-ascend, kid-names-ascend}
+use Rattle.ovl_names.proofs.LawsOfNameSets.{ascends-put, any-put}
 use Rattle.ovl_lookup.proofs.LawsOfNamedLists.{at, each-own, names_of-both}
 use Rattle.ovl_rewrite.specs.Directories.{NamedInode}
 use Rattle.ovl_merge.specs.declared.stands.Stand.{Stand}

@@ -8,8 +8,10 @@ use Rattle.ovl_names.specs.Paths.{PathNames, child_path}
 use Rattle.ovl_inode.specs.declared.inodes.Inode.{Inode}
 use Rattle.ovl_layer.specs.Layers.{IsLayer}
 use Rattle.ovl_lookup.specs.Stacks.{StackView}
-use Rattle.ovl_lookup.specs.Passes.{own_names_along, put_names}
-use Rattle.ovl_lookup.proofs.LawsOfKids.{any-put, ascends-put, kids-same}
+use Rattle.ovl_lookup.specs.Passes.{own_names_along}
+use Rattle.ovl_names.specs.NameSets.{put_names}
+use Rattle.ovl_lookup.proofs.LawsOfKids.{kids-same}
+use Rattle.ovl_names.proofs.LawsOfNameSets.{any-put, ascends-put}
 use Rattle.ovl_lookup.proofs.LawsOfLooks.{ShowsWithinDepth-holds}
 use Rattle.ovl_lookup.proofs.LawsOfWalks.{directory_found}
 use Rattle.ovl_rewrite.specs.NewLayers.{AreNamesOf, TellsLayer}

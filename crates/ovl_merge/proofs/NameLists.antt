@@ -9,8 +9,9 @@ use Rattle.std.specs.declared.cmp.Ordering.TheVariants.{Less, Equal, Greater}
 use Rattle.std.specs.Cmp.Lexicographic.{bytes_decides}
 use Rattle.ovl_names.specs.Names.{PathName, name_eq, name_cmp}
 use Rattle.ovl_names.specs.Order.{ascends}
-use Rattle.ovl_lookup.specs.Passes.{put_names}
-use Rattle.ovl_lookup.proofs.LawsOfKids.{ascends-insert, ascends-put, any-insert, any-put, same-names}
+use Rattle.ovl_names.specs.NameSets.{put_names}
+use Rattle.ovl_lookup.proofs.LawsOfKids.{same-names}
+use Rattle.ovl_names.proofs.LawsOfNameSets.{ascends-insert, ascends-put, any-insert, any-put}
 use Rattle.ovl_rewrite.specs.Directories.{NamedInode}
 
 -- put one after another, they are the same

@@ -16,11 +16,13 @@ use Rattle.ovl_lookup.specs.declared.views.DirView.{DirView}
 use Rattle.ovl_lookup.specs.DirViews.{IsViewOf}
 use Rattle.ovl_lookup.specs.Walk.{walk}
 use Rattle.ovl_lookup.specs.Stacks.{StackView, from_layer}
-use Rattle.ovl_lookup.specs.Passes.{own_names_along, put_names, kids_along}
+use Rattle.ovl_lookup.specs.Passes.{own_names_along, kids_along}
+use Rattle.ovl_names.specs.NameSets.{put_names}
 use Rattle.ovl_lookup.specs.Merged.{look, AreKids}
 use Rattle.ovl_lookup.specs.Words.{top_layer, lower_layers}
 use Rattle.ovl_lookup.proofs.LawsOfPaths.{length-child, parent_path-child}
-use Rattle.ovl_lookup.proofs.LawsOfKids.{put_names-append, kids-unique}
+use Rattle.ovl_lookup.proofs.LawsOfKids.{kids-unique}
+use Rattle.ovl_names.proofs.LawsOfNameSets.{put_names-append}
 use Rattle.ovl_merge.specs.Places.{Merge, two_layers, merge_of, lower_path, shows_own_directory, reach, last_name}
 use Rattle.ovl_merge.specs.MergeDown.{with_value, with_contents, redirected, redirected_from, merged_directory, merged_metacopy, unreached_metacopy, kept_place, merged_entry}
 use Rattle.ovl_merge.specs.Directories.{named_inode, candidate_names, entries_in}

@@ -6,7 +6,8 @@ use Rattle.std.specs.Option.{option_map}
 use Rattle.ovl_names.specs.Names.{PathName}
 use Rattle.ovl_names.specs.Paths.{PathNames, child_path, depth_limit}
 use Rattle.ovl_lookup.specs.Stacks.{StackView}
-use Rattle.ovl_lookup.specs.Passes.{own_names_along, put_names, kids_along}
+use Rattle.ovl_lookup.specs.Passes.{own_names_along, kids_along}
+use Rattle.ovl_names.specs.NameSets.{put_names}
 use Rattle.ovl_board.specs.declared.pieces.Piece.{Piece}
 use Rattle.ovl_rewrite.specs.Directories.{NamedInode, directories_among}
 use Rattle.ovl_rewrite.specs.NewLayers.{IsWalkWithin}

@@ -23,7 +23,7 @@ pub(crate) enum Base<'a> {
 }
 
 impl<'a> Base<'a> {
-    /// That of a directory that the two layers show, by where its walk in the lower one stands.
+    /// The base of a directory that the two layers show, by where its walk in the lower one stands.
     pub(crate) fn of(
         alloc: Global,
         stack: &'a Stack,
@@ -49,7 +49,7 @@ impl<'a> Base<'a> {
 }
 
 impl<'a> Directory<'a> {
-    /// Of what kind it is that the rest shows at a name in it.
+    /// The kind of what the rest shows at a name in the directory.
     pub(crate) fn shown_kind(&self, stack: &Stack, name: &Name) -> ShownKind
         requires several { 1 < length stack.now.layers }
         requires base { IsBase stack.now self.now.path self.now.base }
@@ -66,7 +66,7 @@ impl<'a> Directory<'a> {
         }
     }
 
-    /// Whether it shows something there.
+    /// Whether the rest shows something at a name in the directory.
     pub(crate) fn shows(&self, stack: &Stack, name: &Name) -> bool
         requires several { 1 < length stack.now.layers }
         requires base { IsBase stack.now self.now.path self.now.base }
@@ -82,7 +82,7 @@ impl<'a> Directory<'a> {
         }
     }
 
-    /// The names in it at which the rest shows something.
+    /// The names in the directory at which the rest shows something.
     pub(crate) fn rest_names(&self, alloc: Global, stack: &Stack) -> Result<Vec<Name>, AllocError>
         requires several { 1 < length stack.now.layers }
         requires base { IsBase stack.now self.now.path self.now.base }

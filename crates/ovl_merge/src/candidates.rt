@@ -3,7 +3,8 @@ ghost use Rattle.std.specs.Prelude.{◌≡◌, ◌<◌, [], Option, length, IfOk
 ghost use Rattle.ovl_names.specs.Paths.{PathNames};
 ghost use Rattle.ovl_layer.specs.Sheets.{path_at};
 ghost use Rattle.ovl_lookup.specs.NamedLists.{AreInOrder, both_joined};
-ghost use Rattle.ovl_lookup.specs.Passes.{own_names_along, put_names};
+ghost use Rattle.ovl_lookup.specs.Passes.{own_names_along};
+ghost use Rattle.ovl_names.specs.NameSets.{put_names};
 ghost use Rattle.ovl_merge.specs.Places.{merge_of, two_layers};
 ghost use Rattle.ovl_merge.specs.Stands.{StandsAt};
 ghost use Rattle.ovl_merge.specs.Reckoned.{IsVisited};
@@ -32,7 +33,7 @@ pub(crate) enum Side {
 }
 
 impl<'a> Candidate<'a> {
-    // A name that one layer has in this row.
+    // A name that the layer of `side` has in this row, with no row of the other layer.
     fn in_row(name: &'a Name, row: u32, side: Side) -> Candidate<'a>
         ensures { candidate_told result ≡ (name.now, rows_on side row) }
     {
@@ -74,7 +75,7 @@ impl<'a> HasName for Candidate<'a> {
     }
 }
 
-/// The names of its base where the two layers may hide what is shown there.
+/// The names of a directory's base at which the two layers may hide what is shown.
 pub(crate) fn hidden_names(
     alloc: Global,
     stack: &Stack,
@@ -153,7 +154,7 @@ fn rows_of<'a>(
     }
 }
 
-// The same where it has, in the order of the rows.
+// The names that the layer of `side` has in the directory of a row, in the order of the rows.
 fn rows_in<'a>(
     alloc: Global,
     sheet: &'a Sheet,

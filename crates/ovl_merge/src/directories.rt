@@ -21,7 +21,8 @@ pub(crate) struct Directory<'a> {
     pub(crate) base: Base<'a>,
 }
 
-/// The same two of any path.
+/// The number of any path's row in the upper layer, if that has it, and where its walk in the lower
+/// one stands, if it goes on there.
 #[derive(Drop)]
 pub(crate) struct Stands<'a> {
     upper: Option<u32>,
@@ -29,7 +30,7 @@ pub(crate) struct Stands<'a> {
 }
 
 impl<'a> Directory<'a> {
-    /// The directory at a path, and `None` where they show none there.
+    /// The directory at a path, and `None` where the two layers show none.
     pub(crate) fn at(
         alloc: Global,
         stack: &'a Stack,
@@ -56,7 +57,7 @@ impl<'a> Directory<'a> {
         }))
     }
 
-    /// Whether the walks of a name that neither layer has in it go on in the rest.
+    /// Whether the walks of a name that neither layer has in the directory go on in the rest.
     pub(crate) fn is_open(&self) -> bool
         ensures { result ≡ is_some (next_lookup_at self.now.lower) }
     {
@@ -65,7 +66,7 @@ impl<'a> Directory<'a> {
 }
 
 impl<'a> Stands<'a> {
-    // Those of a path.
+    // The row and the stand of a path.
     fn at(alloc: Global, stack: &'a Stack, path: &'a Path) -> Result<Stands<'a>, AllocError>
         requires { 1 < length stack.now.layers }
         ensures { IfOk result (AreStands (merge_of stack.now) path.now) }

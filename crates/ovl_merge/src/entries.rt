@@ -56,7 +56,8 @@ pub(crate) fn inode_in<'d>(
     Ok(Some(shown))
 }
 
-// The same where the two layers show nothing: a whiteout, if they hide what the rest shows there.
+// What the new lower layer has at a name where the two layers show nothing: a whiteout, if they
+// hide what the rest shows there.
 fn unfound(
     alloc: Global,
     stack: &Stack,
@@ -219,7 +220,8 @@ fn redirected(
     }
 }
 
-// The same at a path of the rest.
+// An entry `name` that goes on at a path of the rest: with no redirect if the base of its directory
+// has the path by this name, with one name if by another, else with the whole path.
 fn redirected_at(
     alloc: Global,
     base: &Base<'_>,

@@ -28,9 +28,9 @@ use std::alloc::{AllocError, Global};
 #[derive(Drop)]
 pub(crate) struct NameInBoth<'a> {
     pub(crate) name: &'a Name,
-    // What that in the upper layer finds.
+    // What the walk in the upper layer finds.
     pub(crate) upper: Option<Found<'a>>,
-    // How that in the lower one ends, where it goes on there.
+    // How the walk in the lower layer ends, if it goes on there.
     pub(crate) lower: LowerWalk<'a>,
 }
 
@@ -38,7 +38,7 @@ pub(crate) struct NameInBoth<'a> {
 #[derive(Drop)]
 pub(crate) struct LowerWalk<'a> {
     pub(crate) found: Option<Found<'a>>,
-    // Where it goes on in the rest, which is what lies below the two layers.
+    // Where the walk goes on in the rest, which is what lies below the two layers.
     pub(crate) rest: Option<Place<'a>>,
 }
 
@@ -81,7 +81,7 @@ impl<'a> NameInBoth<'a> {
         })
     }
 
-    /// The first thing that the two layers have there.
+    /// The first thing that the two layers have at the name.
     pub(crate) fn first(&self) -> Option<&Found<'a>>
         ensures first { option_map (λ found. found.now.inode.now) result ≡ first_in self.now }
         ensures marked { IsFoundMarked self.now.upper → IsFoundMarked self.now.lower.found
@@ -93,8 +93,8 @@ impl<'a> NameInBoth<'a> {
         }
     }
 
-    /// Where this first thing goes on in the rest, if it is a directory or a metacopy file that
-    /// does.
+    /// Where the first thing at the name goes on in the rest, if it is a directory or a metacopy
+    /// file that does.
     pub(crate) fn reach(
         &self,
         alloc: Global,
@@ -148,7 +148,7 @@ impl<'a> LowerWalk<'a> {
         }
     }
 
-    // That of a name in the directory in the lower layer.
+    // How the walk of a name in the directory ends in the lower layer.
     fn beside(
         alloc: Global,
         stack: &'a Stack,
@@ -176,7 +176,7 @@ impl<'a> LowerWalk<'a> {
         Ok(LowerWalk { found, rest })
     }
 
-    // That of a path from the root.
+    // How the walk of a path from the root ends in the lower layer.
     fn at(alloc: Global, sheet: &'a Sheet, path: &'a Path) -> Result<LowerWalk<'a>, AllocError>
         ensures { (above : Option PathNames)
             → IfOk result (IsLowerWalk sheet.now (Some path.now) above) }
@@ -191,7 +191,7 @@ impl<'a> LowerWalk<'a> {
         Ok(LowerWalk { found, rest })
     }
 
-    // That of none.
+    // No walk: nothing is found, and nothing goes on in the rest.
     fn nothing() -> LowerWalk<'a>
         ensures found { result.found ≡ None }
         ensures rest { result.rest ≡ None }
@@ -257,7 +257,7 @@ fn place_of<'a>(
 }
 
 impl<'a> Place<'a> {
-    // Of what kind it is that the rest shows there.
+    // The kind of what the rest shows at the place.
     fn shown_kind(
         &self,
         alloc: Global,

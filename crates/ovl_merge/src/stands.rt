@@ -28,7 +28,7 @@ pub(crate) struct NameWalk<'a> {
 }
 
 impl<'a> Stand<'a> {
-    /// That of a path.
+    /// The stand of a path in a layer.
     pub(crate) fn at(
         alloc: Global,
         sheet: &'a Sheet,
@@ -76,7 +76,7 @@ pub(crate) fn name_walk_in<'a>(
     name_walk_at(sheet, name, row_in(sheet, directory, name))
 }
 
-// The number of the row that the layer has by a name in it, if it has one.
+// The number of the row that the layer has by a name in a directory, if it has one.
 fn row_in(sheet: &Sheet, directory: Option<u32>, name: &Name) -> Option<u32>
     requires { IfSome directory (λ row. row < length sheet.now) }
     ensures inside { IfSome result (λ row. row < length sheet.now) }
@@ -116,7 +116,7 @@ fn nothing_at(name: &Name) -> NameWalk<'_>
     }
 }
 
-// The walk's end at what it has by this name in the row of a number.
+// The walk's end at what the layer has by this name in the row of a number.
 fn thing_at<'a>(sheet: &'a Sheet, row: u32, name: &'a Name) -> NameWalk<'a>
     requires { row < length sheet.now }
     ensures { IsThing sheet.now row name.now result }

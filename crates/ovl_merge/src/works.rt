@@ -121,7 +121,7 @@ fn inodes_at(alloc: Global, stack: &Stack, dir: &Path) -> Result<Vec<(Name, Inod
     }
 }
 
-// The same, in a directory that they show.
+// The names in a directory of the new layer, which the two layers show, each with its inode.
 fn inodes_in(
     alloc: Global,
     stack: &Stack,

@@ -1,4 +1,5 @@
 pub mod Ascending
+pub mod LawsOfNameSets
 pub mod NameLemmas
 pub mod EscapeLemmas
 pub mod PathTexts

@@ -80,7 +80,7 @@ impl<'a> Names<'a> {
         self.text.is_empty()
     }
 
-    /// The same names, apart from these.
+    /// A copy of the names that are left; taking names from it leaves these as they are.
     pub fn rest(&self) -> Names<'a>
         ensures value { result ≡ self.now }
         ensures names { IsTrue (has_names self.now) }
@@ -91,7 +91,7 @@ impl<'a> Names<'a> {
         }
     }
 
-    /// Those after the first `count` names.
+    /// The names after the first `count`, and none where there are no more.
     pub fn after(&self, count: usize) -> Names<'a>
         ensures { result ≡ drop count self.now }
     {
@@ -131,7 +131,7 @@ impl<'a> Names<'a> {
         Some((last, above))
     }
 
-    /// Whether these names begin with those.
+    /// Whether the names begin with those of `front`.
     pub fn starts_with(&self, front: &Names<'_>) -> bool
         ensures { result ≡ starts_with name_eq self.now front.now }
     {
@@ -145,7 +145,7 @@ impl<'a> Names<'a> {
     }
 
     /// Compares these names with others from the last ones on until two differ, and gives how these
-    /// two are to each other. Where none do, both lists lose as many names at their ends as the
+    /// two are to each other. If none do, both lists lose as many names at their ends as the
     /// shorter has, and the answer is `Equal`.
     pub fn compare_ends<'b>(&mut self, other: &mut Names<'b>) -> Ordering
         ensures order { OrdersEnds self.old other.old self.new other.new result }

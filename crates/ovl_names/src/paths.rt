@@ -150,7 +150,7 @@ impl Path {
         self.len
     }
 
-    /// Whether this is the root.
+    /// Whether the path is the root.
     pub fn is_empty(&self) -> bool
         ensures { IsTrue result ↔ (self.now ≡ []) }
     {

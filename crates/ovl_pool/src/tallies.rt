@@ -22,7 +22,8 @@ pub struct Tally<K: Ledger, D: Ledger> {
     ghost delivered_noted: { delivered ≡ parcels.total },
 }
 
-/// That there is nothing more to do. Only a tally says it, and only by it a worker ends.
+/// The sign that there is nothing more to do. Only a tally makes one, and a worker ends only by
+/// one.
 #[derive(Drop)]
 pub(crate) struct Finished {
     told: (),

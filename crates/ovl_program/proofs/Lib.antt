@@ -1,10 +1,3 @@
-pub mod Ascending
 pub mod HandedParts
-pub mod Lasts
 pub mod LeftOut
-pub mod Listings
 pub mod Performed
-pub mod Shares
-pub mod Slots
-pub mod Telling
-pub mod Unread

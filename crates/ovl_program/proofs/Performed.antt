@@ -1,30 +1,41 @@
 -- What comes of a line, by what comes of its parts.
-use Rattle.std.proofs.Common.{◌≡◌, ◌<◌, ◌≤◌, ◌⊎◌, Bool, true, false, cond, ℕ, [], refl, Option, None, Some, Result, Ok, Err, List, IfErr, IfNone, IfOk, MatchResult, inl, inr, length, take, sym, ap, subst, arith, String, Vec, Global, string_bytes}
-use Rattle.std.specs.Io.KnownBytes.{Appends}
+use Rattle.std.proofs.Common.{◌≡◌, ◌<◌, ◌≤◌, ◌⊎◌, Bool, true, false, cond, ℕ, [], refl, Option, None, Some, Result, Ok, Err, List, IfNone, IfOk, MatchResult, inl, inr, length, take, sym, ap, subst, arith, String, Vec, Global, string_bytes}
+use Rattle.std.specs.Io.KnownBytes.{Appends, Keeps}
 use Rattle.std.proofs.lemmas.List.{length-map}
 use Rattle.ovl_layer.specs.Layers.{Entries}
 use Rattle.ovl_manifest.specs.Text.{manifest_text}
 use Rattle.ovl_lookup.specs.Stacks.{StackView}
 use Rattle.ovl_check.specs.Findings.{findings}
+use Rattle.ovl_blobs.specs.declared.contents.BlobInfo.{BlobInfo}
+use Rattle.ovl_blobs.specs.Contents.{AreTold, contents_ascend, contents_of}
+use Rattle.ovl_commands.specs.Commands.{checks}
 use Rattle.ovl_check.specs.declared.findings.Finding.{Finding}
-use Rattle.ovl_check.specs.Blobs.{BlobView}
-use Rattle.ovl_engine.specs.Outcomes.{IsAnswerOf, IsRewritten}
+use Rattle.ovl_blobs.specs.Blobs.{BlobView}
+use Rattle.ovl_engine.specs.Outcomes.{IsAccepted, IsAnswerOf, IsFailedWalk, IsRewritten, MayRefuseBlobs, stack_of}
+use Rattle.ovl_engine.specs.Prepared.{AreAsked, IsRunOf}
+use Rattle.ovl_engine.proofs.LawsOfOutcomes.{outcome_over, told_blobs}
+use Rattle.ovl_engine.specs.Tasks.{command_of, left_of}
+use Rattle.ovl_engine.specs.declared.tasks.Task.{Task}
 use Rattle.ovl_commands.specs.declared.requests.Command.{Command}
 use Rattle.ovl_commands.specs.declared.requests.Command.TheVariants.{Show, Fsck, Vacuum, Deref, Merge, Flatten}
 use Rattle.ovl_engine.specs.Requests.{Request}
 use Rattle.ovl_commands.specs.declared.requests.Answer.{Answer}
 use Rattle.ovl_engine.specs.declared.faults.EngineFault.{EngineFault}
+use Rattle.ovl_engine.specs.declared.faults.EngineFault.TheVariants.{Workers, Layers, Layer, BlobOrder, BlobSize, NoLower, Faulty, LimitOut, Run, Memory, DataLayers}
+use Rattle.ovl_pool.specs.declared.runs.RunFault.TheVariants.{Workers as NoWorkers, Gate, Board, Memory as RunMemory}
 use Rattle.ovl_command_line.specs.declared.options.Line.{Line}
 use Rattle.ovl_program.specs.declared.output.status.Ending.{Ending}
 use Rattle.ovl_program.specs.declared.faults.ProgramFault.{ProgramFault}
 use Rattle.ovl_program.specs.declared.faults.ProgramFault.TheVariants.{Usage, Words, Input, Unread, Unwritten, Output, Engine}
-use Rattle.ovl_program.specs.Faults.{IsUnread, IsMemory}
-use Rattle.ovl_program.specs.BlobFolders.{IsInFolder}
+use Rattle.ovl_files.specs.declared.faults.FileFault.{FileFault}
+use Rattle.ovl_files.specs.declared.faults.FileFault.TheVariants.{Unread as UnreadFile, Memory as FileMemory}
+use Rattle.ovl_files.specs.BlobFolders.{IsInFolder, anything}
+use Rattle.ovl_files.specs.Faults.{IsUnread}
+use Rattle.ovl_program.specs.Faults.{IsMemory, IsUnreadFile, unread_file}
 use Rattle.ovl_program.specs.LayerFiles.{IsUnfinished}
 use Rattle.ovl_program.specs.Status.{ending_of}
-use Rattle.ovl_program.specs.Programs.{IsComingFor, IsComingIn, IsOfBlobs, IsRequestFor, IsPerformed, folder_in_parts, left_of}
-use Rattle.ovl_program.specs.Reported.{IsComing, IsComingOver, IsComingDown, IsComingDownOver, IsReported, IsTold, has_report}
-use Rattle.ovl_program.proofs.Unread.{unread_of_more}
+use Rattle.ovl_program.specs.Programs.{AreContentsFor, IsComingFor, IsKnownIn, IsOfBlobs, IsOfLine, IsRequestFor, IsPerformed, folder_in_parts, task_of}
+use Rattle.ovl_program.specs.Reported.{IsComing, IsReported, IsTold, has_report, refuses_nothing}
 
 -- a report of what was read
 module _ (line : Line) (before after : Option (List ℕ)) where
@@ -39,10 +50,20 @@ module _ (line : Line) (before after : Option (List ℕ)) where
   performed (Err Words) request of reported = elim reported [ ]
   performed (Err Input) request of reported = elim reported [ ]
 
--- what comes of a command is what may come for the line
-pub coming_for : (line : Line) (from : Option (String Global)) → from ≡ folder_in_parts line → (request : Request) (result : Result Answer EngineFault)
-    → IsComingIn (left_of line.what line.down_to) from request result → IsComingFor line request result
-coming_for line from is request result comes = subst (λ (o : Option (String Global)). IsComingIn (left_of line.what line.down_to) o request result) is comes
+-- nothing is written if a file or folder of a line isn't read
+kept : (before : Option (List ℕ)) → Keeps before before
+kept None = tt
+kept (Some bytes) = refl
+
+pub unread : (line : Line) (before : Option (List ℕ)) (P : List ℕ → Type 0) → ((path : List ℕ) → P path → IsOfLine line path) → (fault : FileFault) → IsUnread P fault
+    → IsPerformed line before before (Err (unread_file fault))
+unread line before P of (UnreadFile path) inside = (of _ inside, kept before)
+unread line before P of FileMemory inside = (inl tt, kept before)
+
+-- the same as a fault of the program
+pub unread_as : (P : List ℕ → Type 0) (fault : FileFault) → IsUnread P fault → IsUnreadFile P (unread_file fault)
+unread_as P (UnreadFile path) inside = inside
+unread_as P FileMemory inside = tt
 
 -- a line whose blobs are read in parts has a folder of them
 pub asked_folder : (line : Line) (folder : String Global) → folder_in_parts line ≡ Some folder → line.blobs ≡ Some folder
@@ -51,10 +72,6 @@ asked_folder line folder asked = by line.any_size asked
     by : (b : Bool) → cond b line.blobs None ≡ Some folder → line.blobs ≡ Some folder
     by true is = is
     by false is = cc
-
-pub none_asked : (asked : Option (String Global)) (blobs : List BlobView) → blobs ≡ [] → IfNone asked (blobs ≡ [])
-none_asked None blobs is = is
-none_asked (Some folder) blobs is = tt
 
 -- what may come may come with others
 module _ (one other : Result Answer EngineFault → Type 0) (more : (result : Result Answer EngineFault) → one result → other result) where
@@ -78,9 +95,9 @@ module _ (one other : Result Answer EngineFault → Type 0) (more : (result : Re
 
 module _ (line : Line) (folder : String Global) (asked : line.blobs ≡ Some folder) (text : List ℕ) (same : text ≡ string_bytes folder) where
   -- what isn't read of a line's folder is of its blobs
-  pub unread_of_blobs : {X : Type 0} (result : Result X ProgramFault) → IfErr result (λ fault. IsUnread (IsInFolder text) fault) → IfErr result (λ fault. IsUnread (IsOfBlobs line) fault)
-  unread_of_blobs (Ok blobs) unread = tt
-  unread_of_blobs (Err fault) unread = unread_of_more (IsInFolder text) (IsOfBlobs line) (λ path inside. (folder, (asked, rw same at inside))) fault unread
+  pub unread_of_blobs : (fault : FileFault) → IsUnread (IsInFolder text) fault → IsUnread (IsOfBlobs line) fault
+  unread_of_blobs (UnreadFile path) inside = (folder, (asked, rw same at inside))
+  unread_of_blobs FileMemory unread = tt
 
 -- ---- what is reported
 
@@ -126,17 +143,76 @@ pub few_coming : (request : Request) (answered : Result Answer EngineFault) → 
 few_coming request (Ok answer) is = few_layers _ _ _ answer is.1
 few_coming request (Err fault) is = tt
 
-pub few_coming_over : (request : Request) (answered : Result Answer EngineFault) → IsComingOver request answered → IfOk answered (λ answer. length answer.layers.items ≤ 255)
-few_coming_over request (Ok answer) is = few_layers _ _ _ answer is.1.is
-few_coming_over request (Err fault) is = tt
+-- nor has one of a line's task
+few_run : (what : Command) (left : Option ℕ) (stack : StackView) (blobs : List BlobView) (answer : Answer) → IsRunOf what left stack blobs refuses_nothing (Ok answer) → length answer.layers.items ≤ 255
+few_run what None stack blobs answer run = few_layers what stack (findings blobs stack) answer run
+few_run what (Some left) stack blobs answer run = few_layers Merge run.last (findings blobs run.last) answer run.run
 
--- nor has one of merges until this many layers are left
-pub few_coming_down : (left : Option ℕ) (request : Request) (answered : Result Answer EngineFault) → IsComingDown left request answered → IfOk answered (λ answer. length answer.layers.items ≤ 255)
-few_coming_down None request answered is = few_coming request answered is
-few_coming_down (Some left) request (Ok answer) is = few_layers Merge is.1.last (findings request.blobs is.1.last) answer is.1.run
-few_coming_down (Some left) request (Err fault) is = tt
+pub few_coming_for : (line : Line) (request : Request) (answered : Result Answer EngineFault) → IsComingFor line request answered → IfOk answered (λ answer. length answer.layers.items ≤ 255)
+few_coming_for line request (Ok answer) is = few_run request.what request.left (stack_of request) is.1.blobs answer is.1.run
+few_coming_for line request (Err fault) is = tt
 
-pub few_coming_down_over : (left : Option ℕ) (request : Request) (answered : Result Answer EngineFault) → IsComingDownOver left request answered → IfOk answered (λ answer. length answer.layers.items ≤ 255)
-few_coming_down_over None request answered is = few_coming_over request answered is
-few_coming_down_over (Some left) request (Ok answer) is = few_layers Merge is.1.1.1.last (findings is.1.0 is.1.1.1.last) answer is.1.1.1.run
-few_coming_down_over (Some left) request (Err fault) is = tt
+-- the request of a line's task is one for the line
+pub task_what : (what : Command) (down_to : Option ℕ) → command_of (task_of what down_to) ≡ what
+task_what Show down_to = refl
+task_what Fsck down_to = refl
+task_what Vacuum down_to = refl
+task_what Deref down_to = refl
+task_what Merge None = refl
+task_what Merge (Some left) = refl
+task_what Flatten down_to = refl
+
+-- a gate that refuses nothing lets blobs be digested unless out of memory
+pub undigested_memory : (blobs : List BlobView) (fault : EngineFault) → IsFailedWalk (MayRefuseBlobs blobs refuses_nothing) fault → IsMemory fault
+undigested_memory blobs Memory failed = tt
+undigested_memory blobs (Run NoWorkers) failed = absurd failed
+undigested_memory blobs (Run Gate) failed = absurd failed.1.1
+undigested_memory blobs (Run (Board fault)) failed = absurd failed
+undigested_memory blobs (Run RunMemory) failed = absurd failed
+undigested_memory blobs Workers failed = absurd failed
+undigested_memory blobs Layers failed = absurd failed
+undigested_memory blobs (Layer index fault) failed = absurd failed
+undigested_memory blobs BlobOrder failed = absurd failed
+undigested_memory blobs BlobSize failed = absurd failed
+undigested_memory blobs NoLower failed = absurd failed
+undigested_memory blobs (Faulty report) failed = absurd failed
+undigested_memory blobs LimitOut failed = absurd failed
+undigested_memory blobs DataLayers failed = absurd failed
+
+-- ---- what is known of blobs
+
+-- contents that are reported of the files of a folder
+pub told_contents : (command : Command) (from : Option (String Global)) (folder : String Global) → from ≡ Some folder → (stack : StackView) (held : List BlobView) (names : List (List ℕ)) (contents : List BlobInfo)
+    → AreAsked command stack names → AreTold anything names contents → AreContentsFor command (IsKnownIn from stack held) contents
+told_contents command from folder is stack held names contents asked told = record {
+  blobs = told.blobs;
+  there = λ checking. subst (λ (o : Option (String Global)). IsKnownIn o stack held told.blobs) (sym is) (told_blobs anything command stack names contents asked told checking);
+  same = λ checking. sym told.contents;
+  held = (told.blobs, sym told.contents);
+  ascend = told.ascend;
+}
+
+-- contents of blobs that are held
+pub held_contents : (command : Command) (from : Option (String Global)) → from ≡ None → (stack : StackView) (held : List BlobView) (contents : List BlobInfo)
+    → (checks command ≡ true → contents_of held ≡ contents) → (of : List BlobView) × (contents_of of ≡ contents) → contents_ascend contents ≡ true
+    → AreContentsFor command (IsKnownIn from stack held) contents
+held_contents command from is stack held contents same some ascend = record {
+  blobs = held;
+  there = λ checking. subst (λ (o : Option (String Global)). IsKnownIn o stack held held) (sym is) refl;
+  same = same;
+  held = some;
+  ascend = ascend;
+}
+
+-- ---- what comes of a line's task
+
+pub answered_for : (line : Line) (request : Request) (task : Task) (stack : StackView) (contents : List BlobInfo) (result : Result Answer EngineFault)
+    → request.what ≡ command_of task → request.left ≡ left_of task → IsAccepted request → stack ≡ stack_of request
+    → (known : AreContentsFor (command_of task) (IsKnownIn (folder_in_parts line) stack request.blobs) contents)
+    → ((blobs : List BlobView) → (checks (command_of task) ≡ true → contents_of blobs ≡ contents) → IsRunOf (command_of task) (left_of task) stack blobs refuses_nothing result)
+    → IsComingFor line request result
+answered_for line request task stack contents result what left accepted same known run =
+    outcome_over request (IsKnownIn (folder_in_parts line) (stack_of request) request.blobs) refuses_nothing stack known.blobs result accepted same
+    (λ checking. subst (λ (s : StackView). IsKnownIn (folder_in_parts line) s request.blobs known.blobs) same (known.there (subst (λ (one : Command). checks one ≡ true) what checking)))
+    (subst (λ (one : Command). IsRunOf one request.left stack known.blobs refuses_nothing result) (sym what)
+    (subst (λ (one : Option ℕ). IsRunOf (command_of task) one stack known.blobs refuses_nothing result) (sym left) (run known.blobs known.same)))

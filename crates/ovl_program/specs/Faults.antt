@@ -2,8 +2,10 @@
 use Rattle.std.specs.Prelude.{⊤, ℕ, List, string_bytes}
 use Rattle.ovl_engine.specs.declared.faults.EngineFault.{EngineFault}
 use Rattle.ovl_engine.specs.declared.faults.EngineFault.TheVariants.{Workers, Layers, Layer, BlobOrder, BlobSize, NoLower, Faulty, LimitOut, Run, Memory, DataLayers}
-use Rattle.ovl_program.specs.declared.files.reads.ReadFault.{ReadFault}
-use Rattle.ovl_program.specs.declared.files.reads.ReadFault.TheVariants.{Device, TooLong, Memory as ReadMemory}
+use Rattle.ovl_files.specs.declared.faults.FileFault.{FileFault}
+use Rattle.ovl_files.specs.declared.faults.FileFault.TheVariants.{Unread as UnreadFile, Memory as FileMemory}
+use Rattle.ovl_files.specs.declared.reads.ReadFault.{ReadFault}
+use Rattle.ovl_files.specs.declared.reads.ReadFault.TheVariants.{Device, TooLong, Memory as ReadMemory}
 use Rattle.ovl_program.specs.declared.faults.ProgramFault.{ProgramFault}
 use Rattle.ovl_program.specs.declared.faults.ProgramFault.TheVariants.{Usage, Words, Input, Unread, Unwritten, Output, Engine}
 
@@ -12,6 +14,11 @@ abbrev pub unread_input : ReadFault → ProgramFault
 unread_input Device = Input
 unread_input TooLong = Input
 unread_input ReadMemory = Engine Memory
+
+-- the program's fault if a file or folder isn't read
+abbrev pub unread_file : FileFault → ProgramFault
+unread_file (UnreadFile path) = Unread path
+unread_file FileMemory = Engine Memory
 
 -- a command's fault is out of memory
 abbrev pub IsMemory : EngineFault → Type 0
@@ -28,14 +35,14 @@ IsMemory (Run fault) = ⊥
 IsMemory DataLayers = ⊥
 
 -- a file or folder isn't read, of which this holds of the path; out of memory may come at any time
-abbrev pub IsUnread : (List ℕ → Type 0) → ProgramFault → Type 0
-IsUnread P (Unread path) = P (string_bytes path)
-IsUnread P (Engine fault) = IsMemory fault
-IsUnread P (Usage text) = ⊥
-IsUnread P Words = ⊥
-IsUnread P Input = ⊥
-IsUnread P (Unwritten path) = ⊥
-IsUnread P Output = ⊥
+abbrev pub IsUnreadFile : (List ℕ → Type 0) → ProgramFault → Type 0
+IsUnreadFile P (Unread path) = P (string_bytes path)
+IsUnreadFile P (Engine fault) = IsMemory fault
+IsUnreadFile P (Usage text) = ⊥
+IsUnreadFile P Words = ⊥
+IsUnreadFile P Input = ⊥
+IsUnreadFile P (Unwritten path) = ⊥
+IsUnreadFile P Output = ⊥
 
 -- 1 where they have faults, 3 where they aren't taken, 5 for what isn't the input's fault
 abbrev pub engine_status : EngineFault → ℕ

@@ -1,10 +1,6 @@
-pub mod BlobFolders
 pub mod Faults
 pub mod HandedOut
 pub mod LayerFiles
-pub mod Listings
 pub mod Programs
 pub mod Reported
-pub mod Slots
 pub mod Status
-pub mod Tellings

@@ -9,15 +9,12 @@ use Rattle.ovl_engine.specs.declared.faults.EngineFault.{EngineFault}
 use Rattle.ovl_engine.specs.declared.faults.EngineFault.TheVariants.{Faulty as FaultyLayers}
 use Rattle.ovl_engine.specs.Requests.{Request}
 use Rattle.ovl_engine.specs.Outcomes.{IsOutcome}
-use Rattle.ovl_engine.specs.Told.{IsOutcomeTold}
-use Rattle.ovl_engine.specs.MergesDown.{IsOutcomeDown, IsOutcomeDownTold}
 use Rattle.ovl_program.specs.declared.output.status.Ending.{Ending}
 use Rattle.ovl_program.specs.declared.output.status.Ending.TheVariants.{Faulty}
 use Rattle.ovl_program.specs.declared.faults.ProgramFault.{ProgramFault}
 use Rattle.ovl_program.specs.declared.faults.ProgramFault.TheVariants.{Usage, Words, Input, Unread, Unwritten, Output, Engine}
 use Rattle.ovl_program.specs.Status.{ending_of}
 use Rattle.ovl_program.specs.Faults.{IsMemory}
-use Rattle.ovl_program.specs.BlobFolders.{anything}
 use Rattle.ovl_command_line.specs.Commands.{default_workers}
 use Rattle.ovl_program.specs.LayerFiles.{IsOutFile}
 
@@ -28,20 +25,6 @@ refuses_nothing piece = ⊥
 -- this may come of a request
 abbrev pub IsComing : Request → Result Answer EngineFault → Type 0
 IsComing request result = IsOutcome request refuses_nothing result
-
--- this may come of a request over contents that are reported of the files of a folder
-abbrev pub IsComingOver : Request → Result Answer EngineFault → Type 0
-IsComingOver request result = IsOutcomeTold request anything refuses_nothing result
-
--- the same of its merges until this many layers are left, where that is asked
-abbrev pub IsComingDown : Option ℕ → Request → Result Answer EngineFault → Type 0
-IsComingDown None request result = IsComing request result
-IsComingDown (Some left) request result = IsOutcomeDown left request refuses_nothing result
-
-abbrev pub IsComingDownOver : Option ℕ → Request → Result Answer EngineFault → Type 0
-IsComingDownOver None request result = IsComingOver request result
-IsComingDownOver (Some left) request result =
-    IsOutcomeDownTold left request anything refuses_nothing result
 
 -- a report states the fault
 abbrev pub has_report : EngineFault → Bool
@@ -82,6 +65,7 @@ IsReported may_come out before after (Err (Unread path)) = ⊥
 abbrev pub input_request : List ℕ → Request
 input_request manifest = record {
   what = Show;
+  left = None;
   manifests = manifest
       ∷ [];
   bottom = 0;

@@ -1,14 +1,13 @@
 //! Why the program ends without a report, and its status then.
 ghost use Rattle.std.specs.Prelude.{◌≡◌};
-ghost use Rattle.ovl_program.specs.declared.files.reads.ReadFault.TheVariants.{Memory as ReadMemory};
 ghost use Rattle.ovl_program.specs.declared.faults.ProgramFault.TheVariants.{Engine};
 ghost use Rattle.ovl_engine.specs.declared.faults.EngineFault.TheVariants.{Memory};
-ghost use Rattle.ovl_program.specs.Faults.{IsUnread, unread_input, program_status};
+ghost use Rattle.ovl_program.specs.Faults.{unread_file, unread_input, program_status};
 ghost use Rattle.ovl_program.specs.Faults as faults;
 
-use crate::files::reads::ReadFault;
 use ovl_engine::EngineFault;
-use std::alloc::{AllocError, AllocFailed, Global};
+use ovl_files::{FileFault, ReadFault};
+use std::alloc::{AllocError, AllocFailed};
 use thiserror::Error;
 
 /// Why the program ends without having printed its report.
@@ -22,7 +21,7 @@ pub enum ProgramFault {
     #[error("words must be UTF-8")]
     Words,
     /// Standard input can't be read, or has more than
-    /// [`INPUT_LIMIT`](crate::files::reads::INPUT_LIMIT) bytes.
+    /// [`INPUT_LIMIT`](ovl_files::INPUT_LIMIT) bytes.
     #[error("cannot read standard input")]
     Input,
     /// The file or folder of this path can't be read.
@@ -40,22 +39,6 @@ pub enum ProgramFault {
 }
 
 impl ProgramFault {
-    /// The fault where the file or folder of this path isn't read.
-    pub fn unread(alloc: Global, path: &str, fault: ReadFault) -> ProgramFault
-        ensures told { IsUnread (λ told. told ≡ path.now) result }
-        ensures memory { fault ≡ ReadMemory → result ≡ Engine Memory }
-    {
-        // Made by hand (4): out of memory while a file is read, or for the path of the fault; makes
-        // the fault of a path of what refused it.
-        if fault == ReadFault::Memory {
-            return ProgramFault::Engine(EngineFault::Memory);
-        }
-        match String::from_str(alloc, path) {
-            Ok(path) => ProgramFault::Unread(path),
-            Err(_) => ProgramFault::Engine(EngineFault::Memory),
-        }
-    }
-
     /// The status that the program ends with.
     pub fn status(&self) -> u8
         ensures { result ≡ program_status self.now }
@@ -95,6 +78,17 @@ impl From<ReadFault> for ProgramFault {
         match fault {
             ReadFault::Memory => ProgramFault::Engine(EngineFault::Memory),
             ReadFault::Device | ReadFault::TooLong => ProgramFault::Input,
+        }
+    }
+}
+
+impl From<FileFault> for ProgramFault {
+    ghost from_gives = { λ fault told. told ≡ unread_file fault };
+
+    fn from(fault: FileFault) -> ProgramFault {
+        match fault {
+            FileFault::Unread(path) => ProgramFault::Unread(path),
+            FileFault::Memory => ProgramFault::Engine(EngineFault::Memory),
         }
     }
 }

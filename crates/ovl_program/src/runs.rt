@@ -2,6 +2,5 @@
 /// What the program does: by the words, by a line of them, or by a manifest on standard input.
 pub mod arguments;
 pub mod command;
-pub mod in_parts;
 pub mod program;
 pub mod standard_input;

@@ -1,12 +1,10 @@
 //! Commands by one worker and by two.
 
 use crate::samples::{MOVED, ONE, OPAQUE, OVER, ROOT, Sample, TWICE, WRONG};
-use ovl_check::{Blob, Content};
+use ovl_check::Blob;
 use ovl_engine::{
-    Answer, Command, CommandFault, Contents, EngineFault, Question, command, command_over,
-    merge_down, named_blobs, question_down,
+    Answer, Command, EngineFault, Task, answer, command, digest_blobs, named_blobs, prepare,
 };
-use ovl_inode::Digest;
 use ovl_pool::OpenGate;
 use ovl_test_rows::expect_so;
 use std::alloc::{AllocError, Global};
@@ -20,22 +18,6 @@ fn manifests_of(alloc: Global, lines: &str) -> Result<Vec<Vec<u8>>, AllocError> 
         manifests.push(String::from_str(alloc, line)?.into_bytes())?;
     }
     Ok(manifests)
-}
-
-// There are no contents.
-#[derive(Drop)]
-struct Nothing;
-
-impl Contents for Nothing {
-    type Fault = AllocError;
-
-    ghost may_be = { λ _ _ _. Unit {0} };
-
-    ghost may_fail = { λ _ _. Unit {0} };
-
-    fn tell(&self, alloc: Global, _names: &[Digest]) -> Result<Vec<Content>, AllocError> {
-        Ok(Vec::new(alloc))
-    }
 }
 
 // Whether a command answers the same of manifests that it is lent as of its own.
@@ -87,18 +69,22 @@ fn three_manifests(alloc: Global) -> Result<Vec<Vec<u8>>, AllocError> {
 fn merged<R: Threads + Wait + Sync>(rt: &R, alloc: Global) -> Result<Answer, EngineFault> {
     let blobs = blobs_of(alloc, MOVED.blobs)?;
     let manifests = three_manifests(alloc)?;
-    merge_down(rt, alloc, manifests, 0, &blobs, 1, 2, &OpenGate)
+    let prepared = prepare(rt, alloc, Task::MergeDown(1), manifests, 0, &blobs, 2)?;
+    let known = digest_blobs(rt, alloc, &prepared, &blobs, 2, &OpenGate)?;
+    answer(rt, alloc, prepared, known, 2, &OpenGate)
 }
 
-fn asked<R: Threads + Sync>(rt: &R, alloc: Global) -> Result<Question, EngineFault> {
+// How many contents are wanted where three layers are merged down to one.
+fn wanted<R: Threads + Sync>(rt: &R, alloc: Global) -> Result<usize, EngineFault> {
     let manifests = three_manifests(alloc)?;
-    question_down(rt, alloc, manifests, 0, 1, 2)
+    let prepared = prepare(rt, alloc, Task::MergeDown(1), manifests, 0, &[], 2)?;
+    Ok(prepared.wanted_names(alloc)?.len())
 }
 
-// Whether three layers are merged down to one, at once and as far as no contents are wanted.
+// Whether three layers are merged down to one, and want one content.
 fn is_merged_down<R: Threads + Wait + Sync>(rt: &R, alloc: Global) -> Result<bool, EngineFault> {
     let answer = merged(rt, alloc)?;
-    Ok(ends_so(&answer.report, "entries 6") && asked(rt, alloc)?.names.len() == 1)
+    Ok(ends_so(&answer.report, "entries 6") && wanted(rt, alloc)? == 1)
 }
 
 #[test]
@@ -106,16 +92,18 @@ fn three_layers_are_merged_down(rt: HostRuntime) -> Result<(), Fail> {
     expect_so(again!(is_merged_down(&rt, rt.alloc()), EngineFault::Memory)?)
 }
 
+// Whether a report ends so, where no content is known.
 fn is_answered_over<R: Threads + Wait + Sync>(
     rt: &R,
     alloc: Global,
     what: Command,
     workers: usize,
     end: &str,
-) -> Result<bool, CommandFault<AllocError>> {
+) -> Result<bool, EngineFault> {
     let manifests = manifests_of(alloc, MOVED.manifests)?;
-    let answer = command_over(rt, alloc, what, manifests, 0, &Nothing, workers, &OpenGate)?;
-    Ok(answer.report.ends_with(end.as_bytes()))
+    let prepared = prepare(rt, alloc, Task::Once(what), manifests, 0, &[], workers)?;
+    let answered = answer(rt, alloc, prepared, Vec::new(alloc), workers, &OpenGate)?;
+    Ok(answered.report.ends_with(end.as_bytes()))
 }
 
 fn are_over_contents<R: Threads + Wait + Sync>(
@@ -126,7 +114,7 @@ fn are_over_contents<R: Threads + Wait + Sync>(
 ) -> Result<(), Fail> {
     let is = again!(
         is_answered_over(rt, alloc, what, 2, end),
-        CommandFault::Engine(EngineFault::Memory)
+        EngineFault::Memory
     );
     expect_so(is == Ok(true))
 }

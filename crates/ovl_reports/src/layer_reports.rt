@@ -94,7 +94,8 @@ fn push_entry(
     push_marked(alloc, report, above, name, &mark)
 }
 
-// The same by the mark of its inode.
+// Appends the line of an entry below the root, by its mark; `above` is the text of its path up to
+// its name.
 fn push_marked(
     alloc: Global,
     report: &mut String,

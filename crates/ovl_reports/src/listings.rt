@@ -246,7 +246,8 @@ struct Open<'a> {
     text: String,
 }
 
-// Opens the directory of the first parcel; gives the other parcels.
+// Opens the directory of the first parcel, if there is one: pushes it to `opened`, with no entry
+// written yet; `text` is what comes before the names in it. Gives the other parcels.
 fn enter<'a>(
     opened: &mut Vec<Open<'a>>,
     parcels: &'a [Parcel<Vec<(Name, Look)>>],

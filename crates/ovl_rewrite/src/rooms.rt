@@ -15,7 +15,8 @@ pub(crate) struct NameRoom {
 }
 
 impl NameRoom {
-    /// The room in this directory.
+    /// The bytes that a path's limit leaves for a name in this directory; none in one as deep as a
+    /// path may be.
     pub(crate) fn under(directory: &Path) -> NameRoom
         ensures { IsNameRoom directory.now result }
     {

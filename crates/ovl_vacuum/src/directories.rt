@@ -161,7 +161,7 @@ impl<'a> TopDirectory<'a> {
         }
     }
 
-    // Whether this is what the whole stack shows at a name in it.
+    // Whether `lower` is what the whole stack shows at a name in the directory.
     fn is_shown(
         &self,
         alloc: Global,
@@ -217,7 +217,7 @@ fn view_below<'a>(
     }
 }
 
-// Whether this is what is shown of an inode that isn't a metacopy file.
+// Whether `look` is what is shown of an inode that isn't a metacopy file.
 fn is_visible(alloc: Global, look: &Look, inode: &Inode) -> Result<bool, AllocError>
     ensures { IfOk result (λ same. same ≡ look_eq look.now (Shown (visible_inode inode.now))) }
 {
@@ -237,7 +237,7 @@ fn may_be_idle(mark: &Mark) -> bool
     }
 }
 
-// Whether this is the mark of a metacopy file, whatever its redirect says.
+// Whether the mark is that of a metacopy file, whatever its redirect says.
 fn is_metacopy(mark: &Mark) -> bool
     ensures { result ≡ metacopy_mark mark.now }
 {

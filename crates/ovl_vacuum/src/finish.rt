@@ -83,7 +83,7 @@ fn idle_rows(
     let mut place = 0;
     for number in 0..sheet.len() {
         if is_directory(sheet.inode(number)) {
-            tell_below(stack, number, &parcels[place].out, &mut idle);
+            mark_below(stack, number, &parcels[place].out, &mut idle);
             place += 1;
         }
     }
@@ -92,7 +92,7 @@ fn idle_rows(
 
 // Tells of the rows directly below a directory's whether their entries are idle, by what the
 // directory put out.
-fn tell_below(stack: &Stack, directory: u32, names: &[(Name, bool)], idle: &mut Vec<bool>)
+fn mark_below(stack: &Stack, directory: u32, names: &[(Name, bool)], idle: &mut Vec<bool>)
     requires inside { directory < length (top_layer stack.now) }
     requires names { names.now ≡ names_told stack.now directory }
     requires count { length idle.old.items ≡ length (top_layer stack.now) }
@@ -150,7 +150,7 @@ struct Remainder {
 }
 
 impl Remainder {
-    // That of only the root, which stays.
+    // The remainder of only the root, which stays.
     fn of_root(alloc: Global, stack: &Stack) -> Result<Remainder, AllocError>
         ensures { IfOk result (IsLeftTo stack.now 1) }
     {
@@ -162,7 +162,7 @@ impl Remainder {
         })
     }
 
-    // The same with the entry of the next row, which stays.
+    // The remainder with the entry of the next row too, which stays.
     fn with_row(self, alloc: Global, stack: &Stack, number: u32) -> Result<Remainder, AllocError>
         requires some { 1 ≤ number }
         requires inside { number < length (top_layer stack.now) }
@@ -202,8 +202,8 @@ fn begun(alloc: Global, root: Inode) -> Result<LayerBuilder, AllocError>
     }
 }
 
-// The builder with the entry `name` of a directory, after this many others. This too fails only
-// when out of memory.
+// The builder with the entry `name` of a directory, after this many others. Fails only when out of
+// memory.
 fn with_child(
     alloc: Global,
     builder: LayerBuilder,

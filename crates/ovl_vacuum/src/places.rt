@@ -17,7 +17,7 @@ pub(crate) fn directory_of(sheet: &Sheet, number: u32) -> u32
     sheet.row(number).unwrap().parent
 }
 
-/// The path of the entry of a row, by that of its directory.
+/// The path of the entry of a row, by the path of its directory.
 pub(crate) fn path_in(
     alloc: Global,
     sheet: &Sheet,
@@ -34,7 +34,7 @@ pub(crate) fn path_in(
     }
 }
 
-/// The path of the entry of a row.
+/// The path of the entry of a row, by the names of the rows above it.
 pub(crate) fn path_of(alloc: Global, sheet: &Sheet, number: u32) -> Result<Path, AllocError>
     requires { number < length sheet.now }
     ensures { IfOk result (λ path. path ≡ path_at sheet.now number) }
@@ -52,7 +52,7 @@ pub(crate) fn path_of(alloc: Global, sheet: &Sheet, number: u32) -> Result<Path,
 pub(crate) struct DirectoryAbove {
     // The number of its row.
     row: u32,
-    /// Its path.
+    /// The path of the directory.
     pub(crate) path: Path,
 }
 

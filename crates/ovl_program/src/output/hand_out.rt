@@ -45,7 +45,9 @@ pub fn hand_out<W: Write, O: Write>(
     Ok(Ending::of(answer.clean).status())
 }
 
-// The same of the layers that are left, counted from the first of these.
+// Writes the layers that are left in their order, each to the writer in its place, and then the
+// report. The first part that isn't written whole is given, counted from the first of these layers,
+// and nothing is written after it.
 fn hand_on<W: Write, O: Write>(
     layers: &[Vec<u8>],
     report: &[u8],

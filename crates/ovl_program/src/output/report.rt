@@ -12,7 +12,7 @@ use std::io::Write;
 use std::rt::Files;
 
 /// Writes what a command gives: first its new layers into the folder `out`, if there is one, and
-/// then its report. Where the command is refused for faults, their report is written and no layer.
+/// then its report. If the command is refused for faults, their report is written and no layer.
 /// Nothing is written to the writer where the command gives no answer, or a layer can't be written.
 pub fn write_report<H: Files + AllocGlobal, W: Write>(
     rt: &H,

@@ -1,21 +1,22 @@
-//! A line done with contents that are held.
-ghost use Rattle.std.specs.Prelude.{◌≡◌, [], true, option_map, IfOk, IfErr, IfNone, IfSome};
-ghost use Rattle.ovl_check.specs.Blobs.{blob_views, are_in_order};
-ghost use Rattle.ovl_commands.specs.declared.requests.Command.TheVariants.{Merge};
-ghost use Rattle.ovl_engine.specs.Requests.{request_of};
-ghost use Rattle.ovl_program.specs.Faults.{IsUnread};
-ghost use Rattle.ovl_program.specs.Reported.{IsComingDown};
-ghost use Rattle.ovl_program.specs.Programs.{IsOfBlobs, IsPerformed};
+//! A line done: its manifests are read, and its blobs held or read in parts.
+ghost use Rattle.std.specs.Prelude.{◌≡◌, ◌<◌, ◌≤◌, [], true, option_map, IfOk, IfErr, IfNone};
+ghost use Rattle.ovl_board.specs.Machine.{worker_limit};
+ghost use Rattle.ovl_blobs.specs.Blobs.{blob_views, are_in_order};
+ghost use Rattle.ovl_engine.specs.Tasks.{command_of};
+ghost use Rattle.ovl_engine.specs.Requests.{request_for};
+ghost use Rattle.ovl_files.specs.Faults.{IsUnread};
+ghost use Rattle.ovl_program.specs.Faults.{IsUnreadFile};
+ghost use Rattle.ovl_program.specs.Programs.{AreContentsFor, IsComingFor, IsKnownIn, IsOfBlobs, IsPerformed};
 ghost use Rattle.ovl_program.specs.Programs as programs;
 
 use crate::faults::ProgramFault;
-use crate::files::blob_folder::read_blobs;
-use crate::files::manifests::{SharedFiles, read_files};
 use crate::output::report::write_report;
 use crate::output::status::Ending;
-use crate::runs::in_parts::perform_in_parts;
 use ovl_command_line::Line;
-use ovl_engine::{Answer, Blob, Command, EngineFault, command, merge_down};
+use ovl_engine::{
+    Answer, Blob, BlobInfo, Command, EngineFault, Prepared, Task, answer, digest_blobs, prepare,
+};
+use ovl_files::{FileFault, SharedFiles, measure_blobs, read_blobs, read_files};
 use ovl_pool::OpenGate;
 use std::io::Write;
 use std::rt::Files;
@@ -23,7 +24,7 @@ use std::sync::Wait;
 use std::thread::Threads;
 
 /// Does what a line asks for: reads its layers and then its blobs, and writes the new layers and
-/// then the report. Where it asks for blobs of any size, those that the layers name are read in
+/// then the report. If it asks for blobs of any size, those that the layers name are read in
 /// parts once all else is tested that is before any work. Nothing is written where a file or a
 /// folder isn't read, or the command gives no answer; if it is refused for faults, only their
 /// report is written. What files hold is what their reads give; of a file that changes nothing more
@@ -35,58 +36,92 @@ pub fn perform<
     ensures { IsPerformed line.now (W.contents writer.old) (W.contents writer.new) result }
 {
     let manifests = read_files(rt, &line.layers, line.workers)?;
-    if let Some(folder) = folder_in_parts(line) {
-        return perform_in_parts(rt, line, folder, manifests, writer);
-    }
-    let blobs = blobs_of_line(rt, line)?;
-    let answered = answer_held(rt, line, manifests, &blobs);
+    let blobs = held_blobs(rt, line)?;
+    let answered = answer_of(rt, line, manifests, blobs)?;
     write_report(rt, answered, &line.out, writer)
 }
 
-// What the line's command gives of these manifests and blobs.
-fn answer_held<R: AllocGlobal + Threads + Wait + Sync>(
+// The blobs of a line's folder that are held: none where it has no folder, or asks that they be
+// read in parts.
+fn held_blobs<R: Files + SharedFiles + AllocGlobal + Clone + Drop + Threads + Sync>(
     rt: &R,
     line: &Line,
-    manifests: Vec<Vec<u8>>,
-    blobs: &[Blob],
-) -> Result<Answer, EngineFault>
-    ensures { IsComingDown (programs.left_of line.now.what line.now.down_to)
-        (request_of line.now.what manifests.items line.now.data_layers blobs.now
-        line.now.workers) result }
+) -> Result<Vec<Blob>, FileFault>
+    ensures in_order { IfOk result (λ blobs. are_in_order (blob_views blobs.items) ≡ true) }
+    ensures none { IfNone (programs.held_folder line.now)
+        (IfOk result (λ blobs. blob_views blobs.items ≡ [])) }
+    ensures fault { IfErr result (λ fault. IsUnread (IsOfBlobs line.now) fault) }
 {
-    let data_layers = line.data_layers;
-    match left_of(line) {
-        Some(left) => merge_down(
-            rt,
-            rt.alloc(),
-            manifests,
-            data_layers,
-            blobs,
-            left,
-            line.workers,
-            &OpenGate,
-        ),
-        None => command(
-            rt,
-            rt.alloc(),
-            line.what,
-            manifests,
-            data_layers,
-            blobs,
-            line.workers,
-            &OpenGate,
-        ),
+    match &line.blobs {
+        Some(folder) if !line.any_size => read_blobs(rt, folder.as_str(), line.workers),
+        _ => Ok(Vec::new(rt.alloc())),
     }
 }
 
-/// How many layers the line's merges are to leave, if it asks for that.
-pub(crate) fn left_of(line: &Line) -> Option<usize>
-    ensures left { result ≡ programs.left_of line.now.what line.now.down_to }
-    ensures merge { IfSome result (λ _. line.now.what ≡ Merge) }
+// What the line's task gives of these manifests and blobs, or of those of its folder that is read in
+// parts, if that can be read.
+fn answer_of<R: Files + SharedFiles + AllocGlobal + Threads + Wait + Sync>(
+    rt: &R,
+    line: &Line,
+    manifests: Vec<Vec<u8>>,
+    blobs: Vec<Blob>,
+) -> Result<Result<Answer, EngineFault>, ProgramFault>
+    requires { are_in_order (blob_views blobs.items) ≡ true }
+    ensures coming { IfOk result (IsComingFor line.now
+        (request_for (programs.task_of line.now.what line.now.down_to) manifests.items
+        line.now.data_layers blobs.items line.now.workers)) }
+    ensures fault { IfErr result (λ fault. IsUnreadFile (IsOfBlobs line.now) fault) }
 {
-    match line.what {
-        Command::Merge => line.down_to,
-        Command::Show | Command::Fsck | Command::Vacuum | Command::Deref | Command::Flatten => None,
+    let alloc = rt.alloc();
+    let prepared = match prepare(
+        rt,
+        alloc,
+        task_of(line),
+        manifests,
+        line.data_layers,
+        &blobs,
+        line.workers,
+    ) {
+        Ok(prepared) => prepared,
+        Err(fault) => return Ok(Err(fault)),
+    };
+    let contents = contents_for(rt, line, &prepared, &blobs)?;
+    drop(blobs);
+    Ok(answer(rt, alloc, prepared, contents, line.workers, &OpenGate))
+}
+
+// The line's task: its command, or merges down to the number of layers that it says.
+fn task_of(line: &Line) -> Task
+    ensures { result ≡ programs.task_of line.now.what line.now.down_to }
+{
+    match (line.what, line.down_to) {
+        (Command::Merge, Some(left)) => Task::MergeDown(left),
+        (what, _) => Task::Once(what),
+    }
+}
+
+// What is known of the blobs that a prepared task of a line wants to know: read in parts where the
+// line asks for that, else digested where they are held.
+fn contents_for<R: Files + SharedFiles + AllocGlobal + Threads + Wait + Sync>(
+    rt: &R,
+    line: &Line,
+    prepared: &Prepared,
+    blobs: &[Blob],
+) -> Result<Vec<BlobInfo>, ProgramFault>
+    requires number { (0 < line.now.workers) × (line.now.workers ≤ worker_limit) }
+    requires ascend { are_in_order (blob_views blobs.now) ≡ true }
+    ensures known { IfOk result (λ contents. AreContentsFor (command_of prepared.now.task)
+        (IsKnownIn (programs.folder_in_parts line.now) prepared.now.stack (blob_views blobs.now))
+        contents.items) }
+    ensures fault { IfErr result (λ fault. IsUnreadFile (IsOfBlobs line.now) fault) }
+{
+    let alloc = rt.alloc();
+    match folder_in_parts(line) {
+        Some(folder) => {
+            let names = prepared.wanted_names(alloc)?;
+            Ok(measure_blobs(rt, folder.as_str(), &names, line.workers)?)
+        }
+        None => Ok(digest_blobs(rt, alloc, prepared, blobs, line.workers, &OpenGate)?),
     }
 }
 
@@ -98,20 +133,5 @@ fn folder_in_parts(line: &Line) -> Option<&String>
         line.blobs.as_ref()
     } else {
         None
-    }
-}
-
-// The blobs of a line's folder, or none where it has no folder.
-fn blobs_of_line<R: Files + SharedFiles + AllocGlobal + Clone + Drop + Threads + Sync>(
-    rt: &R,
-    line: &Line,
-) -> Result<Vec<Blob>, ProgramFault>
-    ensures in_order { IfOk result (λ blobs. are_in_order (blob_views blobs.items) ≡ true) }
-    ensures none { IfNone line.now.blobs (IfOk result (λ blobs. blob_views blobs.items ≡ [])) }
-    ensures fault { IfErr result (λ fault. IsUnread (IsOfBlobs line.now) fault) }
-{
-    match &line.blobs {
-        Some(folder) => read_blobs(rt, folder.as_str(), line.workers),
-        None => Ok(Vec::new(rt.alloc())),
     }
 }

@@ -1,12 +1,12 @@
 //! Which of these a line asks for.
 use crate::faults::ProgramFault;
-use crate::files::manifests::SharedFiles;
 use crate::output::status::Ending;
 use crate::runs::arguments;
 use crate::runs::command::perform;
 use crate::runs::standard_input::show_input;
 use ovl_command_line::{LineFault, line};
 use ovl_engine::{EngineFault, emit};
+use ovl_files::SharedFiles;
 use std::io;
 use std::rt::{Env, Files};
 use std::sync::Wait;

@@ -6,11 +6,11 @@ ghost use Rattle.ovl_program.specs.declared.faults.ProgramFault.TheVariants.{Inp
 ghost use Rattle.ovl_program.specs.Reported.{IsComing, IsReported, input_request};
 
 use crate::faults::ProgramFault;
-use crate::files::reads::{INPUT_LIMIT, read_all};
 use crate::output::report::write_report;
 use crate::output::status::Ending;
 use ovl_command_line::DEFAULT_WORKERS;
 use ovl_engine::{Command, command};
+use ovl_files::{INPUT_LIMIT, read_all};
 use ovl_pool::OpenGate;
 use std::io::{Read, Write};
 use std::rt::Files;
@@ -18,7 +18,8 @@ use std::sync::Wait;
 use std::thread::Threads;
 
 /// Writes the report of `show` over the one layer that a reader's manifest states, by
-/// [`DEFAULT_WORKERS`]. Nothing is written where the input isn't read or the layer has no report.
+/// [`DEFAULT_WORKERS`]. If the input can't be read or states no layer, or the command fails, that
+/// is the fault, and nothing is written.
 pub fn show_input<H: Threads + Wait + Sync + Files + AllocGlobal, R: Read, W: Write>(
     rt: &H,
     reader: &mut R,

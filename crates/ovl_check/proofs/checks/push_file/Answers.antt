@@ -26,10 +26,10 @@ returns-then-is_silent c =
     let path = child_path directory.path.now name in
     let none = sym c.is_directory.ensures ∙ c.if-is_directory.false in
     let silent = sym c.is_silent.ensures ∙ c.if-is_silent.true in
-    let quiet = silent-quiet inode mark c.named-blob.result silent in
-    let facts : Facts = record { is_root = false; inode = child.inode; mark = child.mark; kind = Other; blob = c.named-blob.result; holds_origin = false } in
+    let quiet = silent-quiet inode mark c.of-blob.result silent in
+    let facts : Facts = record { is_root = false; inode = child.inode; mark = child.mark; kind = Other; blob = c.of-blob.result; holds_origin = false } in
     let are = child-facts work c.args.layer directory gathered name facts c.requires.entry none c.requires.marked refl refl
-    (child-other layer below directory gathered name inode c.requires.entry none mark c.requires.marked (quiet-stays mark quiet) (quiet-full mark quiet)) c.named-blob.ensures in
+    (child-other layer below directory gathered name inode c.requires.entry none mark c.requires.marked (quiet-stays mark quiet) (quiet-full mark quiet)) c.of-blob.ensures in
     let found = found-child work c.args.layer c.args.layer refl path inode facts refl are directory.path.now name refl none in
     let nothing = silent-told facts refl refl silent (sought_in work.stack c.args.layer) in
     sym (ap (λ (more : List Finding). c.args.findings.now.items ++ more) (sym found ∙ ap (λ (told : List Code). map (finding c.args.layer path) told) nothing)

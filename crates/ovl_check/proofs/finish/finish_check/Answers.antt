@@ -11,7 +11,7 @@ use Rattle.ovl_check.specs.Contents.{findings_of_contents_from as findings_from}
 use Rattle.ovl_check.specs.Checks.{check_seen}
 use Rattle.ovl_check.specs.CheckViews.{check_view}
 use Rattle.ovl_check.specs.Walks.{found_along}
-use Rattle.ovl_check.proofs.Ascent.{Rises-sorted, ordered_same}
+use Rattle.ovl_blobs.proofs.Ascent.{Rises-sorted, ordered_same}
 use Rattle.ovl_check.proofs.FinishLemmas.{front-each, all-sound, all-whole, along-lists, length-lists}
 use Rattle.ovl_check.proofs.OrderLemmas.{finding_cmp, finding_eq, finding_total, finding_ties, finding_equiv, finding_eq-exact, from-rise}
 use Rattle.ovl_check.proofs.finish.finish_check.Goals as goal

@@ -2,7 +2,7 @@ use Rattle.std.proofs.Common.{◌++◌, []}
 use Rattle.ovl_board.specs.Parcels.{parcel_views}
 use Rattle.ovl_check.specs.Checks.{check_seen}
 use Rattle.ovl_check.specs.Walks.{doubles_after, found_along}
-use Rattle.ovl_check.proofs.Plain.{seen-flat}
+use Rattle.ovl_blobs.proofs.Plain.{seen-flat}
 use Rattle.ovl_check.proofs.FinishLemmas.{found-more}
 use Rattle.ovl_check.proofs.finish.found_in.Goals as goal
 

@@ -5,7 +5,7 @@ use Rattle.ovl_lookup.proofs.LawsOfPaths.{drop_past}
 use Rattle.ovl_board.specs.declared.works.Parcel.{Parcel}
 use Rattle.ovl_board.specs.Parcels.{parcel_views}
 use Rattle.ovl_check.specs.declared.findings.Finding.{Finding}
-use Rattle.ovl_check.specs.declared.subjects.CheckOut.{CheckOut}
+use Rattle.ovl_check.specs.declared.work.CheckOut.{CheckOut}
 use Rattle.ovl_check.specs.Checks.{check_seen}
 use Rattle.ovl_check.specs.Walks.{View, doubles_among}
 use Rattle.ovl_check.proofs.FinishLemmas.{none-doubled}

@@ -1,5 +1,5 @@
 use Rattle.std.proofs.Common.{◌≡◌, map}
-use Rattle.ovl_check.specs.Blobs.{blob_views}
+use Rattle.ovl_blobs.specs.Blobs.{blob_views}
 use Rattle.ovl_engine.specs.NamedBlobs.{name_and_bytes}
 use Rattle.ovl_engine.proofs.blobs.blobs_of.Given as goal
 

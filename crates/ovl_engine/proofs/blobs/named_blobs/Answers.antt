@@ -1,5 +1,5 @@
 use Rattle.std.proofs.Common.{◌∙◌, ℕ, ap, Vec, Global}
-use Rattle.ovl_check.specs.Blobs.{blob_views}
+use Rattle.ovl_blobs.specs.Blobs.{blob_views}
 use Rattle.ovl_engine.specs.NamedBlobs.{bytes_under}
 use Rattle.ovl_engine.proofs.NamingLemmas.{blobs_in_order}
 use Rattle.ovl_engine.proofs.blobs.named_blobs.Goals as goal

@@ -4,8 +4,9 @@ use Rattle.std.proofs.lemmas.Result.{IfOk-weaker}
 use Rattle.ovl_names.specs.Names.{PathName, name_cmp}
 use Rattle.ovl_names.specs.Order.{ascends}
 use Rattle.ovl_lookup.specs.NamedLists.{both_joined, names_of}
-use Rattle.ovl_lookup.specs.Passes.{own_names_along, put_names}
-use Rattle.ovl_lookup.proofs.LawsOfKids.{ascends-put}
+use Rattle.ovl_lookup.specs.Passes.{own_names_along}
+use Rattle.ovl_names.specs.NameSets.{put_names}
+use Rattle.ovl_names.proofs.LawsOfNameSets.{ascends-put}
 use Rattle.ovl_merge.specs.Places.{merge_of, two_layers}
 use Rattle.ovl_merge.specs.Directories.{named_inode}
 use Rattle.ovl_merge.specs.Candidates.{Rowed, AreCandidates, candidates_told, hidden_names, joined, unrowed}

@@ -2,7 +2,8 @@ use Rattle.std.proofs.Common.{◌≡◌, ◌<◌, None, [], length, sym, subst}
 use Rattle.std.specs.Prelude.{IfSome}
 use Rattle.std.proofs.lemmas.Result.{IfOk-weaker}
 use Rattle.ovl_layer.specs.Layers.{Entries}
-use Rattle.ovl_lookup.specs.Passes.{own_names_along, put_names}
+use Rattle.ovl_lookup.specs.Passes.{own_names_along}
+use Rattle.ovl_names.specs.NameSets.{put_names}
 use Rattle.ovl_merge.specs.declared.candidates.Side.TheVariants.{Upper, Lower}
 use Rattle.ovl_merge.specs.Places.{merge_of, two_layers}
 use Rattle.ovl_merge.specs.Stands.{IsOver}

@@ -36,8 +36,8 @@ pub offset_bounds-parcels-place : goal.offset_bounds-parcels-place
 offset_bounds-parcels-place c =
     let inside : c.loop-number.place < length c.args.parcels.now = bounds-parcels-place c in first_of (search rules, omega (arith, inside))
 
-pub tell_below-requires-clause-names : goal.tell_below-requires-clause-names
-tell_below-requires-clause-names c =
+pub mark_below-requires-clause-names : goal.mark_below-requires-clause-names
+mark_below-requires-clause-names c =
     let stack : StackView = c.args.stack.now in
     let is = top-layer stack c.top-sheet.ensures.some c.top-sheet.ensures.each in
     let number : ℕ = c.loop-number.number in
@@ -71,7 +71,7 @@ loop-number-preserved c =
         left = subst (λ p. AreLeft stack c.args.parcels.now p (number + 1)) (sym w.place-is)
             (left-after stack is c.args.parcels.now c.requires c.loop-number.place number inside c.loop-number.invariant.left (directory ∙ w.if-is_directory.true));
         told = subst (λ fs. ToldTo stack (number + 1) fs) (sym (ap (λ flags. flags.items) w.idle-is))
-            (told-directory stack is number c.loop-number.idle.items w.tell_below.new.idle.items c.loop-number.invariant.told w.tell_below.ensures);
+            (told-directory stack is number c.loop-number.idle.items w.mark_below.new.idle.items c.loop-number.invariant.told w.mark_below.ensures);
       }
       | else-is_directory w ↦ record {
         left = subst (λ p. AreLeft stack c.args.parcels.now p (number + 1)) (sym w.place-is)

@@ -14,6 +14,6 @@ pub returns : goal.returns
 returns c =
     let stack : StackView = c.args.stack.now in
     let each : All IsLayer stack.layers = subst (λ (s : StackView). All IsLayer s.layers) c.stack.view_is c.stack.invariant.2 in
-    let same = ap (found_below stack.layers c.args.name.now) (ap (places_in stack) c.deref.ensures.value ∙ c.requires.reached)
+    let same = c.first_in.ensures.found ∙ ap (found_below stack.layers c.args.name.now) (ap (places_in stack) c.deref.ensures.value ∙ c.requires.reached)
     ∙ sym (views-find stack each c.args.self.now.from c.args.self.now.path c.args.name.now) in
-    subst (λ (found : List Inode). IfOk c.data_in.result (λ answer. option_map (λ inode. inode.now) answer ≡ data_below stack.data_only None found)) same c.data_in.ensures
+    subst (λ (found : List Inode). IfOk c.data_of.result (λ answer. option_map (λ inode. inode.now) answer ≡ data_below stack.data_only None found)) same c.data_of.ensures

@@ -13,6 +13,6 @@ pub returns : goal.returns
 returns c =
     let stack : StackView = c.args.stack.now in
     let each : All IsLayer stack.layers = subst (λ (s : StackView). All IsLayer s.layers) c.stack.view_is c.stack.invariant.2 in
-    let same = ap (found_below stack.layers c.args.name.now) (ap (places_in stack) c.deref.ensures.value ∙ c.requires.reached)
+    let same = c.first_in.ensures.found ∙ ap (found_below stack.layers c.args.name.now) (ap (places_in stack) c.deref.ensures.value ∙ c.requires.reached)
     ∙ sym (views-find stack each c.args.self.now.from c.args.self.now.path c.args.name.now) in
-    subst (λ (found : List Inode). IfOk c.look_in.result (λ answer. answer ≡ shown_of stack.data_only found)) same c.look_in.ensures
+    subst (λ (found : List Inode). IfOk c.look_of.result (λ answer. answer ≡ shown_of stack.data_only found)) same c.look_of.ensures

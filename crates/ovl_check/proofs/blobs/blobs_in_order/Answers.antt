@@ -1,6 +1,0 @@
-use Rattle.std.proofs.Common.{◌∙◌, sym}
-use Rattle.ovl_check.proofs.BlobLemmas.{views-ascend}
-use Rattle.ovl_check.proofs.blobs.blobs_in_order.Goals as goal
-
-pub returns : goal.returns
-returns c = c.in_order.ensures ∙ sym (views-ascend c.args.blobs.now)

@@ -1,6 +1,0 @@
-use Rattle.std.proofs.Common.{◌≡◌, map}
-use Rattle.ovl_check.specs.Blobs.{digits_piece}
-use Rattle.ovl_check.proofs.blobs.digits_pieces.Given as goal
-
-abbrev pub invariant-loop-name : goal.invariant-loop-name
-invariant-loop-name l = l.pieces.items ≡ map digits_piece l.yielded

@@ -1,0 +1,4 @@
+pub mod BlobFolders
+pub mod Faults
+pub mod Listings
+pub mod Slots

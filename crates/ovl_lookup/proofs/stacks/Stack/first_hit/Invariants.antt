@@ -1,7 +1,0 @@
-use Rattle.std.proofs.Common.{◌≡◌, drop}
-use Rattle.ovl_lookup.specs.Trace.{things_found}
-use Rattle.ovl_lookup.proofs.stacks.Stack.first_hit.Given as goal
-
--- what the layers that are left find at the path so far is what all of them find
-abbrev pub invariant-loop-i : goal.invariant-loop-i
-invariant-loop-i l = things_found (drop l.i l.self.layers) l.next ≡ things_found (drop l.fn.from l.self.layers) l.fn.path

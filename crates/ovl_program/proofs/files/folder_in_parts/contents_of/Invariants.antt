@@ -1,8 +1,0 @@
-use Rattle.std.proofs.Common.{take}
-use Rattle.ovl_engine.specs.Told.{AreTold}
-use Rattle.ovl_program.specs.Slots.{IsAsSaid}
-use Rattle.ovl_program.proofs.files.folder_in_parts.contents_of.Given as goal
-
--- the contents of the names so far
-abbrev pub invariant-loop-number : goal.invariant-loop-number
-invariant-loop-number g l = AreTold (IsAsSaid l.fn.names l.fn.slots) (take l.number l.fn.names) l.contents.items

@@ -1,7 +1,0 @@
-use Rattle.std.proofs.Common.{All}
-use Rattle.ovl_program.specs.Tellings.{IsToldAmong}
-use Rattle.ovl_program.proofs.files.folder_in_parts.tell_share.Given as goal
-
--- what is reported so far is reported of the names
-abbrev pub invariant-loop : goal.invariant-loop
-invariant-loop g l = All (IsToldAmong l.fn.names) l.told.items

@@ -1,5 +1,0 @@
-use Rattle.ovl_program.proofs.Performed.{unread_of_blobs}
-use Rattle.ovl_program.proofs.runs.command.blobs_of_line.Goals as goal
-
-pub returns-in-Some-clause-fault : goal.returns-in-Some-clause-fault
-returns-in-Some-clause-fault g c = unread_of_blobs c.args.line.now c.in-Some.folder c.in-Some.is c.as_str.result.now c.as_str.ensures.value c.read_blobs.result c.read_blobs.ensures.fault

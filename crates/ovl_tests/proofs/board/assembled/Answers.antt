@@ -1,0 +1,7 @@
+use Rattle.std.proofs.Common.{subst}
+use Rattle.ovl_board.specs.Balance.{AllLawful}
+use Rattle.ovl_board.specs.Assembly.{bare}
+use Rattle.ovl_tests.proofs.board.assembled.Goals as goal
+
+pub assemble-requires : goal.assemble-requires
+assemble-requires c = subst (λ parcels. AllLawful (bare parcels)) c.deref.ensures.value (c.all_lawful.ensures.0 c.if-not-all_lawful.false)
